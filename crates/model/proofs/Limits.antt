@@ -1,0 +1,180 @@
+-- Each limit and each place of a layout, at it and past it: a changed number in a definition fails here. Rows of tests: the answers, in order.
+use Prim.Native.Nat.{ℕ, _+_, _-_, _*_}
+use mathlib.Core.Bool.{Bool, true, false}
+use mathlib.Core.Path.{_≡_, refl}
+use mathlib.Core.List.{List, [], _∷_, _++_, map}
+use lib.ListN.{length, take, drop, replicate, set}
+use Rattle.model.specs.Lists.{below, joined, flatMap, numberBytes}
+use Rattle.model.specs.Blocks.{Header, checkOf, header, laidOut, withinLimits, blockTotal, kindAt, recordsAt, sealedImage}
+use Rattle.model.specs.RuleTables.{Sides, codePoints, isCodePoint, pairs, isPair, table, column, isTable, nextState, isFinal, pairsAndBoundary, breadth, columnsOf}
+use Rattle.model.specs.Lexicon.{entryCount, firstEntry, entry, formOf, continuation, gloss, isEntry, pathLength}
+use Rattle.model.specs.Readings.{wordLength, pairingLength}
+use Rattle.model.specs.Refusals.{rightLength}
+use Rattle.model.specs.Rows.{Reply, replyNumber, rowCount}
+use Rattle.model.specs.Samples.{plainBlock, entryBytes, luzImage, luzTable}
+use Rattle.model.proofs.Computed.{computed}
+
+-- blocks
+all-255 : checkOf (replicate 510 255 ++ (0 ∷ 0 ∷ [])) ≡ 8629
+unfolding computed
+all-255 = refl
+
+image-lengths : map (λ n. rightLength (replicate n 0)) (0 ∷ 1 ∷ 511 ∷ 512 ∷ 513 ∷ 1024 ∷ 65536 ∷ 65537 ∷ 66048 ∷ [])
+    ≡ false ∷ false ∷ false ∷ true ∷ false ∷ true ∷ true ∷ false ∷ false ∷ []
+unfolding computed
+image-lengths = refl
+
+abbrev headed : ℕ → ℕ → ℕ → ℕ → ℕ → Header
+headed l p r x e = record { form = 1; letters = l; pairs = p; rules = r; lexicons = x; entries = e }
+
+lowest-counts : map withinLimits (headed 2 1 0 1 1 ∷ headed 1 1 0 1 1 ∷ headed 2 0 0 1 1 ∷ headed 2 1 0 0 1 ∷ headed 2 1 0 1 0 ∷ [])
+    ≡ true ∷ false ∷ false ∷ false ∷ false ∷ []
+unfolding computed
+lowest-counts = refl
+
+highest-counts : map withinLimits (headed 120 250 32 64 2800 ∷ headed 121 250 32 64 2800 ∷ headed 120 251 32 64 2800 ∷ headed 120 250 33 64 2800 ∷ headed 120 250 32 65 2800 ∷ headed 120 250 32 64 2801 ∷ [])
+    ≡ true ∷ false ∷ false ∷ false ∷ false ∷ false ∷ []
+unfolding computed
+highest-counts = refl
+
+-- the most that the limits allow: 127 blocks
+totals : map (λ e. blockTotal (headed 9 8 1 2 e)) (1 ∷ 31 ∷ 32 ∷ 62 ∷ 63 ∷ []) ≡ 6 ∷ 6 ∷ 7 ∷ 7 ∷ 8 ∷ []
+unfolding computed
+totals = refl
+
+most-blocks : blockTotal (headed 120 250 32 64 2800) ≡ 127
+unfolding computed
+most-blocks = refl
+
+kinds : map (kindAt (headed 9 8 2 3 40)) (below 8) ≡ 1 ∷ 2 ∷ 3 ∷ 4 ∷ 4 ∷ 5 ∷ 6 ∷ 6 ∷ []
+unfolding computed
+kinds = refl
+
+record-counts : map (recordsAt (headed 9 8 2 3 40)) (below 8) ≡ 1 ∷ 9 ∷ 8 ∷ 1 ∷ 1 ∷ 3 ∷ 31 ∷ 9 ∷ []
+unfolding computed
+record-counts = refl
+
+full-last-block : map (recordsAt (headed 9 8 2 3 62)) (6 ∷ 7 ∷ []) ≡ 31 ∷ 31 ∷ []
+unfolding computed
+full-last-block = refl
+
+-- a block whose first n bytes of records are not 0
+abbrev used : ℕ → ℕ → ℕ → List ℕ
+used kind records n = plainBlock kind records (replicate n 1)
+
+abbrev small : Header
+small = headed 9 8 1 2 4
+
+records-used : laidOut small 0 (used 1 1 12) ∷ laidOut small 1 (used 2 9 18) ∷ laidOut small 2 (used 3 8 16) ∷ laidOut small 3 (used 4 1 506) ∷ laidOut small 4 (used 5 2 4) ∷ laidOut small 5 (used 6 4 64) ∷ []
+    ≡ true ∷ true ∷ true ∷ true ∷ true ∷ true ∷ []
+unfolding computed
+records-used = refl
+
+byte-past-records : laidOut small 0 (used 1 1 13) ∷ laidOut small 1 (used 2 9 19) ∷ laidOut small 2 (used 3 8 17) ∷ laidOut small 4 (used 5 2 5) ∷ laidOut small 5 (used 6 4 65) ∷ []
+    ≡ false ∷ false ∷ false ∷ false ∷ false ∷ []
+unfolding computed
+byte-past-records = refl
+
+last-unused-byte : laidOut small 0 (set (used 1 1 0) 509 1) ∷ laidOut small 0 (set (used 1 1 0) 510 1) ∷ laidOut small 0 (used 1 2 0) ∷ laidOut small 0 (used 2 1 0) ∷ [] ≡ false ∷ true ∷ false ∷ false ∷ []
+unfolding computed
+last-unused-byte = refl
+
+-- letters, pairs, tables
+code-points : map isCodePoint (0 ∷ 1 ∷ 55295 ∷ 55296 ∷ 57343 ∷ 57344 ∷ 65535 ∷ []) ≡ false ∷ true ∷ true ∷ false ∷ false ∷ true ∷ true ∷ []
+unfolding computed
+code-points = refl
+
+luz-code-points : codePoints luzImage ≡ 35 ∷ 43 ∷ 99 ∷ 101 ∷ 108 ∷ 115 ∷ 117 ∷ 122 ∷ 90 ∷ []
+unfolding computed
+luz-code-points = refl
+
+abbrev sides : ℕ → ℕ → Sides
+sides a b = record { lexical = a; surface = b }
+
+luz-pairs : pairs luzImage ≡ sides 2 0 ∷ sides 3 3 ∷ sides 4 4 ∷ sides 5 5 ∷ sides 6 6 ∷ sides 7 7 ∷ sides 9 3 ∷ sides 9 8 ∷ []
+unfolding computed
+luz-pairs = refl
+
+pair-sides : map (isPair 9) (sides 0 0 ∷ sides 0 2 ∷ sides 2 0 ∷ sides 9 9 ∷ sides 0 1 ∷ sides 1 0 ∷ sides 1 1 ∷ sides 10 2 ∷ sides 2 10 ∷ [])
+    ≡ false ∷ true ∷ true ∷ true ∷ false ∷ false ∷ false ∷ false ∷ false ∷ []
+unfolding computed
+pair-sides = refl
+
+-- a table with c columns and s states, its column sides a, marks m, next states n, and the bytes after them
+abbrev tableOf : ℕ → ℕ → ℕ → ℕ → ℕ → List ℕ → List ℕ
+tableOf c s a m n rest = plainBlock 4 1 (c ∷ s ∷ (replicate (2 * c) a ++ replicate s m ++ replicate (c * s) n ++ rest))
+
+table-sizes : map (λ t. isTable t 9) (tableOf 1 1 255 1 1 [] ∷ tableOf 16 24 255 1 24 [] ∷ tableOf 0 1 255 1 1 [] ∷ tableOf 1 0 255 1 0 [] ∷ tableOf 17 24 255 1 24 [] ∷ tableOf 16 25 255 1 24 [] ∷ [])
+    ≡ true ∷ true ∷ false ∷ false ∷ false ∷ false ∷ []
+unfolding computed
+table-sizes = refl
+
+table-entries : map (λ t. isTable t 9) (tableOf 2 2 0 0 0 [] ∷ tableOf 2 2 9 1 2 [] ∷ tableOf 2 2 10 1 2 [] ∷ tableOf 2 2 254 1 2 [] ∷ tableOf 2 2 9 2 2 [] ∷ tableOf 2 2 9 1 3 [] ∷ tableOf 2 2 9 1 2 (1 ∷ []) ∷ [])
+    ≡ true ∷ true ∷ false ∷ false ∷ false ∷ false ∷ false ∷ []
+unfolding computed
+table-entries = refl
+
+-- each byte of a table is looked at: one bad byte among good ones
+table-bytes : map (λ i. isTable (set (tableOf 2 2 9 1 2 []) i 77) 9) (6 ∷ 9 ∷ 10 ∷ 11 ∷ 12 ∷ 15 ∷ 16 ∷ 509 ∷ 510 ∷ []) ≡ false ∷ false ∷ false ∷ false ∷ false ∷ false ∷ false ∷ false ∷ true ∷ []
+unfolding computed
+table-bytes = refl
+
+luz-columns : map (column (table luzImage 0)) (below 5) ≡ sides 9 3 ∷ sides 9 8 ∷ sides 2 0 ∷ sides 4 4 ∷ sides 255 255 ∷ []
+unfolding computed
+luz-columns = refl
+
+luz-finals : map (isFinal (table luzImage 0)) (below 6) ≡ false ∷ true ∷ true ∷ true ∷ true ∷ false ∷ []
+unfolding computed
+luz-finals = refl
+
+luz-rows : map (λ s. map (nextState (table luzImage 0) s) (below 5)) (below 6)
+    ≡ (0 ∷ 0 ∷ 0 ∷ 0 ∷ 0 ∷ []) ∷ (3 ∷ 2 ∷ 1 ∷ 1 ∷ 1 ∷ []) ∷ (3 ∷ 2 ∷ 4 ∷ 1 ∷ 1 ∷ []) ∷ (0 ∷ 0 ∷ 5 ∷ 0 ∷ 0 ∷ []) ∷ (3 ∷ 2 ∷ 1 ∷ 0 ∷ 1 ∷ []) ∷ (0 ∷ 0 ∷ 0 ∷ 1 ∷ 0 ∷ []) ∷ []
+unfolding computed
+luz-rows = refl
+
+-- how many of the eight pairs and the boundary each column matches
+luz-breadths : map (λ c. breadth (pairsAndBoundary luzImage) (column (table luzImage 0) c)) (below 5) ≡ 1 ∷ 1 ∷ 1 ∷ 1 ∷ 9 ∷ []
+unfolding computed
+luz-breadths = refl
+
+luz-choices : columnsOf luzImage 0 ≡ 2 ∷ 4 ∷ 3 ∷ 4 ∷ 4 ∷ 4 ∷ 0 ∷ 1 ∷ 4 ∷ []
+unfolding computed
+luz-choices = refl
+
+-- entries and paths
+luz-lexicons : map (entryCount luzImage) (below 3) ++ map (firstEntry luzImage) (below 3) ≡ 2 ∷ 2 ∷ 0 ∷ 0 ∷ 2 ∷ 4 ∷ []
+unfolding computed
+luz-lexicons = refl
+
+luz-entries : map (λ e. (formOf (entry luzImage e) ++ (continuation (entry luzImage e) ∷ gloss (entry luzImage e) ∷ []))) (below 4)
+    ≡ (5 ∷ 7 ∷ 9 ∷ 1 ∷ 0 ∷ []) ∷ (5 ∷ 7 ∷ 3 ∷ 1 ∷ 1 ∷ []) ∷ (255 ∷ 2 ∷ []) ∷ (2 ∷ 4 ∷ 6 ∷ 255 ∷ 3 ∷ []) ∷ []
+unfolding computed
+luz-entries = refl
+
+entry-forms : map (λ e. isEntry e 9 2) (entryBytes [] 0 0 ∷ entryBytes (replicate 12 2) 1 65535 ∷ entryBytes (replicate 12 9) 255 0 ∷ entryBytes (replicate 13 2) 1 0 ∷ entryBytes (1 ∷ []) 1 0 ∷ entryBytes (2 ∷ 10 ∷ []) 1 0 ∷ [])
+    ≡ true ∷ true ∷ true ∷ false ∷ false ∷ false ∷ []
+unfolding computed
+entry-forms = refl
+
+entry-continuations : map (λ x. isEntry (entryBytes (2 ∷ []) x 0) 9 2) (0 ∷ 1 ∷ 2 ∷ 254 ∷ 255 ∷ []) ≡ true ∷ true ∷ false ∷ false ∷ true ∷ []
+unfolding computed
+entry-continuations = refl
+
+entry-rest : map (λ i. isEntry (set (entryBytes (2 ∷ []) 0 0) i 2) 9 2) (2 ∷ 12 ∷ 14 ∷ []) ≡ false ∷ false ∷ true ∷ []
+unfolding computed
+entry-rest = refl
+
+lengths : (map (λ n. pathLength (replicate n 0)) (0 ∷ 1 ∷ 16 ∷ 17 ∷ []) ≡ false ∷ true ∷ true ∷ false ∷ [])
+    × (map (λ n. wordLength (replicate n 2)) (0 ∷ 1 ∷ 32 ∷ 33 ∷ []) ≡ false ∷ true ∷ true ∷ false ∷ [])
+    × (map (λ n. pairingLength (replicate n 0)) (0 ∷ 1 ∷ 40 ∷ 41 ∷ []) ≡ false ∷ true ∷ true ∷ false ∷ [])
+unfolding computed
+lengths = (refl, refl, refl)
+
+-- rows and replies
+row-counts : map (λ n. rowCount (replicate n 0)) (0 ∷ 115 ∷ 116 ∷ 231 ∷ 232 ∷ []) ≡ 0 ∷ 0 ∷ 1 ∷ 1 ∷ 2 ∷ []
+unfolding computed
+row-counts = refl
+
+reply-numbers : map replyNumber (Reply.none ∷ Reply.all 2 ∷ Reply.more 0 ∷ Reply.more 3 ∷ Reply.refused 12 ∷ []) ≡ 0 ∷ 9 ∷ 2 ∷ 14 ∷ 51 ∷ []
+unfolding computed
+reply-numbers = refl

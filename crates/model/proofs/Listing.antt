@@ -1,0 +1,208 @@
+-- The listing theorem: for every grammar and query, `readings` has only readings that answer the query, has every one of them, and ascends strictly in
+-- step order, so each stands once; and any list with these properties equals it.
+use Prim.Native.Nat.{ℕ, zero, suc, _+_, _<_, _≤_}
+use mathlib.Core.Bool.{Bool, true, false, _&&_, not, true≢false}
+use mathlib.Core.Path.{_≡_, refl, sym, ap, _∙_, subst}
+use mathlib.Core.Logic.{_↔_}
+use mathlib.Core.List.{List, [], _∷_, _++_, map, List·Memᴰ, List·Memᴰ·head, List·Memᴰ·tail, Memᴰ·map, Memᴰ·cast}
+use lib.ListN.{length, getD}
+use lib.Dec.{T, ltb, leb→le, le→leb}
+use native.Mathlib.Omega.{arith}
+use Rattle.model.specs.Lists.{below, every, joined, sameList, isZero}
+use Rattle.model.specs.Grammar.{Grammar}
+use Rattle.model.specs.Lexicon.{linked, pathLength}
+use Rattle.model.specs.Readings.{Reading, nulls, spelled, fewNulls, wordLength, pairingLength, passes, isPath, isLinked, word, isReading, steps, stepList, Ascending}
+use Rattle.model.specs.Query.{Query, fits, answers}
+use Rattle.model.specs.Walk.{Accepts, walk}
+use Rattle.model.specs.Tree.{Node, opens, alive, countAt, mayAt, goAt, complete, tree, start, put, readingAt, readings}
+use Rattle.model.proofs.Booleans.{and-out, and-in, out8, in8, within-out, within-in, same-out, same-in}
+use Rattle.model.proofs.Lists.{below-from, map-from, every-in, getD-map-below}
+use Rattle.model.proofs.Order.{Once, ascending-once, ascending-unique}
+use Rattle.model.proofs.Walk.{walk-from, walk-has, walk-ascending}
+use Rattle.model.proofs.Rules.{start-to, start-from}
+use Rattle.model.proofs.Levels.{line-from, line-to}
+use Rattle.model.proofs.Steps.{stepsLeft, steps-zero, steps-enter, steps-pair, steps-none, steps-length, left-length}
+use Rattle.model.proofs.Completes.{Sane, Completes, opens-true, enter-to, enter-from, enter-must, pair-to, pair-from, no-entry, end-to, end-rest, end-from, sane-step}
+
+-- a list of all readings that answer the query, in step order
+pub record IsListing (g : Grammar) (q : Query) (l : List Reading) : Type 0 where
+  pub only : (r : Reading) → List·Memᴰ r l → T (isReading g r) × T (answers g q r)
+  pub every-one : (r : Reading) → T (isReading g r) → T (answers g q r) → List·Memᴰ r l
+  pub in-order : Ascending (map (steps g) l)
+
+length-zero : (l : List ℕ) → length l ≡ 0 → l ≡ []
+length-zero [] e = refl
+length-zero (x ∷ l) e = absurd (omega arith)
+
+map-back : (f : Reading → List ℕ) (h : List ℕ → Reading) (ls : List (List ℕ)) → ((l : List ℕ) → List·Memᴰ l ls → f (h l) ≡ l) → map f (map h ls) ≡ ls
+map-back f h [] e = refl
+map-back f h (l ∷ ls) e =
+    let a = e l (List·Memᴰ·head refl) in
+    let b = map-back f h ls (λ m k. e m (List·Memᴰ·tail k)) in
+    cc
+
+module _ (g : Grammar) (q : Query) where
+  -- the steps that a reading has left at a node
+  abbrev stepsAt : Node → Reading → List ℕ
+  stepsAt n r = stepsLeft g (length (n .rest)) (r .path) (r .pairing)
+
+  abbrev Step : Node → ℕ → List ℕ → Bool → Type 0
+  Step n x l b = (x < countAt g q b n) × T (mayAt g q b n x) × Accepts (tree g q) (goAt g q b n x) l
+
+  steps-put : (n : Node) (b : Bool) (x : ℕ) (r : Reading) → opens n ≡ b → (b ≡ false → n .rest ≡ [] → r .path ≡ []) → stepsAt n (put g q b x r) ≡ x ∷ stepsAt (goAt g q b n x) r
+  unfolding goAt
+  steps-put n true e r o f = rw ((opens-true n o) .0) (steps-enter g e (r .path) (r .pairing))
+  steps-put n false p r o f = rw (left-length (g .lexical p) (n .rest)) (steps-pair g (length (n .rest)) p (r .path) (r .pairing) (λ k. f refl (length-zero (n .rest) k)))
+
+  -- what is accepted reads as what completes the node, and has its steps
+  Sound : Node → List ℕ → Type 0
+  Sound n l = Completes g q n ((readingAt g q n l) .path) ((readingAt g q n l) .pairing) × (stepsAt n (readingAt g q n l) ≡ l)
+
+  sound-step : (n : Node) (x : ℕ) (l : List ℕ) (b : Bool) → opens n ≡ b → Sane g n → Step n x l b → (Sane g (goAt g q b n x) → Accepts (tree g q) (goAt g q b n x) l → Sound (goAt g q b n x) l)
+      → Completes g q n ((put g q b x (readingAt g q (goAt g q b n x) l)) .path) ((put g q b x (readingAt g q (goAt g q b n x) l)) .pairing) × (stepsAt n (put g q b x (readingAt g q (goAt g q b n x) l)) ≡ x ∷ l)
+  unfolding Sound
+  sound-step n x l true o s a f =
+      let r = readingAt g q (goAt g q true n x) l in
+      let h = f (sane-step g q n true x s (a .1)) (a .2) in
+      (enter-to g q n x (r .path) (r .pairing) o (a .0) (a .1) (h .0), steps-put n true x r o (λ k e. absurd (true≢false k)) ∙ ap {B = List ℕ} (λ m. x ∷ m) (h .1))
+  sound-step n x l false o s a f =
+      let r = readingAt g q (goAt g q false n x) l in
+      let h = f (sane-step g q n false x s (a .1)) (a .2) in
+      let c = pair-to g q n x (r .path) (r .pairing) (s .alive-states) (a .0) (a .1) (h .0) in
+      (c, steps-put n false x r o (λ k e. no-entry g q n (r .path) (x ∷ r .pairing) o c e) ∙ ap {B = List ℕ} (λ m. x ∷ m) (h .1))
+
+  sound : (l : List ℕ) (n : Node) → Sane g n → Accepts (tree g q) n l → Sound n l
+  unfolding Sound readingAt
+  sound [] n s a = (end-to g q n s a, steps-none g (length (n .rest)))
+  sound (x ∷ l) n s a = sound-step n x l (opens n) refl s a (sound l (goAt g q (opens n) n x))
+
+  -- and back: the steps of what completes a node are accepted, and read as it
+  abbrev Whole : Node → Reading → Type 0
+  Whole n r = Accepts (tree g q) n (stepsAt n r) × (readingAt g q n (stepsAt n r) ≡ r)
+
+  whole-put : (n : Node) (b : Bool) (x : ℕ) (r : Reading) → opens n ≡ b → (b ≡ false → n .rest ≡ [] → r .path ≡ []) → x < countAt g q b n → T (mayAt g q b n x) → Whole (goAt g q b n x) r → Whole n (put g q b x r)
+  unfolding readingAt
+  whole-put n b x r o f hi t w =
+      let l = stepsAt (goAt g q b n x) r in
+      rw (steps-put n b x r o f) (subst (Step n x l) (sym o) (hi, t, w .0), subst (λ (c : Bool). put g q c x (readingAt g q (goAt g q c n x) l) ≡ put g q b x r) (sym o) (ap (put g q b x) (w .1)))
+
+  whole-step : (n : Node) (b : Bool) (es ps : List ℕ) → opens n ≡ b → Completes g q n es ps
+      → ((n′ : Node) (es′ ps′ : List ℕ) → suc (length es′ + length ps′) ≡ length es + length ps → Completes g q n′ es′ ps′ → Whole n′ (record { path = es′; pairing = ps′ }))
+      → Whole n (record { path = es; pairing = ps })
+  unfolding readingAt
+  whole-step n true [] ps o c r = absurd (enter-must g q n ps o c)
+  whole-step n true (e ∷ es) ps o c r =
+      let t = enter-from g q n e es ps o c in
+      whole-put n true e (record { path = es; pairing = ps }) o (λ k d. absurd (true≢false k)) (t .0) (t .1) (r (goAt g q true n e) es ps (omega arith) (t .2))
+  whole-step n false [] [] o c r = rw (steps-none g (length (n .rest))) (end-from g q n c, refl)
+  whole-step n false (e ∷ es) [] o c r = let d = no-entry g q n (e ∷ es) [] o c (end-rest g q n (e ∷ es) c) in let z : _≡_ {A = ℕ} 0 1 = cc in absurd (omega arith)
+  whole-step n false es (p ∷ ps) o c r =
+      let t = pair-from g q n p es ps o c in
+      whole-put n false p (record { path = es; pairing = ps }) o (λ k d. no-entry g q n es (p ∷ ps) o c d) (t .0) (t .1) (r (goAt g q false n p) es ps (omega arith) (t .2))
+
+  whole : (k : ℕ) (n : Node) (es ps : List ℕ) → length es + length ps ≡ k → Completes g q n es ps → Whole n (record { path = es; pairing = ps })
+  whole zero n es ps h c = whole-step n (opens n) es ps refl c (λ n′ es′ ps′ e. absurd (omega arith))
+  whole (suc k) n es ps h c = whole-step n (opens n) es ps refl c (λ n′ es′ ps′ e c′. whole k n′ es′ ps′ (omega arith) c′)
+
+  -- at the start: what completes it is a reading that answers
+  alive-start : T (alive (g .rules) (g .next) (g .final) (map (λ r. 1) (below (g .rules))))
+  unfolding alive
+  alive-start = every-in (λ r. not (isZero (getD (map (λ r. 1) (below (g .rules))) r 0))) (below (g .rules)) (λ r m. rw (getD-map-below {B = ℕ} (λ r. 1) (g .rules) r 0 (below-from (g .rules) r m)) tt)
+
+  sane-start : Sane g (start g q)
+  unfolding start
+  sane-start = record { alive-states = alive-start; entries-in = omega arith; pairs-in = omega arith; nulls-in = omega arith; surface-sane = record { letters-in = omega arith; nulls-in = omega arith } }
+
+  completes-from : (r : Reading) → T (isReading g r) → T (answers g q r) → Completes g q (start g q) (r .path) (r .pairing)
+  unfolding isReading isPath passes answers start
+  completes-from r t a =
+      let es = r .path in
+      let ps = r .pairing in
+      let m = out8 (isPath g es) (pairingLength ps) (every (λ p. ltb p (g .pairs)) ps) (sameList (spelled (g .lexical) ps) (joined (map (g .form) es))) (fewNulls (g .lexical) ps) (wordLength (word g r)) (fewNulls (g .surface) ps) (passes g ps) t in
+      let p = and-out (pathLength es) (isLinked g es) (m .0) in
+      let f = and-out (fits (q .entries) 0 es) (fits (q .letters) 0 (word g r)) a in
+      let h1 = within-out 1 16 (length es) (p .0) in
+      let h2 = within-out 1 40 (length ps) (m .1) in
+      let h3 = leb→le (nulls (map (g .lexical) ps)) 8 (m .4) in
+      record {
+        is-linked = p .1;
+        entries-in = omega arith;
+        pairs-in = omega arith;
+        listed = m .2;
+        forms-spelled = same-out (spelled (g .lexical) ps) (joined (map (g .form) es)) (m .3);
+        nulls-in = omega arith;
+        surface-done = line-from (g .surface) (q .letters) ps (m .5) (m .6) (f .1);
+        passing = start-to (g .rules) (g .next) (g .final) (g .pairs) ps (m .7);
+        path-asked = f .0;
+      }
+
+  path-some : (es : List ℕ) → T (isLinked g es) → 1 ≤ length es
+  unfolding linked
+  path-some [] t = absurd t
+  path-some (e ∷ es) t = omega arith
+
+  pairing-some : (ps : List ℕ) → 1 ≤ length (spelled (g .surface) ps) → 1 ≤ length ps
+  pairing-some [] h = absurd (omega arith)
+  pairing-some (p ∷ ps) h = omega arith
+
+  completes-to : (r : Reading) → Completes g q (start g q) (r .path) (r .pairing) → T (isReading g r) × T (answers g q r)
+  unfolding isReading isPath passes answers start
+  completes-to r c =
+      let es = r .path in
+      let ps = r .pairing in
+      let w = line-to (g .surface) (q .letters) ps (c .surface-done) in
+      let h = (within-out 1 32 (length (word g r)) (w .0)) .0 in (
+        in8 (isPath g es) (pairingLength ps) (every (λ p. ltb p (g .pairs)) ps) (sameList (spelled (g .lexical) ps) (joined (map (g .form) es))) (fewNulls (g .lexical) ps) (wordLength (word g r)) (fewNulls (g .surface) ps) (passes g ps)
+            (and-in (pathLength es) (isLinked g es) (within-in 1 16 (length es) (path-some es (c .is-linked)) (omega (arith, c .entries-in))) (c .is-linked))
+            (within-in 1 40 (length ps) (pairing-some ps h) (omega (arith, c .pairs-in)))
+            (c .listed)
+            (same-in (spelled (g .lexical) ps) (joined (map (g .form) es)) (c .forms-spelled))
+            (le→leb (nulls (map (g .lexical) ps)) 8 (omega (arith, c .nulls-in)))
+            (w .0)
+            (w .1)
+            (start-from (g .rules) (g .next) (g .final) (g .pairs) ps (c .passing)),
+        and-in (fits (q .entries) 0 es) (fits (q .letters) 0 (word g r)) (c .path-asked) (c .surface-done .asked),
+      )
+
+  -- what the walk from the start lists, as readings
+  listed-sound : (l : List ℕ) → List·Memᴰ l (walk (tree g q) 56 (start g q)) → Sound (start g q) l
+  listed-sound l h = sound l (start g q) sane-start (walk-from (tree g q) 56 (start g q) l h)
+
+  listed-steps : (l : List ℕ) → List·Memᴰ l (walk (tree g q) 56 (start g q)) → steps g (readingAt g q (start g q) l) ≡ l
+  unfolding Sound start
+  listed-steps l h = let r = readingAt g q (start g q) l in sym (steps-zero g (r .path) (r .pairing)) ∙ (listed-sound l h) .1
+
+  steps-few : (r : Reading) → Completes g q (start g q) (r .path) (r .pairing) → length (stepsAt (start g q) r) ≤ 56
+  unfolding start
+  steps-few r c = omega (arith, steps-length g 0 (r .path) (r .pairing), c .entries-in, c .pairs-in)
+
+  pub listing : IsListing g q (readings g q)
+  unfolding readings Sound
+  listing = record { only = only; every-one = every-one; in-order = in-order }
+    where
+      only : (r : Reading) → List·Memᴰ r (map (readingAt g q (start g q)) (walk (tree g q) 56 (start g q))) → T (isReading g r) × T (answers g q r)
+      only r h =
+          let t = map-from (readingAt g q (start g q)) (walk (tree g q) 56 (start g q)) h in
+          rw (t .2) (completes-to (readingAt g q (start g q) (t .0)) ((listed-sound (t .0) (t .1)) .0))
+
+      every-one : (r : Reading) → T (isReading g r) → T (answers g q r) → List·Memᴰ r (map (readingAt g q (start g q)) (walk (tree g q) 56 (start g q)))
+      every-one r t a =
+          let c = completes-from r t a in
+          let w = whole (length (r .path) + length (r .pairing)) (start g q) (r .path) (r .pairing) refl c in
+          Memᴰ·cast (sym (w .1)) (Memᴰ·map (readingAt g q (start g q)) (walk-has (tree g q) 56 (start g q) (stepsAt (start g q) r) (w .0) (steps-few r c)))
+
+      in-order : Ascending (map (steps g) (map (readingAt g q (start g q)) (walk (tree g q) 56 (start g q))))
+      in-order = rw (map-back (steps g) (readingAt g q (start g q)) (walk (tree g q) 56 (start g q)) listed-steps) (walk-ascending (tree g q) 56 (start g q))
+
+  -- each once
+  pub listing-once : (l : List Reading) → IsListing g q l → Once l
+  listing-once l i = ascending-once (steps g) l (i .in-order)
+
+  pub listing-unique : (l m : List Reading) → IsListing g q l → IsListing g q m → l ≡ m
+  listing-unique l m i j =
+      ascending-unique (steps g) l m (i .in-order) (j .in-order)
+      (λ r h. j .every-one r ((i .only r h) .0) ((i .only r h) .1), λ r h. i .every-one r ((j .only r h) .0) ((j .only r h) .1))
+
+  -- the list
+  pub listing-iff : (l : List Reading) → IsListing g q l ↔ (l ≡ readings g q)
+  listing-iff l = (λ i. listing-unique l (readings g q) i listing, λ e. subst (IsListing g q) (sym e) listing)

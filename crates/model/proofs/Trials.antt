@@ -1,0 +1,30 @@
+-- The starred trials of document 01, computed from the definitions.
+use mathlib.Core.Path.{refl}
+use Rattle.model.specs.Trials.{Starred}
+use Rattle.model.proofs.Computed.{computed}
+
+pub starred : Starred
+unfolding computed
+starred =
+    record {
+      luz-accepted = refl;
+      luz-readings = refl;
+      luz-steps = refl;
+      luces-readings = refl;
+      luces-reply = refl;
+      luces-number = refl;
+      luces-more = refl;
+      luces-row = refl;
+      luzes-none = refl;
+      luc-readings = refl;
+      path-readings = refl;
+      path-reply = refl;
+      path-word = refl;
+      zero-check = refl;
+      last-byte-check = refl;
+      tc-accepted = refl;
+      tc-before-i = refl;
+      tt-before-i = refl;
+      tc-alone = refl;
+      tt-alone = refl;
+    }

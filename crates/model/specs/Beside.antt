@@ -1,0 +1,49 @@
+-- Document 01, "Beside the listings": the judge, the entry view and its companion. (The reply's number in C is in Rows, the line program in Lines.)
+use Prim.Native.Nat.{ℕ, _+_, _*_, _/_, _%_}
+use mathlib.Core.Bool.{Bool, true, false}
+use mathlib.Core.List.{List, []}
+use lib.ListN.{take, drop}
+use Rattle.model.specs.Blocks.{header, entryBlock}
+use Rattle.model.specs.Lexicon.{entry, formLength}
+use Rattle.model.specs.GrammarOf.{grammarOf}
+use Rattle.model.specs.Readings.{Reading, isReading}
+use Rattle.model.specs.Query.{entryNumbers}
+use Rattle.model.specs.Refusals.{Verdict, firstFailing, judgeTests, viewTests}
+
+pub data Judgement : Type 0 where
+  holds fails : Judgement
+  refused : ℕ → Judgement
+
+abbrev pub judgementAfter : Verdict → Bool → Judgement
+judgementAfter Verdict.accepted true = holds
+judgementAfter Verdict.accepted false = fails
+judgementAfter (Verdict.refused k) b = Judgement.refused k
+
+-- "The judge takes path and pairing (one byte a pair) and replies holds or fails: holds exactly for a reading of the word it spells,
+-- so a spelled word of 0 or over 32 letters fails."
+unfoldable pub judged : List ℕ → List ℕ → List ℕ → Judgement
+judged image path pairing = judgementAfter (firstFailing (judgeTests image path pairing)) (isReading (grammarOf image) (record { path = entryNumbers path; pairing = pairing }))
+
+pub data FormReply : Type 0 where
+  letters : ℕ → FormReply
+  refused : ℕ → FormReply
+
+-- where the letters of an entry's form stand in the image
+unfoldable pub formStart : List ℕ → ℕ → ℕ
+formStart image e = 512 * (entryBlock (header image) + e / 31) + (5 + 16 * (e % 31))
+
+abbrev pub viewAfter : Verdict → List ℕ → List ℕ
+viewAfter Verdict.accepted form = form
+viewAfter (Verdict.refused k) form = []
+
+abbrev pub formReplyAfter : Verdict → ℕ → FormReply
+formReplyAfter Verdict.accepted n = letters n
+formReplyAfter (Verdict.refused k) n = FormReply.refused k
+
+-- "The entry view hands back the letters of an entry's form as they stand in the image; after a refusal, or for an empty form, the empty part."
+unfoldable pub viewed : List ℕ → ℕ → List ℕ
+viewed image e = viewAfter (firstFailing (viewTests image e)) (take (formLength (entry image e)) (drop (formStart image e) image))
+
+-- "A companion call on the same image and entry replies the form's length or the refusal."
+unfoldable pub formReply : List ℕ → ℕ → FormReply
+formReply image e = formReplyAfter (firstFailing (viewTests image e)) (formLength (entry image e))

@@ -1,0 +1,17 @@
+-- A two-level grammar, whatever form its image has: all that readings and listings are made of.
+use Prim.Native.Nat.{ℕ}
+use mathlib.Core.Bool.{Bool}
+use mathlib.Core.List.{List}
+
+pub record Grammar : Type 0 where
+  pub pairs : ℕ
+  pub lexical : ℕ → ℕ  -- the sides of a pair, 0 the null
+  pub surface : ℕ → ℕ
+  pub rules : ℕ
+  pub next : ℕ → ℕ → ℕ → ℕ  -- of a rule, from a state, by a pair or by the boundary pair, whose number is the number of pairs
+  pub final : ℕ → ℕ → Bool
+  pub entries : ℕ
+  pub form : ℕ → List ℕ
+  pub begins : ℕ → Bool  -- the entry may begin a path
+  pub follows : ℕ → ℕ → Bool  -- the second may come after the first
+  pub ends : ℕ → Bool  -- a path ends with the entry, and goes on with no other

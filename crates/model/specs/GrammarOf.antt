@@ -1,0 +1,31 @@
+-- The grammar that an image of form 1 stands for.
+use Prim.Native.Nat.{ℕ}
+use mathlib.Core.Bool.{not}
+use mathlib.Core.List.{List, [], map}
+use lib.ListN.{length, getD}
+use lib.Dec.{eqb}
+use Rattle.model.specs.Lists.{below}
+use Rattle.model.specs.Blocks.{header}
+use Rattle.model.specs.RuleTables.{Sides, pairs, boundaryPair, table, columnsOf, nextState, isFinal}
+use Rattle.model.specs.Lexicon.{inLexicon, entry, formOf, continuation}
+use Rattle.model.specs.Grammar.{Grammar}
+
+-- "the first from lexicon 0, each next from its predecessor's continuation, the last and only the last with 255"
+unfoldable pub grammarOf : List ℕ → Grammar
+grammarOf image =
+    let ps = pairs image in
+    let tables = map (table image) (below (header image .rules)) in
+    let columns = map (columnsOf image) (below (header image .rules)) in
+    record {
+      pairs = header image .pairs;
+      lexical = λ p. getD ps p boundaryPair .lexical;
+      surface = λ p. getD ps p boundaryPair .surface;
+      rules = header image .rules;
+      next = λ r s p. nextState (getD tables r []) s (getD (getD columns r []) p 0);
+      final = λ r s. isFinal (getD tables r []) s;
+      entries = header image .entries;
+      form = λ e. formOf (entry image e);
+      begins = inLexicon image 0;
+      follows = λ e. inLexicon image (continuation (entry image e));
+      ends = λ e. eqb (continuation (entry image e)) 255;
+    }

@@ -1,0 +1,56 @@
+-- Document 01, "Lexicon": entries of an image, the entries of a lexicon, and paths.
+use Prim.Native.Nat.{ℕ, suc, _+_, _*_, _/_, _%_}
+use mathlib.Core.Bool.{Bool, true, false, _&&_, _||_, not}
+use mathlib.Core.List.{List, [], _∷_, map}
+use lib.ListN.{length, take, drop}
+use lib.Dec.{leb, ltb, eqb}
+use Rattle.model.specs.Lists.{below, every, sum, within, isZero, byte, number}
+use Rattle.model.specs.Blocks.{block, header, lexiconBlock, entryBlock}
+
+module _ (image : List ℕ) where
+  -- "entry count of lexicon 0, 1, .. X-1"
+  unfoldable pub entryCount : ℕ → ℕ
+  entryCount x = number (block image (lexiconBlock (header image))) (4 + 2 * x)
+
+  -- "Entries are numbered from 0 through the lexicons in order.": the first of lexicon x
+  unfoldable pub firstEntry : ℕ → ℕ
+  firstEntry x = sum (map entryCount (below x))
+
+  unfoldable pub inLexicon : ℕ → ℕ → Bool
+  inLexicon x e = leb (firstEntry x) e && ltb e (firstEntry x + entryCount x)
+
+  -- entry e, 16 bytes, 31 to a block
+  unfoldable pub entry : ℕ → List ℕ
+  entry e = take 16 (drop (4 + 16 * (e % 31)) (block image (entryBlock (header image) + e / 31)))
+
+-- "An entry is form length (0-12), 12 letter bytes (2-L, the rest 0), continuation lexicon (below X, or 255 for end), a two-byte gloss number."
+module _ (entry : List ℕ) where
+  abbrev pub formLength : ℕ
+  formLength = byte entry 0
+
+  unfoldable pub formOf : List ℕ
+  formOf = take formLength (drop 1 entry)
+
+  abbrev pub continuation : ℕ
+  continuation = byte entry 13
+
+  abbrev pub gloss : ℕ
+  gloss = number entry 14
+
+  unfoldable pub isEntry : ℕ → ℕ → Bool
+  isEntry letters lexicons =
+      leb formLength 12
+      && every (within 2 letters) formOf
+      && every isZero (drop (1 + formLength) (take 13 entry))
+      && (ltb continuation lexicons || eqb continuation 255)
+
+-- "A path is 1-16 entries, the first from lexicon 0, each next from its predecessor's continuation, the last and only the last with 255."
+-- By the number of entries, which may begin, which may follow which, and which end a path.
+module _ (entries : ℕ) (follows : ℕ → ℕ → Bool) (ends : ℕ → Bool) where
+  -- from a place where these entries may open, unless the path has ended
+  unfoldable pub linked : (ℕ → Bool) → Bool → List ℕ → Bool
+  linked may ended [] = ended
+  linked may ended (e ∷ es) = not ended && may e && ltb e entries && linked (follows e) (ends e) es
+
+abbrev pub pathLength : List ℕ → Bool
+pathLength es = within 1 16 (length es)

@@ -1,0 +1,104 @@
+-- Document 01, "When a call is turned down": the tests 1 to 13, and the first by number that fails.
+use Prim.Native.Nat.{ℕ, _%_}
+use mathlib.Core.Bool.{Bool, true, false, _&&_}
+use mathlib.Core.List.{List, [], _∷_, _++_, map}
+use lib.ListN.{length}
+use lib.Dec.{ltb, eqb}
+use Rattle.model.specs.Lists.{below, every, distinct, sum, within}
+use Rattle.model.specs.Blocks.{block, blockCount, blockNumber, blockCheck, checkOf, header, withinLimits, blockTotal, laidOut}
+use Rattle.model.specs.RuleTables.{codePoints, isCodePoint, pairs, isPair, sameSides, table, isTable, columnCount, columnsOf}
+use Rattle.model.specs.Lexicon.{entryCount, entry, isEntry, pathLength}
+use Rattle.model.specs.GrammarOf.{grammarOf}
+use Rattle.model.specs.Readings.{isLinked, wordLength, pairingLength}
+use Rattle.model.specs.Query.{Request, analysis, generation, entryNumbers}
+
+pub data Verdict : Type 0 where
+  accepted : Verdict
+  refused : ℕ → Verdict
+
+abbrev pub unless : Bool → ℕ → Verdict → Verdict
+unless true k v = v
+unless false k v = refused k
+
+-- "Tested by number": the first of the numbered tests that fails
+abbrev pub firstFailing : List (ℕ × Bool) → Verdict
+firstFailing [] = accepted
+firstFailing (t ∷ ts) = unless (t .1) (t .0) (firstFailing ts)
+
+module _ (image : List ℕ) where
+  -- 1, "length 0, over 65,536, or no multiple of 512"
+  unfoldable pub rightLength : Bool
+  rightLength = within 1 65536 (length image) && eqb (length image % 512) 0
+
+  -- 2, "a check or block number is wrong"
+  unfoldable pub rightChecks : Bool
+  rightChecks = every (λ k. let b = block image k in eqb (blockNumber b) k && eqb (blockCheck b) (checkOf b)) (below (blockCount image))
+
+  -- 3, "form, counts, block total, kinds, record counts or unused block bytes differ from the above"
+  unfoldable pub rightLayout : Bool
+  rightLayout =
+      let h = header image in
+      eqb (h .form) 1
+      && withinLimits h
+      && eqb (blockCount image) (blockTotal h)
+      && every (λ k. laidOut h k (block image k)) (below (blockCount image))
+
+  -- 4, "a code point is 0, 55296-57343, or repeated"
+  unfoldable pub rightLetters : Bool
+  rightLetters = every isCodePoint (codePoints image) && distinct eqb (codePoints image)
+
+  -- 5, "a pair breaks its rule or is repeated"
+  unfoldable pub rightPairs : Bool
+  rightPairs = every (isPair (header image .letters)) (pairs image) && distinct sameSides (pairs image)
+
+  -- 6, "C, S, a column side, mark or next state out of range, or a byte after a table's last row not 0"
+  unfoldable pub rightTables : Bool
+  rightTables = every (λ r. isTable (table image r) (header image .letters)) (below (header image .rules))
+
+  -- 7, "for a listed or the boundary pair a rule has no matching column, or two narrowest"
+  unfoldable pub rightColumns : Bool
+  rightColumns = every (λ r. every (λ c. ltb c (columnCount (table image r))) (columnsOf image r)) (below (header image .rules))
+
+  -- 8, "lexicon counts don't add to E, or an entry breaks its layout"
+  unfoldable pub rightEntries : Bool
+  rightEntries =
+      let h = header image in
+      eqb (sum (map (entryCount image) (below (h .lexicons)))) (h .entries)
+      && every (λ e. isEntry (entry image e) (h .letters) (h .lexicons)) (below (h .entries))
+
+  unfoldable pub imageTests : List (ℕ × Bool)
+  imageTests = (1, rightLength) ∷ (2, rightChecks) ∷ (3, rightLayout) ∷ (4, rightLetters) ∷ (5, rightPairs) ∷ (6, rightTables) ∷ (7, rightColumns) ∷ (8, rightEntries) ∷ []
+
+  -- "the image check, which replies accepted otherwise, 1-8"
+  unfoldable pub imageVerdict : Verdict
+  imageVerdict = firstFailing imageTests
+
+  -- 9, "word length 0 or over 32"; 10, "word letter outside 2-L"
+  unfoldable pub wordTests : List ℕ → List (ℕ × Bool)
+  wordTests word = (9, wordLength word) ∷ (10, every (within 2 (header image .letters)) word) ∷ []
+
+  -- 11, "path of 0 or over 16 entries, or an odd count of bytes"; 12, "no such entry, or the path isn't linked as above"
+  unfoldable pub pathTests : List ℕ → List (ℕ × Bool)
+  pathTests path =
+      let es = entryNumbers path in
+      (11, eqb (length path % 2) 0 && pathLength es) ∷ (12, isLinked (grammarOf image) es) ∷ []
+
+  -- 13, "pairing length 0 or over 40, or no such pair"
+  unfoldable pub pairingTests : List ℕ → List (ℕ × Bool)
+  pairingTests pairing = (13, pairingLength pairing && every (λ p. ltb p (header image .pairs)) pairing) ∷ []
+
+  -- "every other call 1-8 and then its own"
+  unfoldable pub ownTests : Request → List (ℕ × Bool)
+  ownTests (analysis word) = wordTests word
+  ownTests (generation path) = pathTests path
+
+  unfoldable pub requestTests : Request → List (ℕ × Bool)
+  requestTests request = imageTests ++ ownTests request
+
+  -- "the judge 11, 12, 13"
+  unfoldable pub judgeTests : List ℕ → List ℕ → List (ℕ × Bool)
+  judgeTests path pairing = imageTests ++ pathTests path ++ pairingTests pairing
+
+  -- "The view uses 12 for a missing entry only"
+  unfoldable pub viewTests : ℕ → List (ℕ × Bool)
+  viewTests e = imageTests ++ ((12, ltb e (header image .entries)) ∷ [])

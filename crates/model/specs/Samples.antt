@@ -1,0 +1,59 @@
+-- Document 01, "The luz grammar and other trials": the images that the trials are about, as bytes.
+use Prim.Native.Nat.{ℕ, _+_, _-_, _/_}
+use mathlib.Core.List.{List, [], _∷_, _++_, map}
+use lib.ListN.{length, replicate}
+use Rattle.model.specs.Lists.{below, part, joined, flatMap, numberBytes}
+use Rattle.model.specs.Blocks.{sealedImage}
+
+-- a block's bytes before sealing
+unfoldable pub plainBlock : ℕ → ℕ → List ℕ → List ℕ
+plainBlock kind records bytes = 0 ∷ 0 ∷ kind ∷ records ∷ (bytes ++ replicate (508 - length bytes) 0)
+
+-- an entry: its letters, its continuation, its gloss
+unfoldable pub entryBytes : List ℕ → ℕ → ℕ → List ℕ
+entryBytes form continuation gloss = length form ∷ (form ++ replicate (12 - length form) 0 ++ (continuation ∷ numberBytes gloss))
+
+-- a sealed image of one rule; the entries of each lexicon in order
+unfoldable pub imageOf : List ℕ → List ℕ → List ℕ → List (List (List ℕ)) → List ℕ
+imageOf codePoints pairs table lexicons =
+    let entries = joined lexicons in
+    sealedImage
+    (joined
+    (plainBlock 1 1 (flatMap numberBytes (1 ∷ length codePoints ∷ length pairs / 2 ∷ 1 ∷ length lexicons ∷ length entries ∷ []))
+    ∷ plainBlock 2 (length codePoints) (flatMap numberBytes codePoints)
+    ∷ plainBlock 3 (length pairs / 2) pairs
+    ∷ plainBlock 4 1 table
+    ∷ plainBlock 5 (length lexicons) (flatMap (λ l. numberBytes (length l)) lexicons)
+    ∷ map (λ k. let es = part 31 entries k in plainBlock 6 (length es) (joined es)) (below ((length entries + 30) / 31))))
+
+-- "Letters 1-9: # + c e l s u z Z. Pairs 0-7: +:0 c:c e:e l:l s:s u:u Z:c Z:z."
+abbrev pub luzLetters : List ℕ
+luzLetters = 35 ∷ 43 ∷ 99 ∷ 101 ∷ 108 ∷ 115 ∷ 117 ∷ 122 ∷ 90 ∷ []
+
+abbrev pub luzPairs : List ℕ
+luzPairs = 2 ∷ 0 ∷ 3 ∷ 3 ∷ 4 ∷ 4 ∷ 5 ∷ 5 ∷ 6 ∷ 6 ∷ 7 ∷ 7 ∷ 9 ∷ 3 ∷ 9 ∷ 8 ∷ []
+
+-- "One rule, Z becomes c just before +:0 e:e .. Columns Z:c, Z:z, +:0, e:e, any:any; rows 1: 3 2 1 1 1; 2: 3 2 4 1 1; 3: 0 0 5 0 0; 4: 3 2 1 0 1; 5: 0 0 0 1 0; states 1 to 4 final."
+abbrev pub luzTable : List ℕ
+luzTable =
+    5 ∷ 5 ∷ 9 ∷ 3 ∷ 9 ∷ 8 ∷ 2 ∷ 0 ∷ 4 ∷ 4 ∷ 255 ∷ 255 ∷ 1 ∷ 1 ∷ 1 ∷ 1 ∷ 0
+    ∷ 3 ∷ 2 ∷ 1 ∷ 1 ∷ 1 ∷ 3 ∷ 2 ∷ 4 ∷ 1 ∷ 1 ∷ 0 ∷ 0 ∷ 5 ∷ 0 ∷ 0 ∷ 3 ∷ 2 ∷ 1 ∷ 0 ∷ 1 ∷ 0 ∷ 0 ∷ 0 ∷ 1 ∷ 0 ∷ []
+
+-- "Lexicon 0: entry 0 luZ, 1 luc, both to lexicon 1; lexicon 1: 2 empty, 3 +es, both end."
+unfoldable pub luzImage : List ℕ
+luzImage =
+    imageOf luzLetters luzPairs luzTable
+    ((entryBytes (5 ∷ 7 ∷ 9 ∷ []) 1 0 ∷ entryBytes (5 ∷ 7 ∷ 3 ∷ []) 1 1 ∷ [])
+    ∷ (entryBytes [] 255 2 ∷ entryBytes (2 ∷ 4 ∷ 6 ∷ []) 255 3 ∷ [])
+    ∷ [])
+
+-- letters # t c i s, and one entry, s
+unfoldable pub tcWith : List ℕ → List ℕ → List ℕ
+tcWith pairs table = imageOf (35 ∷ 116 ∷ 99 ∷ 105 ∷ 115 ∷ []) pairs table ((entryBytes (5 ∷ []) 255 0 ∷ []) ∷ [])
+
+-- "Source document 001 example 2.1 (t:c before i) .. Columns t:c, t:any, i:any, any:any; rows 1: 3 2 1 1; 2: 3 2 0 1; 3: 0 0 1 0; states 1, 2 final.
+-- Pairs t:c, t:t, i:i, s:s"
+unfoldable pub tcImage : List ℕ
+tcImage =
+    tcWith (2 ∷ 3 ∷ 2 ∷ 2 ∷ 4 ∷ 4 ∷ 5 ∷ 5 ∷ [])
+    (4 ∷ 3 ∷ 2 ∷ 3 ∷ 2 ∷ 255 ∷ 4 ∷ 255 ∷ 255 ∷ 255 ∷ 1 ∷ 1 ∷ 0 ∷ 3 ∷ 2 ∷ 1 ∷ 1 ∷ 3 ∷ 2 ∷ 0 ∷ 1 ∷ 0 ∷ 0 ∷ 1 ∷ 0 ∷ [])

@@ -1,0 +1,70 @@
+-- Document 01, "The luz grammar and other trials": the starred trials, as rows of one theorem. Its proof is `starred` in proofs/Trials.antt.
+use Prim.Native.Nat.{ℕ, _*_}
+use mathlib.Core.Bool.{Bool, true, false}
+use mathlib.Core.Path.{_≡_}
+use mathlib.Core.List.{List, [], _∷_, _++_}
+use lib.ListN.{length, replicate}
+use Rattle.model.specs.Blocks.{checkOf}
+use Rattle.model.specs.GrammarOf.{grammarOf}
+use Rattle.model.specs.Readings.{Reading, steps, word, passes}
+use Rattle.model.specs.Query.{analysis, generation}
+use Rattle.model.specs.Refusals.{Verdict, imageVerdict}
+use Rattle.model.specs.Rows.{Reply, replyNumber}
+use Rattle.model.specs.Calls.{allReadings, listingReply, afterListing}
+use Rattle.model.specs.Samples.{luzImage, tcImage}
+
+abbrev pub luz : List ℕ
+luz = 5 ∷ 7 ∷ 8 ∷ []
+
+abbrev pub luces : List ℕ
+luces = 5 ∷ 7 ∷ 3 ∷ 4 ∷ 6 ∷ []
+
+abbrev pub luzes : List ℕ
+luzes = 5 ∷ 7 ∷ 8 ∷ 4 ∷ 6 ∷ []
+
+abbrev pub luc : List ℕ
+luc = 5 ∷ 7 ∷ 3 ∷ []
+
+abbrev pub reading : List ℕ → List ℕ → Reading
+reading path pairing = record { path = path; pairing = pairing }
+
+abbrev pub lucesOfLuZ : Reading
+lucesOfLuZ = reading (0 ∷ 3 ∷ []) (3 ∷ 5 ∷ 6 ∷ 0 ∷ 2 ∷ 4 ∷ [])
+
+abbrev pub lucesOfLuc : Reading
+lucesOfLuc = reading (1 ∷ 3 ∷ []) (3 ∷ 5 ∷ 1 ∷ 0 ∷ 2 ∷ 4 ∷ [])
+
+-- the places of a row that no entry or pair takes, each 65535
+abbrev pub unused : ℕ → List ℕ
+unused n = replicate (n * 2) 255
+
+pub record Starred : Type 0 where
+  pub luz-accepted : imageVerdict luzImage ≡ Verdict.accepted
+  -- "luz: path 0 2, pairs 3 5 7; steps 0 3 5 7 2."
+  pub luz-readings : allReadings luzImage (analysis luz) ≡ reading (0 ∷ 2 ∷ []) (3 ∷ 5 ∷ 7 ∷ []) ∷ []
+  pub luz-steps : steps (grammarOf luzImage) (reading (0 ∷ 2 ∷ []) (3 ∷ 5 ∷ 7 ∷ [])) ≡ 0 ∷ 3 ∷ 5 ∷ 7 ∷ 2 ∷ []
+  -- "luces: 0 3 with 3 5 6 0 2 4, then 1 3 with 3 5 1 0 2 4; C reply 9."
+  pub luces-readings : allReadings luzImage (analysis luces) ≡ lucesOfLuZ ∷ lucesOfLuc ∷ []
+  pub luces-reply : listingReply luzImage (analysis luces) 2 ≡ Reply.all 2
+  pub luces-number : replyNumber (listingReply luzImage (analysis luces) 2) ≡ 9
+  -- "luces with one row lent: more 1, row 0 3."
+  pub luces-more : listingReply luzImage (analysis luces) 1 ≡ Reply.more 1
+  pub luces-row : afterListing luzImage (analysis luces) (replicate 116 7)
+      ≡ 2 ∷ 0 ∷ 0 ∷ 0 ∷ 3 ∷ 0 ∷ (unused 14 ++ (6 ∷ 0 ∷ 3 ∷ 0 ∷ 5 ∷ 0 ∷ 6 ∷ 0 ∷ 0 ∷ 0 ∷ 2 ∷ 0 ∷ 4 ∷ 0 ∷ unused 34))
+  -- "luzes: none."
+  pub luzes-none : listingReply luzImage (analysis luzes) 64 ≡ Reply.none
+  -- "luc: path 1 2 only."
+  pub luc-readings : allReadings luzImage (analysis luc) ≡ reading (1 ∷ 2 ∷ []) (3 ∷ 5 ∷ 1 ∷ []) ∷ []
+  -- "Path 0 3 generates luces alone."
+  pub path-readings : allReadings luzImage (generation (0 ∷ 0 ∷ 3 ∷ 0 ∷ [])) ≡ lucesOfLuZ ∷ []
+  pub path-reply : listingReply luzImage (generation (0 ∷ 0 ∷ 3 ∷ 0 ∷ [])) 1 ≡ Reply.all 1
+  pub path-word : word (grammarOf luzImage) lucesOfLuZ ≡ luces
+  -- "Zero block: check 1." "Byte 509 alone 255: 64,530."
+  pub zero-check : checkOf (replicate 512 0) ≡ 1
+  pub last-byte-check : checkOf (replicate 509 0 ++ (255 ∷ 0 ∷ 0 ∷ [])) ≡ 64530
+  -- "t:c i:i passes, t:t i:i fails, t:c alone fails, t:t alone passes."
+  pub tc-accepted : imageVerdict tcImage ≡ Verdict.accepted
+  pub tc-before-i : passes (grammarOf tcImage) (0 ∷ 2 ∷ []) ≡ true
+  pub tt-before-i : passes (grammarOf tcImage) (1 ∷ 2 ∷ []) ≡ false
+  pub tc-alone : passes (grammarOf tcImage) (0 ∷ []) ≡ false
+  pub tt-alone : passes (grammarOf tcImage) (1 ∷ []) ≡ true

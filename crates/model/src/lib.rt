@@ -1,0 +1,1 @@
+// Definitions and theorems alone: what the other crates' contracts cite.
