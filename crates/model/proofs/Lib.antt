@@ -9,6 +9,7 @@ pub mod Completes
 pub mod Listing
 pub mod Converse
 pub mod Parts
+pub mod Blocks
 pub mod Rows
 pub mod Demand
 pub mod Sealing

@@ -11,7 +11,7 @@ use Rattle.model.specs.Lexicon.{entryCount, firstEntry, entry, formOf, c
 use Rattle.model.specs.Readings.{wordLength, pairingLength}
 use Rattle.model.specs.Refusals.{rightLength}
 use Rattle.model.specs.Rows.{Reply, replyNumber, rowCount}
-use Rattle.model.specs.Samples.{plainBlock, entryBytes, luzImage, luzTable}
+use Rattle.model.specs.Samples.{plainBlock, entryBytes, imageOf, luzLetters, luzPairs, luzTable, luzImage}
 use Rattle.model.proofs.Computed.{computed}
 
 -- blocks
@@ -151,6 +151,16 @@ luz-entries : map (λ e. (formOf (entry luzImage e) ++ (continuation (entry luzI
 unfolding computed
 luz-entries = refl
 
+-- an entry is 16 bytes; entry 31 stands in the next block
+first-entry : entry luzImage 0 ≡ 3 ∷ 5 ∷ 7 ∷ 9 ∷ 0 ∷ 0 ∷ 0 ∷ 0 ∷ 0 ∷ 0 ∷ 0 ∷ 0 ∷ 0 ∷ 1 ∷ 0 ∷ 0 ∷ []
+unfolding computed
+first-entry = refl
+
+next-block : map (λ e. formOf (entry (imageOf luzLetters luzPairs luzTable ((replicate 31 (entryBytes (5 ∷ []) 255 0) ++ (entryBytes (7 ∷ []) 255 0 ∷ entryBytes (6 ∷ []) 255 0 ∷ [])) ∷ [])) e)) (30 ∷ 31 ∷ 32 ∷ [])
+    ≡ (5 ∷ []) ∷ (7 ∷ []) ∷ (6 ∷ []) ∷ []
+unfolding computed
+next-block = refl
+
 entry-forms : map (λ e. isEntry e 9 2) (entryBytes [] 0 0 ∷ entryBytes (replicate 12 2) 1 65535 ∷ entryBytes (replicate 12 9) 255 0 ∷ entryBytes (replicate 13 2) 1 0 ∷ entryBytes (1 ∷ []) 1 0 ∷ entryBytes (2 ∷ 10 ∷ []) 1 0 ∷ [])
     ≡ true ∷ true ∷ true ∷ false ∷ false ∷ false ∷ []
 unfolding computed
@@ -170,7 +180,10 @@ lengths : (map (λ n. pathLength (replicate n 0)) (0 ∷ 1 ∷ 16 ∷ 17 ∷ [])
 unfolding computed
 lengths = (refl, refl, refl)
 
--- rows and replies
+-- numbers, rows and replies
+two-bytes : map numberBytes (0 ∷ 255 ∷ 256 ∷ 65535 ∷ 65792 ∷ []) ≡ (0 ∷ 0 ∷ []) ∷ (255 ∷ 0 ∷ []) ∷ (0 ∷ 1 ∷ []) ∷ (255 ∷ 255 ∷ []) ∷ (0 ∷ 1 ∷ []) ∷ []
+two-bytes = refl
+
 row-counts : map (λ n. rowCount (replicate n 0)) (0 ∷ 115 ∷ 116 ∷ 231 ∷ 232 ∷ []) ≡ 0 ∷ 0 ∷ 1 ∷ 1 ∷ 2 ∷ []
 unfolding computed
 row-counts = refl

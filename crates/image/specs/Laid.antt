@@ -1,0 +1,19 @@
+-- What tests 1 and 3 leave for those that follow: the header, the whole length, and the limits.
+use Prim.Native.Nat.{ℕ, _*_, _≤_}
+use mathlib.Core.Path.{_≡_}
+use mathlib.Core.List.{List}
+use lib.ListN.{length}
+use Rattle.model.specs.Blocks.{Header, header, blockTotal}
+
+pub record Laid (image : List ℕ) (h : Header) : Type 0 where
+  pub header-is : h ≡ header image
+  pub whole : length image ≡ 512 * blockTotal h
+  pub letters-least : 2 ≤ h .letters
+  pub letters-most : h .letters ≤ 120
+  pub pairs-least : 1 ≤ h .pairs
+  pub pairs-most : h .pairs ≤ 250
+  pub rules-most : h .rules ≤ 32
+  pub lexicons-least : 1 ≤ h .lexicons
+  pub lexicons-most : h .lexicons ≤ 64
+  pub entries-least : 1 ≤ h .entries
+  pub entries-most : h .entries ≤ 2800

@@ -1,0 +1,69 @@
+// An image's bytes and two-byte numbers, the check of a block, and sealing.
+ghost use mathlib.Core.Path.{_≡_};
+ghost use Prim.Native.Nat.{_+_, _<_, _≤_};
+ghost use lib.ListN.{length, take};
+ghost use Rattle.model.specs.Lists.{byte, number};
+ghost use Rattle.model.specs.Blocks.{weightedSum, checkOf, header};
+ghost use Rattle.image.specs.Header.{headerOf};
+
+// A byte as a number.
+pub fn byte_at(bytes: &[u8], at: usize) -> usize
+    requires { ⌜ at < length (now bytes) ⌝ }
+    ensures { λ r. ⌜ (r ≡ byte (now (bytes .entry)) at) × (r < 256) ⌝ }
+{
+    bytes[at] as usize
+}
+
+// A two-byte number, the low byte first.
+pub fn number_at(bytes: &[u8], at: usize) -> usize
+    requires { ⌜ at + 1 < length (now bytes) ⌝ }
+    ensures { λ r. ⌜ (r ≡ number (now (bytes .entry)) at) × (r < 65536) ⌝ }
+{
+    byte_at(bytes, at) + 256 * byte_at(bytes, at + 1)
+}
+
+// The weighted sum of a block's first 510 bytes. Each of its terms is at most 510 * 255, so the whole sum fits with no remainder taken on the way.
+fn weighted_sum(block: &[u8]) -> usize
+    requires { ⌜ 510 ≤ length (now block) ⌝ }
+    ensures { λ r. ⌜ (r ≡ weightedSum 0 (take 510 (now (block .entry)))) × (r < 100000000) ⌝ }
+{
+    let mut sum: usize = 0;
+    let mut i: usize = 0;
+    while i < 510 {
+        sum += (i + 1) * byte_at(block, i);
+        i += 1;
+    }
+    sum
+}
+
+// The check that a block must have.
+pub fn check_of(block: &[u8]) -> usize
+    requires { ⌜ 510 ≤ length (now block) ⌝ }
+    ensures { λ r. ⌜ (r ≡ checkOf (now (block .entry))) × (r < 65521) ⌝ }
+{
+    (1 + weighted_sum(block)) % 65521
+}
+
+// The counts in an image's first block.
+pub struct Header {
+    pub form: usize,
+    pub letters: usize,
+    pub pairs: usize,
+    pub rules: usize,
+    pub lexicons: usize,
+    pub entries: usize,
+}
+
+pub fn read_header(image: &[u8]) -> Header
+    requires { ⌜ 512 ≤ length (now image) ⌝ }
+    ensures { λ r. ⌜ headerOf r ≡ header (now (image .entry)) ⌝ }
+{
+    Header {
+        form: number_at(image, 4),
+        letters: number_at(image, 6),
+        pairs: number_at(image, 8),
+        rules: number_at(image, 10),
+        lexicons: number_at(image, 12),
+        entries: number_at(image, 14),
+    }
+}
