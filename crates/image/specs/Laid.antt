@@ -1,13 +1,11 @@
--- What tests 1 and 3 leave for those that follow: the header, the whole length, and the limits.
+-- What tests 1 and 3 leave for those that follow: the limits, the header, and the whole length.
 use Prim.Native.Nat.{ℕ, _*_, _≤_}
 use mathlib.Core.Path.{_≡_}
 use mathlib.Core.List.{List}
 use lib.ListN.{length}
 use Rattle.model.specs.Blocks.{Header, header, blockTotal}
 
-pub record Laid (image : List ℕ) (h : Header) : Type 0 where
-  pub header-is : h ≡ header image
-  pub whole : length image ≡ 512 * blockTotal h
+pub record Limited (h : Header) : Type 0 where
   pub letters-least : 2 ≤ h .letters
   pub letters-most : h .letters ≤ 120
   pub pairs-least : 1 ≤ h .pairs
@@ -17,3 +15,8 @@ pub record Laid (image : List ℕ) (h : Header) : Type 0 where
   pub lexicons-most : h .lexicons ≤ 64
   pub entries-least : 1 ≤ h .entries
   pub entries-most : h .entries ≤ 2800
+
+pub record Laid (image : List ℕ) (h : Header) : Type 0 where
+  pub header-is : h ≡ header image
+  pub whole : length image ≡ 512 * blockTotal h
+  pub limits : Limited h

@@ -1,2 +1,3 @@
 pub mod Header
 pub mod Laid
+pub mod Sealing

@@ -1,10 +1,12 @@
-// An image's bytes and two-byte numbers, the check of a block, and sealing.
+// An image's bytes and two-byte numbers, the check of a block, the header, and sealing.
 ghost use mathlib.Core.Path.{_≡_};
 ghost use Prim.Native.Nat.{_+_, _<_, _≤_};
 ghost use lib.ListN.{length, take};
 ghost use Rattle.model.specs.Lists.{byte, number};
 ghost use Rattle.model.specs.Blocks.{weightedSum, checkOf, header};
 ghost use Rattle.image.specs.Header.{headerOf};
+
+pub mod seal;
 
 // A byte as a number.
 pub fn byte_at(bytes: &[u8], at: usize) -> usize

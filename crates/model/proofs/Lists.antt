@@ -1,17 +1,17 @@
 -- Laws of the lists' vocabulary: numbers below a bound, tests over them, maps and joins.
 use Prim.Native.Nat.{ℕ, zero, suc, _+_, _<_, _≤_}
-use native.Mathlib.Nat.{eq-or-lt-of-le}
-use mathlib.Core.Bool.{Bool, true, false, _&&_}
+use native.Mathlib.Numerals.{add-one}
+use mathlib.Core.Bool.{Bool, true, false, _&&_, true≢false}
 use mathlib.Core.Path.{_≡_, refl, sym, ap, ap₂, _∙_, subst}
 use mathlib.Core.Logic.{_⊎_, inl, inr}
 use mathlib.Core.List.{List, [], _∷_, _++_, map, append-assoc, append-nil, List·Memᴰ, List·Memᴰ·head, List·Memᴰ·tail, List·Memᴰ·not-nil, List·Memᴰ·append-cases, List·Memᴰ·eq-of-singleton, Memᴰ·append-left, Memᴰ·append-right, Memᴰ·cast}
-use lib.ListN.{length, getD, take, drop, length-append, List·getD-append}
-use lib.Seq.{getD-at}
+use lib.ListN.{length, getD, drop, length-append, drop-of-length-le, List·getD-append}
+use lib.Seq.{getD-at, drop-cons}
 use lib.Dec.{T}
 use native.Mathlib.Omega.{arith}
 use native.Mathlib.Decide.{ℕ-discrete}
 use Rattle.model.specs.Lists.{below, given, every, flatMap}
-use Rattle.model.proofs.Booleans.{and-out, and-in}
+use Rattle.model.proofs.Booleans.{and-out, and-in, true-of, of-true}
 
 pub length-below : (n : ℕ) → length (below n) ≡ n
 length-below zero = refl
@@ -130,3 +130,29 @@ getD-below n i h = ap (λ (l : List ℕ). getD l i 0) (sym (map-id (below n))) �
     map-id : (xs : List ℕ) → map (λ i. i) xs ≡ xs
     map-id [] = refl
     map-id (x ∷ xs) = ap {B = List ℕ} (λ l. x ∷ l) (map-id xs)
+
+-- a loop over the numbers below a bound that tests each
+module _ (f : ℕ → Bool) where
+  pub every-none : every f (below 0) ≡ true
+  every-none = refl
+
+  pub every-more : (k : ℕ) → every f (below k) ≡ true → f k ≡ true → every f (below (k + 1)) ≡ true
+  every-more k e h = ap (λ (n : ℕ). every f (below n)) (add-one k) ∙ every-append f (below k) (k ∷ []) ∙ rw (e, h) refl
+
+  pub every-fails : (n k : ℕ) → k < n → f k ≡ false → every f (below n) ≡ false
+  every-fails n k h e = go (every f (below n)) refl
+    where
+      go : (b : Bool) → every f (below n) ≡ b → every f (below n) ≡ false
+      go true p = absurd (true≢false (sym (true-of (f k) (every-at f (below n) (below-has n k h) (of-true (every f (below n)) p))) ∙ e))
+      go false p = p
+
+-- a loop through a list that tests each member: what is left decides
+module _ {A : Type 0} (f : A → Bool) (l : List A) (d : A) where
+  pub rest-right : (i : ℕ) → i < length l → f (getD l i d) ≡ true → every f (drop i l) ≡ every f (drop (i + 1) l)
+  rest-right i h e = ap (every f) (drop-cons l i d h) ∙ rw e (ap (λ (n : ℕ). every f (drop n l)) (sym (add-one i)))
+
+  pub rest-wrong : (i : ℕ) → i < length l → f (getD l i d) ≡ false → every f (drop i l) ≡ false
+  rest-wrong i h e = ap (every f) (drop-cons l i d h) ∙ rw e refl
+
+  pub rest-none : (i : ℕ) → length l ≤ i → every f (drop i l) ≡ true
+  rest-none i h = ap (every f) (drop-of-length-le l h)

@@ -20,8 +20,13 @@ use Rattle.model.proofs.Parts.{flatMap-same, Wide, length-parts, part-a
 pub number-back : (n : ℕ) → n < 65536 → number (numberBytes n) 0 ≡ n
 number-back n h = omega arith
 
+-- the check is made of the first 510 bytes alone
+pub check-front : (n t : List ℕ) → length n ≡ 510 → checkOf (n ++ t) ≡ checkOf n
+unfolding checkOf
+check-front n t e = ap (λ (l : List ℕ). (1 + weightedSum 0 l) % 65521) (take-at n t 510 e ∙ sym (take-all 510 n (omega arith)))
+
 module _ (k : ℕ) (b : List ℕ) (whole : length b ≡ 512) where
-  length-numbered : length (numbered k b) ≡ 510
+  pub length-numbered : length (numbered k b) ≡ 510
   unfolding numbered
   length-numbered = omega (arith, length-drop 2 (take 510 b), length-take 510 b)
 
@@ -34,11 +39,8 @@ module _ (k : ℕ) (b : List ℕ) (whole : length b ≡ 512) where
   sealed-number h = number-back k h
 
   check-same : checkOf (sealedBlock k b) ≡ checkOf (numbered k b)
-  unfolding sealedBlock checkOf
-  check-same =
-      let n = numbered k b in
-      let first = take-at n (numberBytes (checkOf n)) 510 length-numbered in
-      ap (λ (l : List ℕ). (1 + weightedSum 0 l) % 65521) (first ∙ sym (take-all 510 n (omega (arith, length-numbered))))
+  unfolding sealedBlock
+  check-same = check-front (numbered k b) (numberBytes (checkOf (numbered k b))) length-numbered
 
   check-small : checkOf (numbered k b) < 65536
   unfolding checkOf
@@ -61,13 +63,13 @@ module _ (k : ℕ) (b : List ℕ) (whole : length b ≡ 512) where
 
 -- an image of right length: its blocks are whole
 module _ (image : List ℕ) (right : T (rightLength image)) where
-  length-right : (length image ≡ 512 * blockCount image) × (blockCount image ≤ 128)
+  length-right : (length image ≡ 512 * blockCount image) × (blockCount image ≤ 128) × (512 ≤ length image)
   unfolding rightLength
   length-right =
       let t = and-out (within 1 65536 (length image)) (eqb (length image % 512) 0) right in
       let u = within-out 1 65536 (length image) (t .0) in
       let e = eqb→eq (length image % 512) 0 (t .1) in
-      (omega arith, omega arith)
+      (omega arith, omega arith, omega arith)
 
   pub block-whole : (k : ℕ) → k < blockCount image → length (block image k) ≡ 512
   unfolding block
@@ -109,6 +111,16 @@ module _ (image : List ℕ) (right : T (rightLength image)) where
       ap (λ (n : ℕ). flatMap (λ k. sealedBlock k (block (sealedImage image) k)) (below (n / 512))) length-sealedImage
       ∙ flatMap-same (λ k. sealedBlock k (block (sealedImage image) k)) (λ k. sealedBlock k (block image k)) (below (blockCount image))
       (λ k m. let h = below-from (blockCount image) k m in ap (sealedBlock k) (block-sealed k h) ∙ sealed-again k (block image k) (block-whole k h))
+
+-- a right length is one of whole blocks
+pub right-blocks : (image : List ℕ) → rightLength image ≡ true → length image ≡ 512 * (length image / 512)
+right-blocks image e = (length-right image (of-true (rightLength image) e)) .0
+
+pub right-few : (image : List ℕ) → rightLength image ≡ true → length image / 512 ≤ 128
+right-few image e = (length-right image (of-true (rightLength image) e)) .1
+
+pub right-some : (image : List ℕ) → rightLength image ≡ true → 512 ≤ length image
+right-some image e = (length-right image (of-true (rightLength image) e)) .2
 
 -- the length decides, and sealing keeps it
 right-sealed : (image : List ℕ) → T (rightLength image) → T (rightLength (sealedImage image))

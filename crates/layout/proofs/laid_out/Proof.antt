@@ -1,0 +1,91 @@
+-- `laid_out` meets its contract.
+use borrow.Author.Needs.{needs}
+use native.Mathlib.Omega.{arith}
+use native.Mathlib.Nat.{mul-le-mul}
+use mathlib.Core.List.{List}
+use mathlib.Core.Path.{_≡_, sym, ap₂, _∙_}
+use Prim.Native.Nat.{ℕ, _+_, _*_, _≤_}
+use lib.ListN.{take, drop}
+use Rattle.model.specs.Lists.{every, isZero, byte}
+use Rattle.model.specs.Blocks.{kindAt, recordWidth}
+use Rattle.image.specs.Header.{headerOf}
+use Rattle.layout.proofs.Placing.{laid-kind, laid-count, laid-rest, width-most}
+use Rattle.layout.proofs.laid_out.Statement.{statement}
+use Rattle.layout.proofs.laid_out.Tie as tie
+
+-- past the first test, the kind is right
+kind : (c : tie.Else1) → byte (c .before .before .before .before .args .block .now) 2 ≡ kindAt (headerOf (c .before .before .before .before .args .h)) (c .before .before .before .before .args .k)
+kind c = sym (c .before .byte-at .ensures .0) ∙ c .if1 .left ∙ c .before .before .kind-at .ensures .0
+
+small : (c : tie.Else2) → recordWidth (c .before .before .before .before .before .kind-at .result) * c .before .before .records-at .result ≤ 506 * 253
+small c = mul-le-mul {n₁ = recordWidth (c .before .before .before .before .before .kind-at .result)} {m₁ = c .before .before .records-at .result} {n₂ = 506} {m₂ = 253} (width-most (c .before .before .before .before .before .kind-at .result)) (c .before .before .records-at .ensures .1)
+
+kind-at-requires : tie.Need-kind-at-requires
+kind-at-requires c κs = search needs
+
+byte-at-requires : tie.Need-byte-at-requires
+byte-at-requires c κs = search needs
+
+returns : tie.Need-returns
+returns c = 
+    let start = c .before .before .before .before in
+    sym (laid-kind (headerOf (start .args .h)) (start .args .k) (start .args .block .now) (λ e. c .if1 .taken (c .before .byte-at .ensures .0 ∙ e ∙ sym (c .before .before .kind-at .ensures .0))))
+
+records-at-requires : tie.Need-records-at-requires
+records-at-requires c κs = search needs
+
+byte-at-requires-2 : tie.Need-byte-at-requires-2
+byte-at-requires-2 c κs = search needs
+
+returns-2 : tie.Need-returns-2
+returns-2 c = 
+    let one = c .before .before .before in
+    let start = one .before .before .before .before in
+    sym (laid-count (headerOf (start .args .h)) (start .args .k) (start .args .block .now) (kind one) (λ e. c .if2 .taken (c .before .byte-at2 .ensures .0 ∙ e ∙ sym (c .before .before .records-at .ensures .0))))
+
+mul-zeros : tie.Need-mul-zeros
+mul-zeros c = search needs
+
+array-read-zeros : tie.Need-array-read-zeros
+array-read-zeros c = search needs
+
+mul-zeros-2 : tie.Need-mul-zeros-2
+unfolding recordWidth
+mul-zeros-2 c = omega (arith, small c)
+
+add-zeros : tie.Need-add-zeros
+unfolding recordWidth
+add-zeros c = omega (arith, small c)
+
+zeros-requires : tie.Need-zeros-requires
+zeros-requires c κs = search needs
+
+returns-3 : tie.Need-returns-3
+unfolding recordWidth
+returns-3 c = 
+    let two = c .before in
+    let one = two .before .before .before in
+    let start = one .before .before .before .before in
+    let b = start .args .block .now in
+    let k = one .before .before .kind-at in
+    let n = two .before .before .records-at in
+    c .zeros .ensures
+    ∙ ap₂ (λ (x y : ℕ). every isZero (drop (4 + recordWidth x * y) (take 510 b))) (k .ensures .0) (n .ensures .0)
+    ∙ sym (laid-rest (headerOf (start .args .h)) (start .args .k) b (kind one) (sym (two .before .byte-at2 .ensures .0) ∙ two .if2 .left ∙ n .ensures .0))
+
+pub laid-out-spec : {M : Type 1} → statement M
+laid-out-spec =
+    tie.close
+    (tie.spec
+    kind-at-requires
+    byte-at-requires
+    returns
+    records-at-requires
+    byte-at-requires-2
+    returns-2
+    mul-zeros
+    array-read-zeros
+    mul-zeros-2
+    add-zeros
+    zeros-requires
+    returns-3)

@@ -1,0 +1,202 @@
+// Tests 2 and 3 of the image check: block numbers and checks, and which block holds what.
+ghost use mathlib.Core.Path.{_≡_};
+ghost use mathlib.Core.Bool.{true, _&&_};
+ghost use Prim.Native.Nat.{_+_, _*_, _<_, _≤_};
+ghost use lib.ListN.{length, take, drop};
+ghost use lib.Dec.{eqb};
+ghost use Rattle.model.specs.Lists.{below, every, isZero};
+ghost use Rattle.model.specs.Blocks.{block, blockCount, blockNumber, blockCheck, checkOf, kindAt, recordsAt, laidOut, withinLimits, blockTotal};
+ghost use Rattle.model.specs.Refusals.{rightLength, rightChecks, rightLayout};
+ghost use Rattle.image.specs.Header.{headerOf};
+ghost use Rattle.image.specs.Laid.{Limited};
+ghost use Rattle.layout.specs.Kinds.{inAll, firstBlock};
+
+use image::Header;
+
+// By kind: the width of a record, and how many records a block holds at the most.
+const WIDTH: [usize; 7] = [0, 12, 2, 2, 506, 2, 16];
+const PER_BLOCK: [usize; 7] = [0, 42, 253, 253, 1, 253, 31];
+
+fn right_block(block: &[u8], k: usize) -> bool
+    requires { ⌜ length (now block) ≡ 512 ⌝ }
+    ensures { λ r. ⌜ r ≡ (eqb (blockNumber (now (block .entry))) k && eqb (blockCheck (now (block .entry))) (checkOf (now (block .entry)))) ⌝ }
+{
+    if image::number_at(block, 0) != k {
+        return false;
+    }
+    image::number_at(block, 510) == image::check_of(block)
+}
+
+// Test 2.
+pub fn right_checks(image: &[u8]) -> bool
+    requires { ⌜ rightLength (now image) ≡ true ⌝ }
+    ensures { λ r. ⌜ r ≡ rightChecks (now (image .entry)) ⌝ }
+{
+    let blocks = image.len() / 512;
+    let mut k: usize = 0;
+    while k < blocks {
+        let from = 512 * k;
+        let to = from + 512;
+        if !right_block(&image[from..to], k) {
+            return false;
+        }
+        k += 1;
+    }
+    true
+}
+
+// Every byte of a block from one place to another is 0.
+fn zeros(block: &[u8], from: usize, to: usize) -> bool
+    requires { ⌜ to ≤ length (now block) ⌝ }
+    ensures { λ r. ⌜ r ≡ every isZero (drop from (take to (now (block .entry)))) ⌝ }
+{
+    let mut i = from;
+    while i < to {
+        if image::byte_at(block, i) != 0 {
+            return false;
+        }
+        i += 1;
+    }
+    true
+}
+
+// The counts are within their limits.
+fn within_limits(h: Header) -> bool
+    ensures { λ r. ⌜ r ≡ withinLimits (headerOf h) ⌝ }
+{
+    if h.letters < 2 {
+        return false;
+    }
+    if 120 < h.letters {
+        return false;
+    }
+    if h.pairs < 1 {
+        return false;
+    }
+    if 250 < h.pairs {
+        return false;
+    }
+    if 32 < h.rules {
+        return false;
+    }
+    if h.lexicons < 1 {
+        return false;
+    }
+    if 64 < h.lexicons {
+        return false;
+    }
+    if h.entries < 1 {
+        return false;
+    }
+    h.entries <= 2800
+}
+
+// The kind of block k.
+fn kind_at(h: Header, k: usize) -> usize
+    requires { ⌜ Limited (headerOf h) ⌝ }
+    ensures { λ r. ⌜ (r ≡ kindAt (headerOf h) k) × (r < 7) ⌝ }
+{
+    if k < 3 {
+        return k + 1;
+    }
+    if k < 3 + h.rules {
+        return 4;
+    }
+    if k == 3 + h.rules {
+        return 5;
+    }
+    6
+}
+
+// How many records of a kind an image has.
+fn in_all(h: Header, kind: usize) -> usize
+    requires { ⌜ kind < 7 ⌝ }
+    ensures { λ r. ⌜ r ≡ inAll (headerOf h) kind ⌝ }
+{
+    let counts = [0, 1, h.letters, h.pairs, h.rules, h.lexicons, h.entries];
+    counts[kind]
+}
+
+// The first block of a kind.
+fn first_block(h: Header, kind: usize) -> usize
+    requires { ⌜ Limited (headerOf h) × (kind < 7) ⌝ }
+    ensures { λ r. ⌜ r ≡ firstBlock (headerOf h) kind ⌝ }
+{
+    let blocks = [0, 0, 1, 2, 3, 3 + h.rules, 4 + h.rules];
+    blocks[kind]
+}
+
+// How many records block k holds: those of its kind that the blocks before it have left, as many as a block holds.
+fn records_at(h: Header, k: usize) -> usize
+    requires { ⌜ Limited (headerOf h) × (k < 128) ⌝ }
+    ensures { λ r. ⌜ (r ≡ recordsAt (headerOf h) k) × (r ≤ 253) ⌝ }
+{
+    let kind = kind_at(h, k);
+    let most = PER_BLOCK[kind];
+    let all = in_all(h, kind);
+    let before = most * (k - first_block(h, kind));
+    if all < before {
+        return 0;
+    }
+    let left = all - before;
+    if left < most { left } else { most }
+}
+
+// Block k's kind, its record count, and 0 in every unused byte.
+fn laid_out(block: &[u8], h: Header, k: usize) -> bool
+    requires { ⌜ (length (now block) ≡ 512) × (Limited (headerOf h) × (k < 128)) ⌝ }
+    ensures { λ r. ⌜ r ≡ laidOut (headerOf h) k (now (block .entry)) ⌝ }
+{
+    let kind = kind_at(h, k);
+    if image::byte_at(block, 2) != kind {
+        return false;
+    }
+    let records = records_at(h, k);
+    if image::byte_at(block, 3) != records {
+        return false;
+    }
+    zeros(block, 4 + WIDTH[kind] * records, 510)
+}
+
+fn all_laid_out(image: &[u8], h: Header) -> bool
+    requires { ⌜ (rightLength (now image) ≡ true) × Limited (headerOf h) ⌝ }
+    ensures { λ r. ⌜ r ≡ every (λ k. laidOut (headerOf h) k (block (now (image .entry)) k)) (below (blockCount (now (image .entry)))) ⌝ }
+{
+    let blocks = image.len() / 512;
+    let mut k: usize = 0;
+    while k < blocks {
+        let from = 512 * k;
+        let to = from + 512;
+        if !laid_out(&image[from..to], h, k) {
+            return false;
+        }
+        k += 1;
+    }
+    true
+}
+
+// The number of blocks that the counts ask for.
+fn block_total(h: Header) -> usize
+    requires { ⌜ Limited (headerOf h) ⌝ }
+    ensures { λ r. ⌜ r ≡ blockTotal (headerOf h) ⌝ }
+{
+    4 + h.rules + (h.entries + 30) / 31
+}
+
+// Test 3.
+pub fn right_layout(image: &[u8]) -> bool
+    requires { ⌜ rightLength (now image) ≡ true ⌝ }
+    ensures { λ r. ⌜ r ≡ rightLayout (now (image .entry)) ⌝ }
+{
+    let h = image::read_header(image);
+    if h.form != 1 {
+        return false;
+    }
+    if !within_limits(h) {
+        return false;
+    }
+    if image.len() / 512 != block_total(h) {
+        return false;
+    }
+    all_laid_out(image, h)
+}
