@@ -170,6 +170,11 @@ lines : printed luzImage (53 ∷ 32 ∷ 55 ∷ 32 ∷ 51 ∷ 32 ∷ 52 ∷ 32 �
 unfolding computed
 lines = refl
 
+-- "more 3"
+more-printed : printedReply (Reply.more 3) ≡ 109 ∷ 111 ∷ 114 ∷ 101 ∷ 32 ∷ 51 ∷ 10 ∷ []
+unfolding computed
+more-printed = refl
+
 -- "" "0" "005" "255" "7 12"; "256" "0005" "1  2" " 1" "1 " "1\t2" "a"
 lines-read : map lineOf ([] ∷ (48 ∷ []) ∷ (48 ∷ 48 ∷ 53 ∷ []) ∷ (50 ∷ 53 ∷ 53 ∷ []) ∷ (55 ∷ 32 ∷ 49 ∷ 50 ∷ []) ∷ []) ≡ Line.letters [] ∷ Line.letters (0 ∷ []) ∷ Line.letters (5 ∷ []) ∷ Line.letters (255 ∷ []) ∷ Line.letters (7 ∷ 12 ∷ []) ∷ []
 unfolding computed

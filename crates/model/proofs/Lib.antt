@@ -8,6 +8,7 @@ pub mod Steps
 pub mod Completes
 pub mod Listing
 pub mod Converse
+pub mod Rest
 pub mod Parts
 pub mod Blocks
 pub mod Rows

@@ -11,7 +11,8 @@ use Rattle.model.specs.Lexicon.{entryCount, firstEntry, entry, formOf, c
 use Rattle.model.specs.Readings.{wordLength, pairingLength}
 use Rattle.model.specs.Refusals.{rightLength}
 use Rattle.model.specs.Rows.{Reply, replyNumber, rowCount}
-use Rattle.model.specs.Samples.{plainBlock, entryBytes, imageOf, luzLetters, luzPairs, luzTable, luzImage}
+use Rattle.model.specs.Beside.{viewed}
+use Rattle.model.specs.Samples.{plainBlock, entryBytes, imageOf, luzLetters, luzPairs, luzTable, luzImage, tcImage}
 use Rattle.model.proofs.Computed.{computed}
 
 -- blocks
@@ -49,6 +50,10 @@ most-blocks = refl
 kinds : map (kindAt (headed 9 8 2 3 40)) (below 8) ≡ 1 ∷ 2 ∷ 3 ∷ 4 ∷ 4 ∷ 5 ∷ 6 ∷ 6 ∷ []
 unfolding computed
 kinds = refl
+
+no-rules : map (kindAt (headed 9 8 0 3 40)) (below 6) ≡ 1 ∷ 2 ∷ 3 ∷ 5 ∷ 6 ∷ 6 ∷ []
+unfolding computed
+no-rules = refl
 
 record-counts : map (recordsAt (headed 9 8 2 3 40)) (below 8) ≡ 1 ∷ 9 ∷ 8 ∷ 1 ∷ 1 ∷ 3 ∷ 31 ∷ 9 ∷ []
 unfolding computed
@@ -132,6 +137,18 @@ luz-rows : map (λ s. map (nextState (table luzImage 0) s) (below 5)) (below 6)
 unfolding computed
 luz-rows = refl
 
+tc-columns : map (column (table tcImage 0)) (below 4) ≡ sides 2 3 ∷ sides 2 255 ∷ sides 4 255 ∷ sides 255 255 ∷ []
+unfolding computed
+tc-columns = refl
+
+tc-finals : map (isFinal (table tcImage 0)) (below 4) ≡ false ∷ true ∷ true ∷ false ∷ []
+unfolding computed
+tc-finals = refl
+
+tc-rows : map (λ s. map (nextState (table tcImage 0) s) (below 4)) (1 ∷ 2 ∷ 3 ∷ []) ≡ (3 ∷ 2 ∷ 1 ∷ 1 ∷ []) ∷ (3 ∷ 2 ∷ 0 ∷ 1 ∷ []) ∷ (0 ∷ 0 ∷ 1 ∷ 0 ∷ []) ∷ []
+unfolding computed
+tc-rows = refl
+
 -- how many of the eight pairs and the boundary each column matches
 luz-breadths : map (λ c. breadth (pairsAndBoundary luzImage) (column (table luzImage 0) c)) (below 5) ≡ 1 ∷ 1 ∷ 1 ∷ 1 ∷ 9 ∷ []
 unfolding computed
@@ -156,10 +173,12 @@ first-entry : entry luzImage 0 ≡ 3 ∷ 5 ∷ 7 ∷ 9 ∷ 0 ∷ 0 ∷ 0 ∷ 0 �
 unfolding computed
 first-entry = refl
 
-next-block : map (λ e. formOf (entry (imageOf luzLetters luzPairs luzTable ((replicate 31 (entryBytes (5 ∷ []) 255 0) ++ (entryBytes (7 ∷ []) 255 0 ∷ entryBytes (6 ∷ []) 255 0 ∷ [])) ∷ [])) e)) (30 ∷ 31 ∷ 32 ∷ [])
-    ≡ (5 ∷ []) ∷ (7 ∷ []) ∷ (6 ∷ []) ∷ []
+abbrev two-blocks : List ℕ
+two-blocks = imageOf luzLetters luzPairs luzTable ((replicate 31 (entryBytes (5 ∷ []) 255 0) ++ (entryBytes (7 ∷ []) 255 0 ∷ entryBytes (6 ∷ []) 255 0 ∷ [])) ∷ [])
+
+next-block : (map (λ e. formOf (entry two-blocks e)) (30 ∷ 31 ∷ 32 ∷ []) ≡ (5 ∷ []) ∷ (7 ∷ []) ∷ (6 ∷ []) ∷ []) × (map (viewed two-blocks) (30 ∷ 31 ∷ 32 ∷ 33 ∷ []) ≡ (5 ∷ []) ∷ (7 ∷ []) ∷ (6 ∷ []) ∷ [] ∷ [])
 unfolding computed
-next-block = refl
+next-block = (refl, refl)
 
 entry-forms : map (λ e. isEntry e 9 2) (entryBytes [] 0 0 ∷ entryBytes (replicate 12 2) 1 65535 ∷ entryBytes (replicate 12 9) 255 0 ∷ entryBytes (replicate 13 2) 1 0 ∷ entryBytes (1 ∷ []) 1 0 ∷ entryBytes (2 ∷ 10 ∷ []) 1 0 ∷ [])
     ≡ true ∷ true ∷ true ∷ false ∷ false ∷ false ∷ []

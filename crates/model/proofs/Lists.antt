@@ -5,8 +5,8 @@ use mathlib.Core.Bool.{Bool, true, false, _&&_, true≢false}
 use mathlib.Core.Path.{_≡_, refl, sym, ap, ap₂, _∙_, subst}
 use mathlib.Core.Logic.{_⊎_, inl, inr}
 use mathlib.Core.List.{List, [], _∷_, _++_, map, append-assoc, append-nil, List·Memᴰ, List·Memᴰ·head, List·Memᴰ·tail, List·Memᴰ·not-nil, List·Memᴰ·append-cases, List·Memᴰ·eq-of-singleton, Memᴰ·append-left, Memᴰ·append-right, Memᴰ·cast}
-use lib.ListN.{length, getD, drop, length-append, drop-of-length-le, List·getD-append}
-use lib.Seq.{getD-at, drop-cons}
+use lib.ListN.{length, getD, length-append, List·getD-append}
+use lib.Seq.{getD-at}
 use lib.Dec.{T}
 use native.Mathlib.Omega.{arith}
 use native.Mathlib.Decide.{ℕ-discrete}
@@ -145,14 +145,3 @@ module _ (f : ℕ → Bool) where
       go : (b : Bool) → every f (below n) ≡ b → every f (below n) ≡ false
       go true p = absurd (true≢false (sym (true-of (f k) (every-at f (below n) (below-has n k h) (of-true (every f (below n)) p))) ∙ e))
       go false p = p
-
--- a loop through a list that tests each member: what is left decides
-module _ {A : Type 0} (f : A → Bool) (l : List A) (d : A) where
-  pub rest-right : (i : ℕ) → i < length l → f (getD l i d) ≡ true → every f (drop i l) ≡ every f (drop (i + 1) l)
-  rest-right i h e = ap (every f) (drop-cons l i d h) ∙ rw e (ap (λ (n : ℕ). every f (drop n l)) (sym (add-one i)))
-
-  pub rest-wrong : (i : ℕ) → i < length l → f (getD l i d) ≡ false → every f (drop i l) ≡ false
-  rest-wrong i h e = ap (every f) (drop-cons l i d h) ∙ rw e refl
-
-  pub rest-none : (i : ℕ) → length l ≤ i → every f (drop i l) ≡ true
-  rest-none i h = ap (every f) (drop-of-length-le l h)

@@ -7,7 +7,7 @@ use Prim.Native.Nat.{ℕ, _-_, _≤_, _<_}
 use lib.ListN.{length, getD, take, drop, length-take}
 use lib.Seq.{getD-take}
 use Rattle.model.specs.Lists.{every, isZero}
-use Rattle.model.proofs.Lists.{rest-right, rest-wrong, rest-none}
+use Rattle.model.proofs.Rest.{every-on, every-fails, every-done}
 use Rattle.layout.proofs.zeros.Statement.{statement}
 use Rattle.layout.proofs.zeros.Tie as tie
 
@@ -41,7 +41,7 @@ returns : tie.Need-returns Inv-loop μ-loop
 returns c = 
     let at = c .before .before in
     let l = take (at .before .before .before .args .to) (at .before .before .before .args .block .now) in
-    sym (sym (at .before .loop .inv) ∙ rest-wrong isZero l 0 (at .before .loop .i) (within at) (ne-eqb _ 0 (λ e. c .if1 .taken (c .before .byte-at .ensures .0 ∙ sym (read at) ∙ e))))
+    sym (sym (at .before .loop .inv) ∙ every-fails l 0 (at .before .loop .i) (within at) isZero (ne-eqb _ 0 (λ e. c .if1 .taken (c .before .byte-at .ensures .0 ∙ sym (read at) ∙ e))))
 
 add-i : tie.Need-add-i Inv-loop μ-loop
 add-i c = search needs
@@ -53,13 +53,13 @@ loop-again : tie.Need-loop-again Inv-loop μ-loop
 loop-again c = 
     let at = c .before .before in
     let l = take (at .before .before .before .args .to) (at .before .before .before .args .block .now) in
-    sym (rest-right isZero l 0 (at .before .loop .i) (within at) (eq-eqb _ 0 (read at ∙ sym (c .before .byte-at .ensures .0) ∙ c .if1 .left))) ∙ at .before .loop .inv
+    sym (every-on l 0 (at .before .loop .i) (within at) isZero (eq-eqb _ 0 (read at ∙ sym (c .before .byte-at .ensures .0) ∙ c .if1 .left))) ∙ at .before .loop .inv
 
 returns-2 : tie.Need-returns-2 Inv-loop μ-loop
 returns-2 c = 
     let at = c .before in
     let l = take (at .before .before .args .to) (at .before .before .args .block .now) in
-    sym (sym (at .loop .inv) ∙ rest-none isZero l 0 (at .loop .i) (omega (arith, length-take (at .before .before .args .to) (at .before .before .args .block .now))))
+    sym (sym (at .loop .inv) ∙ every-done l (at .loop .i) (omega (arith, length-take (at .before .before .args .to) (at .before .before .args .block .now))) isZero)
 
 pub zeros-spec : {M : Type 1} → statement M
 zeros-spec =

@@ -1,0 +1,226 @@
+// Letters and pairs of an image: tests 4 and 5 of the image check, and the two sides of a pair, each level by a type of its own.
+ghost use mathlib.Core.Path.{_≡_};
+ghost use mathlib.Core.Bool.{_||_, not};
+ghost use Prim.Native.Nat.{_+_, _<_};
+ghost use lib.ListN.{getD, drop};
+ghost use lib.Dec.{eqb};
+ghost use Rattle.model.specs.Lists.{every, any, distinct, within, isZero};
+ghost use Rattle.model.specs.Blocks.{header};
+ghost use Rattle.model.specs.RuleTables.{codePoints, isCodePoint, pairs, boundaryPair, isPair, sameSides};
+ghost use Rattle.model.specs.Refusals.{rightLetters, rightPairs};
+ghost use Rattle.image.specs.Header.{headerOf};
+ghost use Rattle.image.specs.Laid.{Laid};
+ghost use Rattle.letters.specs.Sides.{sidesOf};
+use image::Header;
+
+// A letter of the lexical level.
+pub struct Lexical(pub u8);
+
+// A letter of the surface level: with the same number as a lexical letter, it is still another.
+pub struct Surface(pub u8);
+
+// The code point of letter i + 1: the list begins with letter 1.
+fn code_point(image: &[u8], i: usize) -> usize
+    requires { ⌜ Laid (now image) (header (now image)) × (i < header (now image) .letters) ⌝ }
+    ensures { λ r. ⌜ r ≡ getD (codePoints (now (image .entry))) i 0 ⌝ }
+{
+    image::number_at(image, 516 + 2 * i)
+}
+
+fn is_code_point(n: usize) -> bool
+    ensures { λ r. ⌜ r ≡ isCodePoint n ⌝ }
+{
+    if n == 0 {
+        return false;
+    }
+    if n < 55296 {
+        return true;
+    }
+    n > 57343
+}
+
+fn each_code_point(image: &[u8], h: Header) -> bool
+    requires { ⌜ Laid (now image) (headerOf h) ⌝ }
+    ensures { λ r. ⌜ r ≡ every isCodePoint (codePoints (now (image .entry))) ⌝ }
+{
+    let letters = h.letters;
+    let mut i: usize = 0;
+    while i < letters {
+        if !is_code_point(code_point(image, i)) {
+            return false;
+        }
+        i += 1;
+    }
+    true
+}
+
+// No letter after the one at i has its code point.
+fn letter_alone(image: &[u8], h: Header, i: usize) -> bool
+    requires { ⌜ Laid (now image) (headerOf h) × (i < h .letters) ⌝ }
+    ensures { λ r. ⌜ r ≡ not (any (eqb (getD (codePoints (now (image .entry))) i 0)) (drop (i + 1) (codePoints (now (image .entry))))) ⌝ }
+{
+    let letters = h.letters;
+    let own = code_point(image, i);
+    let mut j: usize = i + 1;
+    while j < letters {
+        if own == code_point(image, j) {
+            return false;
+        }
+        j += 1;
+    }
+    true
+}
+
+fn letters_differ(image: &[u8], h: Header) -> bool
+    requires { ⌜ Laid (now image) (headerOf h) ⌝ }
+    ensures { λ r. ⌜ r ≡ distinct eqb (codePoints (now (image .entry))) ⌝ }
+{
+    let letters = h.letters;
+    let mut i: usize = 0;
+    while i < letters {
+        if !letter_alone(image, h, i) {
+            return false;
+        }
+        i += 1;
+    }
+    true
+}
+
+// Test 4: a code point that is none, and then one that stands twice.
+pub fn right_letters(image: &[u8], h: Header) -> bool
+    requires { ⌜ Laid (now image) (headerOf h) ⌝ }
+    ensures { λ r. ⌜ r ≡ rightLetters (now (image .entry)) ⌝ }
+{
+    if !each_code_point(image, h) {
+        return false;
+    }
+    letters_differ(image, h)
+}
+
+// The lexical side of pair p.
+pub fn lexical_side(image: &[u8], p: usize) -> Lexical
+    requires { ⌜ Laid (now image) (header (now image)) × (p < header (now image) .pairs) ⌝ }
+    ensures { λ r. ⌜ r .0 ≡ getD (pairs (now (image .entry))) p boundaryPair .lexical ⌝ }
+{
+    let at = 1028 + 2 * p;
+    Lexical(image[at])
+}
+
+// The surface side of pair p.
+pub fn surface_side(image: &[u8], p: usize) -> Surface
+    requires { ⌜ Laid (now image) (header (now image)) × (p < header (now image) .pairs) ⌝ }
+    ensures { λ r. ⌜ r .0 ≡ getD (pairs (now (image .entry))) p boundaryPair .surface ⌝ }
+{
+    let at = 1029 + 2 * p;
+    Surface(image[at])
+}
+
+// Letters are compared within a level only.
+pub fn same_lexical(a: Lexical, b: Lexical) -> bool
+    ensures { λ r. ⌜ r ≡ eqb (a .0) (b .0) ⌝ }
+{
+    a.0 == b.0
+}
+
+pub fn same_surface(a: Surface, b: Surface) -> bool
+    ensures { λ r. ⌜ r ≡ eqb (a .0) (b .0) ⌝ }
+{
+    a.0 == b.0
+}
+
+// What a side may be: the null, or a letter from 2 on.
+fn is_side(side: u8, letters: usize) -> bool
+    ensures { λ r. ⌜ r ≡ (isZero side || within 2 letters side) ⌝ }
+{
+    if side == 0 {
+        return true;
+    }
+    if side < 2 {
+        return false;
+    }
+    side as usize <= letters
+}
+
+fn is_pair(lexical: Lexical, surface: Surface, letters: usize) -> bool
+    ensures { λ r. ⌜ r ≡ isPair letters (sidesOf lexical surface) ⌝ }
+{
+    if !is_side(lexical.0, letters) {
+        return false;
+    }
+    if !is_side(surface.0, letters) {
+        return false;
+    }
+    if lexical.0 != 0 {
+        return true;
+    }
+    surface.0 != 0
+}
+
+fn each_pair(image: &[u8], h: Header) -> bool
+    requires { ⌜ Laid (now image) (headerOf h) ⌝ }
+    ensures { λ r. ⌜ r ≡ every (isPair (header (now (image .entry)) .letters)) (pairs (now (image .entry))) ⌝ }
+{
+    let letters = h.letters;
+    let count = h.pairs;
+    let mut p: usize = 0;
+    while p < count {
+        if !is_pair(lexical_side(image, p), surface_side(image, p), letters) {
+            return false;
+        }
+        p += 1;
+    }
+    true
+}
+
+// Both sides are the same, each within its level.
+fn same_pair(image: &[u8], p: usize, q: usize) -> bool
+    requires { ⌜ Laid (now image) (header (now image)) × ((p < header (now image) .pairs) × (q < header (now image) .pairs)) ⌝ }
+    ensures { λ r. ⌜ r ≡ sameSides (getD (pairs (now (image .entry))) p boundaryPair) (getD (pairs (now (image .entry))) q boundaryPair) ⌝ }
+{
+    if !same_lexical(lexical_side(image, p), lexical_side(image, q)) {
+        return false;
+    }
+    same_surface(surface_side(image, p), surface_side(image, q))
+}
+
+// No pair after pair p has its two sides.
+fn pair_alone(image: &[u8], h: Header, p: usize) -> bool
+    requires { ⌜ Laid (now image) (headerOf h) × (p < h .pairs) ⌝ }
+    ensures { λ r. ⌜ r ≡ not (any (sameSides (getD (pairs (now (image .entry))) p boundaryPair)) (drop (p + 1) (pairs (now (image .entry))))) ⌝ }
+{
+    let count = h.pairs;
+    let mut q: usize = p + 1;
+    while q < count {
+        if same_pair(image, p, q) {
+            return false;
+        }
+        q += 1;
+    }
+    true
+}
+
+fn pairs_differ(image: &[u8], h: Header) -> bool
+    requires { ⌜ Laid (now image) (headerOf h) ⌝ }
+    ensures { λ r. ⌜ r ≡ distinct sameSides (pairs (now (image .entry))) ⌝ }
+{
+    let count = h.pairs;
+    let mut p: usize = 0;
+    while p < count {
+        if !pair_alone(image, h, p) {
+            return false;
+        }
+        p += 1;
+    }
+    true
+}
+
+// Test 5: a pair that breaks its rule, and then one that stands twice.
+pub fn right_pairs(image: &[u8], h: Header) -> bool
+    requires { ⌜ Laid (now image) (headerOf h) ⌝ }
+    ensures { λ r. ⌜ r ≡ rightPairs (now (image .entry)) ⌝ }
+{
+    if !each_pair(image, h) {
+        return false;
+    }
+    pairs_differ(image, h)
+}

@@ -1,0 +1,297 @@
+-- Entries as bytes of the image, tests over part of a list, what test 8 leaves for those that follow, and how the lexicons tile the entries.
+use Prim.Native.Nat.{ℕ, zero, suc, _+_, _*_, _/_, _%_, _<_, _≤_}
+use native.Mathlib.Nat.{add-assoc, zero-add, suc-add}
+use native.Mathlib.Numerals.{add-one}
+use native.Mathlib.Omega.{arith}
+use native.Mathlib.Decide.{decLt}
+use mathlib.Core.Bool.{Bool, true, false, _&&_, _||_}
+use mathlib.Core.Path.{_≡_, refl, sym, ap, ap₂, _∙_, subst}
+use mathlib.Core.Logic.{_⊎_, inl, inr}
+use mathlib.Core.List.{List, [], _∷_, _++_, map, List·Memᴰ}
+use lib.ListN.{length, take, drop, length-take, length-drop}
+use lib.Seq.{take-nil, drop-cons, drop-drop, drop-length, take-take, getD-take, getD-drop, slice-cons, slice-empty}
+use lib.Dec.{T, leb, ltb, eqb, leb→le, le→leb, ltb→lt, lt→ltb, eqb→eq}
+use borrow.Author.Tests.{le-leb, lt-leb}
+use Rattle.model.specs.Lists.{below, every, sum, within, isZero, byte, number}
+use Rattle.model.specs.Blocks.{Header, header, block, blockTotal, lexiconBlock, entryBlock}
+use Rattle.model.specs.Lexicon.{entryCount, firstEntry, inLexicon, entry, formLength, formOf, continuation, isEntry}
+use Rattle.model.specs.Refusals.{rightEntries}
+use Rattle.model.specs.Beside.{formStart}
+use Rattle.model.proofs.Booleans.{and-out, and-in, out4, true-of, within-out, within-in}
+use Rattle.model.proofs.Lists.{length-below, below-has, getD-below, every-at, map-below}
+use Rattle.model.proofs.Blocks.{block-number}
+use Rattle.image.specs.Laid.{Laid}
+
+-- parts of parts, and tests over them
+pub drop-take : (k n : ℕ) (l : List ℕ) → drop k (take (k + n) l) ≡ take n (drop k l)
+drop-take zero n l = ap (λ (m : ℕ). take m l) (zero-add n)
+drop-take (suc k) n [] = ap (drop (suc k)) (take-nil (suc k + n)) ∙ sym (take-nil n)
+drop-take (suc k) n (x ∷ l) = ap (λ (m : ℕ). drop (suc k) (take m (x ∷ l))) (suc-add k n) ∙ drop-take k n l
+
+-- what is left of a part, and of the numbers below a bound, decides: a turn of a loop that tests each
+pub every-part : (f : ℕ → Bool) (at end : ℕ) (l : List ℕ) → at < end → end ≤ length l → every f (drop at (take end l)) ≡ (f (byte l at) && every f (drop (at + 1) (take end l)))
+every-part f at end l h k = ap (every f) (slice-cons at end l 0 h k) ∙ ap (λ (n : ℕ). f (byte l at) && every f (drop n (take end l))) (sym (add-one at))
+
+module _ (f : ℕ → Bool) (at end : ℕ) (l : List ℕ) (more : at < end) (inside : end ≤ length l) where
+  pub part-fails : f (byte l at) ≡ false → every f (drop at (take end l)) ≡ false
+  part-fails e = every-part f at end l more inside ∙ ap (λ (b : Bool). b && every f (drop (at + 1) (take end l))) e
+
+  pub part-goes-on : f (byte l at) ≡ true → every f (drop (at + 1) (take end l)) ≡ every f (drop at (take end l))
+  part-goes-on e = sym (every-part f at end l more inside ∙ ap (λ (b : Bool). b && every f (drop (at + 1) (take end l))) e)
+
+pub every-part-end : (f : ℕ → Bool) (end : ℕ) (l : List ℕ) → every f (drop end (take end l)) ≡ true
+every-part-end f end l = ap (every f) (slice-empty end l)
+
+pub every-byte : (f : ℕ → Bool) (l : List ℕ) (i : ℕ) → i < length l → T (every f l) → T (f (byte l i))
+every-byte f [] i h t = absurd (omega arith)
+every-byte f (x ∷ l) zero h t = (and-out (f x) (every f l) t) .0
+every-byte f (x ∷ l) (suc i) h t = every-byte f l i (omega arith) ((and-out (f x) (every f l) t) .1)
+
+pub every-below : (f : ℕ → Bool) (n e : ℕ) → e < n → every f (drop e (below n)) ≡ (f e && every f (drop (e + 1) (below n)))
+every-below f n e h =
+    ap (every f) (drop-cons (below n) e 0 (omega (arith, length-below n)))
+    ∙ ap₂ (λ (x k : ℕ). f x && every f (drop k (below n))) (getD-below n e h) (sym (add-one e))
+
+module _ (f : ℕ → Bool) (n e : ℕ) (more : e < n) where
+  pub below-fails : f e ≡ false → every f (drop e (below n)) ≡ false
+  below-fails q = every-below f n e more ∙ ap (λ (b : Bool). b && every f (drop (e + 1) (below n))) q
+
+  pub below-goes-on : f e ≡ true → every f (drop (e + 1) (below n)) ≡ every f (drop e (below n))
+  below-goes-on q = sym (every-below f n e more ∙ ap (λ (b : Bool). b && every f (drop (e + 1) (below n))) q)
+
+pub every-below-end : (f : ℕ → Bool) (n : ℕ) → every f (drop n (below n)) ≡ true
+every-below-end f n = ap (λ (k : ℕ). every f (drop k (below n))) (sym (length-below n)) ∙ ap (every f) (drop-length (below n))
+
+-- a range's test by the order
+module _ (low high n : ℕ) where
+  pub within-below : n < low → within low high n ≡ false
+  within-below h = ap (λ (b : Bool). b && leb n high) (lt-leb low n h)
+
+  pub within-above : high < n → within low high n ≡ false
+  within-above h = ap (λ (b : Bool). leb low n && b) (lt-leb n high h) ∙ none (leb low n)
+    where
+      none : (b : Bool) → (b && false) ≡ false
+      none true = refl
+      none false = refl
+
+  pub within-true : low ≤ n → n ≤ high → within low high n ≡ true
+  within-true h k = true-of (within low high n) (within-in low high n h k)
+
+-- where the bytes of entry e begin
+abbrev pub entryStart : Header → ℕ → ℕ
+entryStart h e = 512 * (entryBlock h + e / 31) + (4 + 16 * (e % 31))
+
+-- a part of a block is a part of the image
+pub block-part : (image : List ℕ) (k i n : ℕ) → i + n ≤ 512 → take n (drop i (block image k)) ≡ take n (drop (512 * k + i) image)
+unfolding block
+block-part image k i n h =
+    sym (drop-take i n (take 512 (drop (512 * k) image)))
+    ∙ ap (drop i) (take-take (i + n) 512 (drop (512 * k) image) h)
+    ∙ drop-take i n (drop (512 * k) image)
+    ∙ ap (take n) (drop-drop i (512 * k) image)
+
+pub entry-part : (image : List ℕ) (e : ℕ) → entry image e ≡ take 16 (drop (entryStart (header image) e) image)
+unfolding entry
+entry-part image e = block-part image (entryBlock (header image) + e / 31) (4 + 16 * (e % 31)) 16 (omega arith)
+
+-- the 16 bytes from `at` on, taken for an entry
+module _ (image : List ℕ) (at : ℕ) where
+  pub byte-there : (i : ℕ) → i < 16 → byte (take 16 (drop at image)) i ≡ byte image (at + i)
+  byte-there i h = getD-take 16 (drop at image) i 0 h ∙ getD-drop at image i 0
+
+  length-there : formLength (take 16 (drop at image)) ≡ byte image at
+  length-there = byte-there 0 (omega arith) ∙ ap (byte image) (omega arith)
+
+  pub form-there : (n : ℕ) → n ≤ 12 → take n (drop 1 (take 16 (drop at image))) ≡ take n (drop (at + 1) image)
+  form-there n h =
+      ap (take n) (drop-take 1 15 (drop at image) ∙ ap (take 15) (drop-drop 1 at image))
+      ∙ take-take n 15 (drop (at + 1) image) (omega arith)
+
+  form-between : (n : ℕ) → n ≤ 12 → take n (drop 1 (take 16 (drop at image))) ≡ drop (at + 1) (take (at + (1 + n)) image)
+  form-between n h = form-there n h ∙ sym (drop-take (at + 1) n image) ∙ ap (λ (k : ℕ). drop (at + 1) (take k image)) (add-assoc at 1 n)
+
+  rest-there : (n : ℕ) → drop (1 + n) (take 13 (take 16 (drop at image))) ≡ drop (at + (1 + n)) (take (at + 13) image)
+  rest-there n =
+      ap (drop (1 + n)) (take-take 13 16 (drop at image) (omega arith) ∙ sym (drop-take at 13 image))
+      ∙ drop-drop (1 + n) at (take (at + 13) image)
+
+  module _ (letters lexicons : ℕ) where
+    pub entry-long : 12 < byte image at → isEntry (take 16 (drop at image)) letters lexicons ≡ false
+    unfolding isEntry
+    entry-long h = rw (lt-leb (formLength (take 16 (drop at image))) 12 (omega (arith, length-there))) refl
+
+    -- by the form length n and the continuation m that were read
+    pub entry-there : (n m : ℕ) → n ≡ byte image at → m ≡ byte image (at + 13) → n ≤ 12
+        → isEntry (take 16 (drop at image)) letters lexicons
+        ≡ (every (within 2 letters) (drop (at + 1) (take (at + (1 + n)) image))
+        && every isZero (drop (at + (1 + n)) (take (at + 13) image))
+        && (ltb m lexicons || eqb m 255))
+    unfolding isEntry formOf
+    entry-there n m e q h =
+        rw (length-there ∙ sym e, form-between n h, rest-there n, byte-there 13 (omega arith) ∙ sym q, le-leb n 12 h) refl
+
+-- an image that passed tests 1 and 3
+module _ (image : List ℕ) (h : Header) (laid : Laid image h) where
+  -- a lexicon's entry count is a number of the image
+  pub count-number : (x : ℕ) → x < h .lexicons → entryCount image x ≡ number image (512 * lexiconBlock h + (4 + 2 * x))
+  unfolding entryCount
+  count-number x k =
+      block-number image (lexiconBlock (header image)) (4 + 2 * x) (omega (arith, laid .limits .lexicons-most))
+      ∙ ap (λ (g : Header). number image (512 * lexiconBlock g + (4 + 2 * x))) (sym (laid .header-is))
+
+  pub count-inside : (x : ℕ) → x < h .lexicons → 512 * lexiconBlock h + (4 + 2 * x) + 1 < length image
+  unfolding blockTotal
+  count-inside x k = omega (arith, laid .whole, laid .limits .lexicons-most)
+
+  -- an entry as it stands in the image
+  pub entry-at : (e : ℕ) → entry image e ≡ take 16 (drop (entryStart h e) image)
+  entry-at e = entry-part image e ∙ ap (λ (g : Header). take 16 (drop (entryStart g e) image)) (sym (laid .header-is))
+
+  pub entry-byte : (e i : ℕ) → i < 16 → byte (entry image e) i ≡ byte image (entryStart h e + i)
+  entry-byte e i k = ap (λ (l : List ℕ). byte l i) (entry-at e) ∙ byte-there image (entryStart h e) i k
+
+  pub entry-inside : (e i : ℕ) → e < h .entries → i < 16 → entryStart h e + i < length image
+  unfolding blockTotal
+  entry-inside e i k l = omega (arith, laid .whole)
+
+  -- an entry's form as it stands in the image
+  form-start : (e : ℕ) → entryStart (header image) e + 1 ≡ formStart image e
+  unfolding formStart
+  form-start e = omega arith
+
+  pub form-part : (e : ℕ) → formLength (entry image e) ≤ 12 → formOf (entry image e) ≡ take (formLength (entry image e)) (drop (formStart image e) image)
+  unfolding formOf
+  form-part e k =
+      ap (λ (l : List ℕ). take (formLength (entry image e)) (drop 1 l)) (entry-part image e)
+      ∙ form-there image (entryStart (header image) e) (formLength (entry image e)) k
+      ∙ ap (λ (n : ℕ). take (formLength (entry image e)) (drop n image)) (form-start e)
+
+  pub form-inside : (e : ℕ) → e < h .entries → formLength (entry image e) ≤ 12 → formStart image e + formLength (entry image e) ≤ length image
+  form-inside e l k =
+      let s : entryStart h e ≡ entryStart (header image) e = ap (λ (g : Header). entryStart g e) (laid .header-is) in
+      omega (arith, entry-inside e 13 l (omega arith), form-start e)
+
+  pub form-size : (e : ℕ) → e < h .entries → formLength (entry image e) ≤ 12 → length (formOf (entry image e)) ≡ formLength (entry image e)
+  form-size e l k =
+      ap length (form-part e k)
+      ∙ omega (arith, length-take (formLength (entry image e)) (drop (formStart image e) image), length-drop (formStart image e) image, form-inside e l k)
+
+  pub form-byte : (e i : ℕ) → formLength (entry image e) ≤ 12 → i < formLength (entry image e) → byte (formOf (entry image e)) i ≡ byte image (formStart image e + i)
+  form-byte e i k l =
+      ap (λ (f : List ℕ). byte f i) (form-part e k)
+      ∙ getD-take (formLength (entry image e)) (drop (formStart image e) image) i 0 l
+      ∙ getD-drop (formStart image e) image i 0
+
+  -- test 8 by the header's counts
+  pub right-is : rightEntries image ≡ (eqb (firstEntry image (h .lexicons)) (h .entries) && every (λ e. isEntry (entry image e) (h .letters) (h .lexicons)) (below (h .entries)))
+  unfolding rightEntries firstEntry
+  right-is = ap (λ (g : Header). eqb (firstEntry image (g .lexicons)) (g .entries) && every (λ e. isEntry (entry image e) (g .letters) (g .lexicons)) (below (g .entries))) (sym (laid .header-is))
+
+-- sums of counts
+sum-more : (xs : List ℕ) (x : ℕ) → sum (xs ++ (x ∷ [])) ≡ sum xs + x
+sum-more [] x = omega arith
+sum-more (y ∷ xs) x = omega (arith, sum-more xs x)
+
+-- the entries of a lexicon follow those of the lexicons before it
+module _ (image : List ℕ) where
+  pub first-none : firstEntry image 0 ≡ 0
+  unfolding firstEntry
+  first-none = refl
+
+  pub first-suc : (x : ℕ) → firstEntry image (suc x) ≡ firstEntry image x + entryCount image x
+  unfolding firstEntry
+  first-suc x = ap sum (map-below (entryCount image) x) ∙ sum-more (map (entryCount image) (below x)) (entryCount image x)
+
+  pub first-more : (x : ℕ) → firstEntry image (x + 1) ≡ firstEntry image x + entryCount image x
+  first-more x = ap (firstEntry image) (add-one x) ∙ first-suc x
+
+  -- a lexicon ends before a later one begins
+  pub first-after : (x y : ℕ) → x < y → firstEntry image x + entryCount image x ≤ firstEntry image y
+  first-after x zero h = absurd (omega arith)
+  first-after x (suc y) h = go (decLt x y) (first-after x y)
+    where
+      go : Dec (x < y) → (x < y → firstEntry image x + entryCount image x ≤ firstEntry image y) → firstEntry image x + entryCount image x ≤ firstEntry image (suc y)
+      go (yes l) r = let k = r l in omega (arith, first-suc y)
+      go (no f) r =
+          let e : x ≡ y = omega arith in
+          rw e (omega (arith, first-suc y))
+
+  pub lexicon-out : (x e : ℕ) → T (inLexicon image x e) → (firstEntry image x ≤ e) × (e < firstEntry image x + entryCount image x)
+  unfolding inLexicon
+  lexicon-out x e t =
+      let u = and-out (leb (firstEntry image x) e) (ltb e (firstEntry image x + entryCount image x)) t in
+      (leb→le (firstEntry image x) e (u .0), ltb→lt e (firstEntry image x + entryCount image x) (u .1))
+
+  pub lexicon-in : (x e : ℕ) → firstEntry image x ≤ e → e < firstEntry image x + entryCount image x → T (inLexicon image x e)
+  unfolding inLexicon
+  lexicon-in x e h k = and-in (leb (firstEntry image x) e) (ltb e (firstEntry image x + entryCount image x)) (le→leb (firstEntry image x) e h) (lt→ltb e (firstEntry image x + entryCount image x) k)
+
+  -- no entry is in two lexicons
+  pub lexicon-one : (x y e : ℕ) → T (inLexicon image x e) → T (inLexicon image y e) → x ≡ y
+  lexicon-one x y e s t = go (decLt x y) (decLt y x)
+    where
+      go : Dec (x < y) → Dec (y < x) → x ≡ y
+      go (yes l) d = let u = lexicon-out x e s in let v = lexicon-out y e t in omega (arith, first-after x y l)
+      go (no f) (yes l) = let u = lexicon-out x e s in let v = lexicon-out y e t in omega (arith, first-after y x l)
+      go (no f) (no g) = omega arith
+
+  -- each entry below the first of lexicon n is in a lexicon before it
+  pub lexicon-has : (n e : ℕ) → e < firstEntry image n → (x : ℕ) × (x < n) × T (inLexicon image x e)
+  lexicon-has zero e h = absurd (omega (arith, first-none))
+  lexicon-has (suc n) e h = go (decLt e (firstEntry image n)) (lexicon-has n e)
+    where
+      go : Dec (e < firstEntry image n) → (e < firstEntry image n → (x : ℕ) × (x < n) × T (inLexicon image x e)) → (x : ℕ) × (x < suc n) × T (inLexicon image x e)
+      go (yes l) r = let t = r l in (t .0, omega (arith, t .1), t .2)
+      go (no f) r = (n, omega arith, lexicon-in n e (omega arith) (omega (arith, first-suc n)))
+
+-- an image that passed test 8 too
+module _ (image : List ℕ) (h : Header) (laid : Laid image h) (right : T (rightEntries image)) where
+  right-parts : T (eqb (firstEntry image (h .lexicons)) (h .entries)) × T (every (λ e. isEntry (entry image e) (h .letters) (h .lexicons)) (below (h .entries)))
+  right-parts =
+      and-out (eqb (firstEntry image (h .lexicons)) (h .entries)) (every (λ e. isEntry (entry image e) (h .letters) (h .lexicons)) (below (h .entries)))
+      (subst T (right-is image h laid) right)
+
+  pub entry-right : (e : ℕ) → e < h .entries → T (isEntry (entry image e) (h .letters) (h .lexicons))
+  entry-right e l = every-at (λ e. isEntry (entry image e) (h .letters) (h .lexicons)) (below (h .entries)) (below-has (h .entries) e l) (right-parts .1)
+
+  module _ (e : ℕ) (within-entries : e < h .entries) where
+    entry-parts : T (leb (formLength (entry image e)) 12) × T (every (within 2 (h .letters)) (formOf (entry image e))) × T (every isZero (drop (1 + formLength (entry image e)) (take 13 (entry image e)))) × T (ltb (continuation (entry image e)) (h .lexicons) || eqb (continuation (entry image e)) 255)
+    unfolding isEntry
+    entry-parts =
+        out4 (leb (formLength (entry image e)) 12) (every (within 2 (h .letters)) (formOf (entry image e))) (every isZero (drop (1 + formLength (entry image e)) (take 13 (entry image e)))) (ltb (continuation (entry image e)) (h .lexicons) || eqb (continuation (entry image e)) 255)
+        (entry-right e within-entries)
+
+    pub form-short : formLength (entry image e) ≤ 12
+    form-short = leb→le (formLength (entry image e)) 12 (entry-parts .0)
+
+    pub form-letters : T (every (within 2 (h .letters)) (formOf (entry image e)))
+    form-letters = entry-parts .1
+
+    pub form-letter : {letter : ℕ} → List·Memᴰ letter (formOf (entry image e)) → (2 ≤ letter) × (letter ≤ h .letters)
+    form-letter {letter} m = within-out 2 (h .letters) letter (every-at (within 2 (h .letters)) (formOf (entry image e)) m form-letters)
+
+    pub form-letter-at : (i : ℕ) → i < formLength (entry image e) → (2 ≤ byte image (formStart image e + i)) × (byte image (formStart image e + i) ≤ h .letters)
+    form-letter-at i l =
+        let n : i < length (formOf (entry image e)) = omega (arith, form-size image h laid e within-entries form-short) in
+        subst (λ (b : ℕ). (2 ≤ b) × (b ≤ h .letters)) (form-byte image h laid e i form-short l) (within-out 2 (h .letters) (byte (formOf (entry image e)) i) (every-byte (within 2 (h .letters)) (formOf (entry image e)) i n form-letters))
+
+    pub continuation-right : (continuation (entry image e) < h .lexicons) ⊎ (continuation (entry image e) ≡ 255)
+    continuation-right = go (continuation (entry image e)) (ltb (continuation (entry image e)) (h .lexicons)) refl (entry-parts .3)
+      where
+        go : (c : ℕ) (b : Bool) → ltb c (h .lexicons) ≡ b → T (b || eqb c 255) → (c < h .lexicons) ⊎ (c ≡ 255)
+        go c true q t = inl (ltb→lt c (h .lexicons) (rw q tt))
+        go c false q t = inr (eqb→eq c 255 t)
+
+  -- the lexicons tile the entries
+  pub first-last : firstEntry image (h .lexicons) ≡ h .entries
+  first-last = eqb→eq (firstEntry image (h .lexicons)) (h .entries) (right-parts .0)
+
+  pub lexicon-within : (x : ℕ) → x < h .lexicons → firstEntry image x + entryCount image x ≤ h .entries
+  lexicon-within x l = omega (arith, first-after image x (h .lexicons) l, first-last)
+
+  pub lexicon-entry : (x e : ℕ) → x < h .lexicons → T (inLexicon image x e) → e < h .entries
+  lexicon-entry x e l t = let u = lexicon-out image x e t in omega (arith, lexicon-within x l)
+
+  -- each entry is in one lexicon, and in no other
+  pub lexicon-of : (e : ℕ) → e < h .entries → (x : ℕ) × (x < h .lexicons) × T (inLexicon image x e) × ((y : ℕ) → T (inLexicon image y e) → y ≡ x)
+  lexicon-of e l = let t = lexicon-has image (h .lexicons) e (omega (arith, first-last)) in (t .0, t .1, t .2, λ y u. lexicon-one image y (t .0) e u (t .2))

@@ -1,0 +1,125 @@
+-- `are_entries` meets its contract: what is left of the entries decides.
+use native.Mathlib.Omega.{arith}
+use native.Mathlib.Nat.{sub-self}
+use borrow.Author.Tests.{not-true, not-false}
+use mathlib.Core.Bool.{Bool, true, false}
+use mathlib.Core.List.{List}
+use mathlib.Core.Path.{_≡_, sym, ap, _∙_}
+use Prim.Native.Nat.{ℕ, _+_, _*_, _-_, _/_, _%_, _≤_}
+use lib.ListN.{take, drop}
+use Rattle.model.specs.Lists.{below, every}
+use Rattle.model.specs.Lexicon.{entry, isEntry}
+use Rattle.image.specs.Header.{headerOf}
+use Rattle.lexicon.proofs.Laws.{entryStart, entry-at, entry-inside, below-fails, below-goes-on, every-below-end}
+use Rattle.lexicon.proofs.are_entries.Statement.{statement}
+use Rattle.lexicon.proofs.are_entries.Tie as tie
+
+-- what is asked of entry e
+abbrev isRight : List ℕ → ℕ → ℕ → ℕ → Bool
+isRight image letters lexicons e = isEntry (entry image e) letters lexicons
+
+-- entry left₀ - left comes next, at its slot and its place; at₀ is the place of entry 0
+abbrev Inv-loop : tie.InvT-loop
+Inv-loop image letters lexicons left₀ at₀ slot₀ left at slot =
+    (left ≤ left₀)
+    × (slot ≡ (left₀ - left) % 31)
+    × (at ≡ at₀ + 512 * ((left₀ - left) / 31) + 16 * ((left₀ - left) % 31))
+    × (every (isRight image letters lexicons) (drop (left₀ - left) (below left₀)) ≡ every (isRight image letters lexicons) (below left₀))
+
+abbrev μ-loop : tie.MeasureT-loop
+μ-loop image letters lexicons left₀ at₀ slot₀ left at slot = left
+
+-- the entry looked at in a turn
+module _ (c : tie.After-is-entry Inv-loop μ-loop) where
+  abbrev start : tie.Start Inv-loop μ-loop
+  start = c .before .before .before .before .before
+
+  abbrev right : ℕ → Bool
+  right = isRight (start .args .image .now) (start .args .h .letters) (start .args .h .lexicons)
+
+  abbrev number : ℕ
+  number = start .args .h .entries - c .before .before .loop .left
+
+  place : c .before .before .loop .at ≡ entryStart (headerOf (start .args .h)) number
+  place = omega (arith, c .before .before .before .entry-start .ensures)
+
+  looked : right number ≡ c .is-entry .result
+  looked =
+      ap (λ (l : List ℕ). isEntry l (start .args .h .letters) (start .args .h .lexicons)) (entry-at (start .args .image .now) (headerOf (start .args .h)) (start .pre) number ∙ ap (λ (n : ℕ). take 16 (drop n (start .args .image .now))) (sym place))
+      ∙ sym (c .is-entry .ensures)
+
+  fails : c .is-entry .result ≡ false → false ≡ every right (below (start .args .h .entries))
+  fails e = sym (below-fails right (start .args .h .entries) number (omega arith) (looked ∙ e)) ∙ c .before .before .loop .inv .3
+
+  goes-on : c .is-entry .result ≡ true → every right (drop (start .args .h .entries - (c .before .before .loop .left - 1)) (below (start .args .h .entries))) ≡ every right (below (start .args .h .entries))
+  goes-on e =
+      let n : start .args .h .entries - (c .before .before .loop .left - 1) ≡ number + 1 = omega arith in
+      ap (λ (k : ℕ). every right (drop k (below (start .args .h .entries)))) n
+      ∙ below-goes-on right (start .args .h .entries) number (omega arith) (looked ∙ e)
+      ∙ c .before .before .loop .inv .3
+
+entry-start-requires : tie.Need-entry-start-requires Inv-loop μ-loop
+entry-start-requires c κs = omega arith
+
+loop-holds : tie.Need-loop-holds Inv-loop μ-loop
+loop-holds c = let n = c .before .before .args .h .entries in (omega arith, omega arith, omega arith, ap (λ (k : ℕ). every (isRight (c .before .before .args .image .now) (c .before .before .args .h .letters) (c .before .before .args .h .lexicons)) (drop k (below n))) (sub-self n))
+
+is-entry-requires : tie.Need-is-entry-requires Inv-loop μ-loop
+is-entry-requires c κs =
+    let a = c .before .before .before .before in
+    let l = c .before .loop in
+    omega (arith, entry-inside (a .args .image .now) (headerOf (a .args .h)) (a .pre) (a .args .h .entries - l .left) 15 (omega arith) (omega arith), c .before .before .entry-start .ensures)
+
+returns : tie.Need-returns Inv-loop μ-loop
+returns c = fails (c .before) (not-true (c .before .is-entry .result) (c .if1 .taken))
+
+sub-left : tie.Need-sub-left Inv-loop μ-loop
+sub-left c = omega arith
+
+add-at : tie.Need-add-at Inv-loop μ-loop
+add-at c = omega arith
+
+add-slot : tie.Need-add-slot Inv-loop μ-loop
+add-slot c = omega arith
+
+add-at-2 : tie.Need-add-at-2 Inv-loop μ-loop
+add-at-2 c = omega arith
+
+loop-less : tie.Need-loop-less Inv-loop μ-loop
+loop-less c = omega arith
+
+loop-again : tie.Need-loop-again Inv-loop μ-loop
+loop-again c = (omega arith, omega arith, omega arith, goes-on (c .before .before) (not-false (c .before .before .is-entry .result) (c .before .if1 .left)))
+
+loop-less-2 : tie.Need-loop-less-2 Inv-loop μ-loop
+loop-less-2 c = omega arith
+
+loop-again-2 : tie.Need-loop-again-2 Inv-loop μ-loop
+loop-again-2 c = (omega arith, omega arith, omega arith, goes-on (c .before .before) (not-false (c .before .before .is-entry .result) (c .before .if1 .left)))
+
+returns-2 : tie.Need-returns-2 Inv-loop μ-loop
+returns-2 c =
+    let a = c .before .before .before .before .args in
+    let f = isRight (a .image .now) (a .h .letters) (a .h .lexicons) in
+    let n : a .h .entries - c .before .loop .left ≡ a .h .entries = omega arith in
+    sym (every-below-end f (a .h .entries)) ∙ ap (λ (k : ℕ). every f (drop k (below (a .h .entries)))) (sym n) ∙ c .before .loop .inv .3
+
+pub are-entries-spec : {M : Type 1} → statement M
+are-entries-spec =
+    tie.close
+    (tie.spec
+    Inv-loop
+    μ-loop
+    entry-start-requires
+    loop-holds
+    is-entry-requires
+    returns
+    sub-left
+    add-at
+    add-slot
+    add-at-2
+    loop-less
+    loop-again
+    loop-less-2
+    loop-again-2
+    returns-2)
