@@ -1,0 +1,156 @@
+-- The verdict by the first test that fails, and what an accepted image has passed.
+use Prim.Native.Nat.{ℕ, _+_, _<_, _≤_}
+use mathlib.Core.Bool.{Bool, true, false}
+use mathlib.Core.Path.{_≡_, refl, sym, ap, _∙_}
+use mathlib.Core.List.{List, [], _∷_, _++_}
+use lib.ListN.{length, take, drop}
+use lib.Dec.{ltb}
+use borrow.Author.Tests.{lt-ltb, le-ltb, ltb-true, ltb-false}
+use native.Mathlib.Omega.{arith}
+use Rattle.model.specs.Blocks.{Header, header, blockTotal}
+use Rattle.model.specs.Refusals.{Verdict, accepted, refused, unless, firstFailing, rightLength, rightChecks, rightLayout, rightLetters, rightPairs, rightTables, rightColumns, rightEntries, imageTests, imageVerdict, viewTests}
+use Rattle.model.specs.Lexicon.{entry, formLength}
+use Rattle.model.specs.Beside as beside
+use Rattle.model.specs.Beside.{formStart, viewAfter, formReplyAfter, viewed, formReply}
+use Rattle.model.proofs.Booleans.{of-true}
+use Rattle.image.specs.Laid.{Laid}
+use Rattle.image.specs.Accepted.{Accepted}
+use Rattle.lexicon.proofs.Laws as entries
+use Rattle.layout.proofs.Laid.{laid}
+use Rattle.grammar.specs.Answers.{recordsVerdict}
+
+-- tests 4 to 8
+module _ (image : List ℕ) where
+  pub refused-4 : rightLetters image ≡ false → refused 4 ≡ recordsVerdict image
+  unfolding recordsVerdict
+  refused-4 e = rw e refl
+
+  pub refused-5 : rightLetters image ≡ true → rightPairs image ≡ false → refused 5 ≡ recordsVerdict image
+  unfolding recordsVerdict
+  refused-5 a e = rw (a, e) refl
+
+  pub refused-6 : rightLetters image ≡ true → rightPairs image ≡ true → rightTables image ≡ false → refused 6 ≡ recordsVerdict image
+  unfolding recordsVerdict
+  refused-6 a b e = rw (a, b, e) refl
+
+  pub refused-7 : rightLetters image ≡ true → rightPairs image ≡ true → rightTables image ≡ true → rightColumns image ≡ false → refused 7 ≡ recordsVerdict image
+  unfolding recordsVerdict
+  refused-7 a b c e = rw (a, b, c, e) refl
+
+  pub records-last : rightLetters image ≡ true → rightPairs image ≡ true → rightTables image ≡ true → rightColumns image ≡ true → unless (rightEntries image) 8 accepted ≡ recordsVerdict image
+  unfolding recordsVerdict
+  records-last a b c d = rw (a, b, c, d) refl
+
+  -- tests 1 to 3
+  pub refused-1 : rightLength image ≡ false → refused 1 ≡ imageVerdict image
+  unfolding imageVerdict imageTests
+  refused-1 e = rw e refl
+
+  pub refused-2 : rightLength image ≡ true → rightChecks image ≡ false → refused 2 ≡ imageVerdict image
+  unfolding imageVerdict imageTests
+  refused-2 a e = rw (a, e) refl
+
+  pub refused-3 : rightLength image ≡ true → rightChecks image ≡ true → rightLayout image ≡ false → refused 3 ≡ imageVerdict image
+  unfolding imageVerdict imageTests
+  refused-3 a b e = rw (a, b, e) refl
+
+  pub records-judged : rightLength image ≡ true → rightChecks image ≡ true → rightLayout image ≡ true → recordsVerdict image ≡ imageVerdict image
+  unfolding imageVerdict imageTests recordsVerdict
+  records-judged a b c = rw (a, b, c) refl
+
+-- a verdict that accepts, of tests one after the other
+passed : (b : Bool) (k : ℕ) (v : Verdict) → unless b k v ≡ accepted → (b ≡ true) × (v ≡ accepted)
+passed true k v e = (refl, e)
+passed false k v e = let z : _≡_ {A = ℕ} 0 1 = cc in absurd (omega arith)
+
+pub accepted-image : (image : List ℕ) → imageVerdict image ≡ accepted → Accepted image (header image)
+unfolding imageVerdict imageTests
+accepted-image image e =
+    let t1 = passed (rightLength image) 1 _ e in
+    let t2 = passed (rightChecks image) 2 _ (t1 .1) in
+    let t3 = passed (rightLayout image) 3 _ (t2 .1) in
+    let t4 = passed (rightLetters image) 4 _ (t3 .1) in
+    let t5 = passed (rightPairs image) 5 _ (t4 .1) in
+    let t6 = passed (rightTables image) 6 _ (t5 .1) in
+    let t7 = passed (rightColumns image) 7 _ (t6 .1) in
+    let t8 = passed (rightEntries image) 8 _ (t7 .1) in
+    record { laid = laid image (t1 .0) (t3 .0); pairs-right = t5 .0; tables-right = t6 .0; columns-right = t7 .0; entries-right = t8 .0 }
+
+pub laid-some : (image : List ℕ) (h : Header) → Laid image h → 512 ≤ length image
+unfolding blockTotal
+laid-some image h l = omega (arith, l .whole)
+
+-- the entry view and its companion, by the verdict and by whether the entry is there
+module _ (image : List ℕ) (e : ℕ) where
+  tests-refused : (ts us : List (ℕ × Bool)) (k : ℕ) → firstFailing ts ≡ refused k → firstFailing (ts ++ us) ≡ refused k
+  tests-refused [] us k f = let z : _≡_ {A = ℕ} 0 1 = cc in absurd (omega arith)
+  tests-refused (t ∷ ts) us k f = go (t .1) (tests-refused ts us k) f
+    where
+      go : (b : Bool) → (firstFailing ts ≡ refused k → firstFailing (ts ++ us) ≡ refused k) → unless b (t .0) (firstFailing ts) ≡ refused k → unless b (t .0) (firstFailing (ts ++ us)) ≡ refused k
+      go true r f = r f
+      go false r f = f
+
+  tests-accepted : (ts us : List (ℕ × Bool)) → firstFailing ts ≡ accepted → firstFailing (ts ++ us) ≡ firstFailing us
+  tests-accepted [] us f = refl
+  tests-accepted (t ∷ ts) us f = go (t .1) (tests-accepted ts us) f
+    where
+      go : (b : Bool) → (firstFailing ts ≡ accepted → firstFailing (ts ++ us) ≡ firstFailing us) → unless b (t .0) (firstFailing ts) ≡ accepted → unless b (t .0) (firstFailing (ts ++ us)) ≡ firstFailing us
+      go true r f = r f
+      go false r f = let z : _≡_ {A = ℕ} 0 1 = cc in absurd (omega arith)
+
+  view-refused : (k : ℕ) → imageVerdict image ≡ refused k → firstFailing (viewTests image e) ≡ refused k
+  unfolding viewTests imageVerdict
+  view-refused k f = tests-refused (imageTests image) ((12, ltb e (header image .entries)) ∷ []) k f
+
+  view-accepted : imageVerdict image ≡ accepted → firstFailing (viewTests image e) ≡ unless (ltb e (header image .entries)) 12 accepted
+  unfolding viewTests imageVerdict
+  view-accepted f = tests-accepted (imageTests image) ((12, ltb e (header image .entries)) ∷ []) f
+
+  pub form-refused : (k : ℕ) → imageVerdict image ≡ refused k → beside.FormReply.refused k ≡ formReply image e
+  unfolding formReply
+  form-refused k f = rw (view-refused k f) refl
+
+  pub form-missing : imageVerdict image ≡ accepted → header image .entries ≤ e → beside.FormReply.refused 12 ≡ formReply image e
+  unfolding formReply
+  form-missing f h = rw (view-accepted f, le-ltb e (header image .entries) h) refl
+
+  pub form-there : imageVerdict image ≡ accepted → e < header image .entries → beside.FormReply.letters (formLength (entry image e)) ≡ formReply image e
+  unfolding formReply
+  form-there f h = rw (view-accepted f, lt-ltb e (header image .entries) h) refl
+
+  -- the two agree
+  view-of : (v : Verdict) → firstFailing (viewTests image e) ≡ v → ((k : ℕ) → formReplyAfter v (formLength (entry image e)) ≡ beside.FormReply.refused k → viewAfter v (take (formLength (entry image e)) (drop (formStart image e) image)) ≡ []) × ((n : ℕ) → formReplyAfter v (formLength (entry image e)) ≡ beside.FormReply.letters n → viewAfter v (take (formLength (entry image e)) (drop (formStart image e) image)) ≡ take n (drop (formStart image e) image))
+  view-of Verdict.accepted q = (λ k f. let z : _≡_ {A = ℕ} 0 1 = cc in absurd (omega arith), λ n f. let m : formLength (entry image e) ≡ n = cc in ap (λ (m : ℕ). take m (drop (formStart image e) image)) m)
+  view-of (Verdict.refused j) q = (λ k f. refl, λ n f. let z : _≡_ {A = ℕ} 0 1 = cc in absurd (omega arith))
+
+  pub view-none : (k : ℕ) → formReply image e ≡ beside.FormReply.refused k → [] ≡ viewed image e
+  unfolding viewed formReply
+  view-none k f = sym ((view-of (firstFailing (viewTests image e)) refl) .0 k f)
+
+  pub view-letters : (n : ℕ) → formReply image e ≡ beside.FormReply.letters n → take n (drop (formStart image e) image) ≡ viewed image e
+  unfolding viewed formReply
+  view-letters n f = sym ((view-of (firstFailing (viewTests image e)) refl) .1 n f)
+
+-- what a companion that tells a length has shown
+pub record Viewed (image : List ℕ) (e n : ℕ) : Type 0 where
+  pub some : 512 ≤ length image
+  pub entry-few : e < 2800
+  pub rules-few : header image .rules ≤ 32
+  pub inside : formStart image e + n ≤ length image
+
+module _ (image : List ℕ) (e n : ℕ) where
+  there-of : (v : Verdict) → imageVerdict image ≡ v → (b : Bool) → ltb e (header image .entries) ≡ b → formReply image e ≡ beside.FormReply.letters n → (v ≡ accepted) × (b ≡ true)
+  there-of Verdict.accepted a true t f = (refl, refl)
+  there-of Verdict.accepted a false t f = let g = form-missing image e a (ltb-false e (header image .entries) t) in let z : _≡_ {A = ℕ} 0 1 = cc in absurd (omega arith)
+  there-of (Verdict.refused k) a b t f = let g = form-refused image e k a in let z : _≡_ {A = ℕ} 0 1 = cc in absurd (omega arith)
+
+  pub viewed-there : formReply image e ≡ beside.FormReply.letters n → Viewed image e n
+  viewed-there f =
+      let h = header image in
+      let t = there-of (imageVerdict image) refl (ltb e (h .entries)) refl f in
+      let a = accepted-image image (t .0) in
+      let inside = ltb-true e (h .entries) (t .1) in
+      let g = form-there image e (t .0) inside in
+      let m : formLength (entry image e) ≡ n = cc in
+      let short = entries.form-short image h (a .laid) (of-true (rightEntries image) (a .entries-right)) e inside in
+      record { some = laid-some image h (a .laid); entry-few = omega (arith, a .laid .limits .entries-most); rules-few = a .laid .limits .rules-most; inside = omega (arith, entries.form-inside image h (a .laid) e inside short) }

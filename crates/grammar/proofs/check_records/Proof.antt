@@ -1,0 +1,74 @@
+-- `check_records` meets its contract: the first of tests 4 to 8 that fails.
+use borrow.Author.Needs.{needs}
+use borrow.Author.Tests.{not-true, not-false}
+use mathlib.Core.Bool.{Bool, true, false}
+use mathlib.Core.Path.{_≡_, sym, ap, _∙_}
+use Rattle.model.specs.Refusals.{unless, accepted, rightLetters, rightPairs, rightTables, rightColumns, rightEntries}
+use Rattle.model.proofs.Booleans.{of-true}
+use Rattle.grammar.proofs.Verdicts.{refused-4, refused-5, refused-6, refused-7, records-last}
+use Rattle.grammar.proofs.check_records.Statement.{statement}
+use Rattle.grammar.proofs.check_records.Tie as tie
+
+letters-right : (c : tie.Else1) → rightLetters (c .before .before .before .args .image .now) ≡ true
+letters-right c = sym (c .before .right-letters .ensures) ∙ not-false (c .before .right-letters .result) (c .if1 .left)
+
+pairs-right : (c : tie.Else2) → rightPairs (c .before .before .before .before .before .args .image .now) ≡ true
+pairs-right c = sym (c .before .right-pairs .ensures) ∙ not-false (c .before .right-pairs .result) (c .if2 .left)
+
+tables-right : (c : tie.Else3) → rightTables (c .before .before .before .before .before .before .before .args .image .now) ≡ true
+tables-right c = sym (c .before .right-tables .ensures) ∙ not-false (c .before .right-tables .result) (c .if3 .left)
+
+columns-right : (c : tie.Else4) → rightColumns (c .before .before .before .before .before .before .before .before .before .args .image .now) ≡ true
+columns-right c = sym (c .before .right-columns .ensures) ∙ not-false (c .before .right-columns .result) (c .if4 .left)
+
+entries-right : (c : tie.Else5) → rightEntries (c .before .before .before .before .before .before .before .before .before .before .before .args .image .now) ≡ true
+entries-right c = sym (c .before .right-entries .ensures) ∙ not-false (c .before .right-entries .result) (c .if5 .left)
+
+right-letters-requires : tie.Need-right-letters-requires
+right-letters-requires c κs = search needs
+
+returns : tie.Need-returns
+returns c = refused-4 (c .before .before .before .args .image .now) (sym (c .before .right-letters .ensures) ∙ not-true (c .before .right-letters .result) (c .if1 .taken))
+
+right-pairs-requires : tie.Need-right-pairs-requires
+right-pairs-requires c κs = search needs
+
+returns-2 : tie.Need-returns-2
+returns-2 c = refused-5 (c .before .before .before .before .before .args .image .now) (letters-right (c .before .before)) (sym (c .before .right-pairs .ensures) ∙ not-true (c .before .right-pairs .result) (c .if2 .taken))
+
+right-tables-requires : tie.Need-right-tables-requires
+right-tables-requires c κs = search needs
+
+returns-3 : tie.Need-returns-3
+returns-3 c = refused-6 (c .before .before .before .before .before .before .before .args .image .now) (letters-right (c .before .before .before .before)) (pairs-right (c .before .before)) (sym (c .before .right-tables .ensures) ∙ not-true (c .before .right-tables .result) (c .if3 .taken))
+
+right-columns-requires : tie.Need-right-columns-requires
+right-columns-requires c κs = (c .before .before .before .before .before .before .before .pre, of-true _ (tables-right c))
+
+returns-4 : tie.Need-returns-4
+returns-4 c = refused-7 (c .before .before .before .before .before .before .before .before .before .args .image .now) (letters-right (c .before .before .before .before .before .before)) (pairs-right (c .before .before .before .before)) (tables-right (c .before .before)) (sym (c .before .right-columns .ensures) ∙ not-true (c .before .right-columns .result) (c .if4 .taken))
+
+right-entries-requires : tie.Need-right-entries-requires
+right-entries-requires c κs = search needs
+
+returns-5 : tie.Need-returns-5
+returns-5 c = ap (λ (b : Bool). unless b 8 accepted) (sym (sym (c .before .right-entries .ensures) ∙ not-true (c .before .right-entries .result) (c .if5 .taken))) ∙ records-last (c .before .before .before .before .before .before .before .before .before .before .before .args .image .now) (letters-right (c .before .before .before .before .before .before .before .before)) (pairs-right (c .before .before .before .before .before .before)) (tables-right (c .before .before .before .before)) (columns-right (c .before .before))
+
+returns-6 : tie.Need-returns-6
+returns-6 c = ap (λ (b : Bool). unless b 8 accepted) (sym (entries-right c)) ∙ records-last (c .before .before .before .before .before .before .before .before .before .before .before .args .image .now) (letters-right (c .before .before .before .before .before .before .before .before)) (pairs-right (c .before .before .before .before .before .before)) (tables-right (c .before .before .before .before)) (columns-right (c .before .before))
+
+pub check-records-spec : {M : Type 1} → statement M
+check-records-spec =
+    tie.close
+    (tie.spec
+    right-letters-requires
+    returns
+    right-pairs-requires
+    returns-2
+    right-tables-requires
+    returns-3
+    right-columns-requires
+    returns-4
+    right-entries-requires
+    returns-5
+    returns-6)

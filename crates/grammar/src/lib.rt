@@ -1,0 +1,91 @@
+// The image check with its verdict, and the view of an entry's form with its companion.
+ghost use mathlib.Core.Path.{_≡_};
+ghost use Rattle.model.specs.Refusals.{imageVerdict};
+ghost use Rattle.model.specs.Beside.{formReply, viewed};
+ghost use Rattle.image.specs.Header.{headerOf};
+ghost use Rattle.image.specs.Laid.{Laid};
+ghost use Rattle.grammar.specs.Answers.{verdictOf, formReplyOf, recordsVerdict};
+
+use image::Header;
+
+pub enum Verdict {
+    Accepted,
+    Refused(u8),
+}
+
+// Tests 1 to 8 by number, each over the whole image before the next.
+pub fn check(image: &[u8]) -> Verdict
+    ensures { λ r. ⌜ verdictOf r ≡ imageVerdict (now (image .entry)) ⌝ }
+{
+    if !image::seal::right_length(image.len()) {
+        return Verdict::Refused(1);
+    }
+    if !layout::right_checks(image) {
+        return Verdict::Refused(2);
+    }
+    if !layout::right_layout(image) {
+        return Verdict::Refused(3);
+    }
+    check_records(image, image::read_header(image))
+}
+
+// Tests 4 to 8, on an image whose blocks are laid out.
+fn check_records(image: &[u8], h: Header) -> Verdict
+    requires { ⌜ Laid (now image) (headerOf h) ⌝ }
+    ensures { λ r. ⌜ verdictOf r ≡ recordsVerdict (now (image .entry)) ⌝ }
+{
+    if !letters::right_letters(image, h) {
+        return Verdict::Refused(4);
+    }
+    if !letters::right_pairs(image, h) {
+        return Verdict::Refused(5);
+    }
+    if !tables::right_tables(image, h) {
+        return Verdict::Refused(6);
+    }
+    if !tables::right_columns(image, h) {
+        return Verdict::Refused(7);
+    }
+    if !lexicon::right_entries(image, h) {
+        return Verdict::Refused(8);
+    }
+    Verdict::Accepted
+}
+
+pub enum FormReply {
+    Letters(usize),
+    Refused(u8),
+}
+
+// The length of an entry's form, or the refusal.
+pub fn form_reply(image: &[u8], e: usize) -> FormReply
+    ensures { λ r. ⌜ formReplyOf r ≡ formReply (now (image .entry)) e ⌝ }
+{
+    let verdict = check(image);
+    match verdict {
+        Verdict::Refused(k) => FormReply::Refused(k),
+        Verdict::Accepted => {
+            let h = image::read_header(image);
+            if h.entries <= e {
+                return FormReply::Refused(12);
+            }
+            FormReply::Letters(lexicon::form_length(image, h, e))
+        }
+    }
+}
+
+// The letters of an entry's form, as the part of the image where they stand; the empty part after a refusal.
+pub fn form_view(image: &[u8], e: usize) -> &[u8]
+    ensures { λ r. ⌜ now r ≡ viewed (now (image .entry)) e ⌝ }
+{
+    let reply = form_reply(image, e);
+    match reply {
+        FormReply::Refused(_) => &image[0..0],
+        FormReply::Letters(n) => {
+            let h = image::read_header(image);
+            let from = lexicon::entry_start(h, e) + 1;
+            let to = from + n;
+            &image[from..to]
+        }
+    }
+}

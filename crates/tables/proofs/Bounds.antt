@@ -1,0 +1,146 @@
+-- A table by its counts and its four ranges of bytes: the first that is out of bounds decides.
+use Prim.Native.Nat.{ℕ, zero, suc, _+_, _*_, _<_, _≤_}
+use native.Mathlib.Nat.{zero-add, suc-add, mul-le-mul}
+use mathlib.Core.Bool.{Bool, true, false, _&&_, _||_, not}
+use mathlib.Core.Path.{_≡_, refl, sym, ap, ap₂, _∙_}
+use mathlib.Core.List.{List, [], _∷_}
+use lib.ListN.{take, drop}
+use lib.Seq.{slice, take-nil}
+use lib.Dec.{leb, eqb, leb·suc-zero, eqb·suc-zero}
+use borrow.Author.Tests.{le-leb, lt-leb}
+use Rattle.model.specs.Lists.{every, within, isZero}
+use Rattle.model.proofs.Booleans.{and-out, of-true, within-out}
+use Rattle.model.specs.RuleTables.{columnCount, stateCount, marksAt, rowsAt, tableEnd, isTable}
+use Rattle.tables.specs.Bounds.{rightCounts, allowed}
+use Rattle.tables.proofs.Lists.{left-false, right-false, left-true, fails, passes}
+
+pub within-low : (low high n : ℕ) → n < low → within low high n ≡ false
+within-low low high n h = left-false (leb low n) (leb n high) (lt-leb low n h)
+
+pub within-high : (low high n : ℕ) → low ≤ n → within low high n ≡ leb n high
+within-high low high n h = left-true (leb low n) (leb n high) (le-leb low n h)
+
+module _ (most b : ℕ) where
+  pub allowed-most : (any : Bool) → b ≤ most → allowed any most b ≡ true
+  unfolding allowed
+  allowed-most true h = ap (λ (x : Bool). x || eqb b 255) (le-leb b most h)
+  allowed-most false h = le-leb b most h
+
+  pub allowed-any : (any : Bool) → any ≡ true → most < b → allowed any most b ≡ eqb b 255
+  unfolding allowed
+  allowed-any any e h = rw e (ap (λ (x : Bool). x || eqb b 255) (lt-leb b most h))
+
+  pub allowed-none : (any : Bool) → any ≡ false → most < b → allowed any most b ≡ false
+  unfolding allowed
+  allowed-none any e h = rw e (lt-leb b most h)
+
+-- a part by its start and length, and by its start and end
+take-drop : (m n : ℕ) (l : List ℕ) → slice m (m + n) l ≡ take n (drop m l)
+take-drop zero n l = ap (λ (k : ℕ). take k l) (zero-add n)
+take-drop (suc m) n [] = ap (drop (suc m)) (take-nil (suc m + n)) ∙ sym (take-nil n)
+take-drop (suc m) n (x ∷ l) = ap (λ (k : ℕ). slice (suc m) k (x ∷ l)) (suc-add m n) ∙ take-drop m n l
+
+-- at most 0 is 0
+only-zero : (b : ℕ) → leb b 0 ≡ isZero b
+only-zero zero = refl
+only-zero (suc b) = leb·suc-zero b ∙ sym (eqb·suc-zero b)
+
+every-zero : (l : List ℕ) → every (λ b. leb b 0) l ≡ every isZero l
+every-zero [] = refl
+every-zero (b ∷ l) = ap₂ (λ (x y : Bool). x && y) (only-zero b) (every-zero l)
+
+-- five tests in a row: one that fails, or all but the last pass
+module _ (a b c d e : Bool) where
+  first-fails : a ≡ false → (a && b && c && d && e) ≡ false
+  first-fails p = ap (λ (x : Bool). x && b && c && d && e) p
+
+  second-fails : b ≡ false → (a && b && c && d && e) ≡ false
+  second-fails p = ap (λ (x : Bool). x && c && d && e) (right-false a b p)
+
+  third-fails : c ≡ false → (a && b && c && d && e) ≡ false
+  third-fails p = ap (λ (x : Bool). x && d && e) (right-false (a && b) c p)
+
+  fourth-fails : d ≡ false → (a && b && c && d && e) ≡ false
+  fourth-fails p = ap (λ (x : Bool). x && e) (right-false (a && b && c) d p)
+
+  last-decides : a ≡ true → b ≡ true → c ≡ true → d ≡ true → (a && b && c && d && e) ≡ e
+  last-decides p q r s = ap (λ (x : Bool). x && b && c && d && e) p ∙ ap (λ (x : Bool). x && c && d && e) q ∙ ap (λ (x : Bool). x && d && e) r ∙ ap (λ (x : Bool). x && e) s
+
+module _ (t : List ℕ) (letters : ℕ) where
+  abbrev pub counts : Bool
+  counts = rightCounts (columnCount t) (stateCount t)
+
+  abbrev pub sides : Bool
+  sides = every (λ b. leb b letters || eqb b 255) (take (2 * columnCount t) (drop 6 t))
+
+  abbrev pub marks : Bool
+  marks = every (λ b. leb b 1) (take (stateCount t) (drop (marksAt t) t))
+
+  abbrev pub nexts : Bool
+  nexts = every (λ b. leb b (stateCount t)) (take (columnCount t * stateCount t) (drop (rowsAt t) t))
+
+  abbrev pub rest : Bool
+  rest = every isZero (drop (tableEnd t) (take 510 t))
+
+  pub table-is : isTable t letters ≡ (counts && sides && marks && nexts && rest)
+  unfolding isTable
+  table-is = refl
+
+  -- by the counts that were read
+  module _ (c s : ℕ) (C : c ≡ columnCount t) (S : s ≡ stateCount t) where
+    counts-are : rightCounts c s ≡ counts
+    counts-are = rw (C, S)
+
+    sides-are : every (allowed true letters) (slice 6 (6 + 2 * c) t) ≡ sides
+    unfolding allowed
+    sides-are = rw C (ap (every (λ b. leb b letters || eqb b 255)) (take-drop 6 (2 * columnCount t) t))
+
+    marks-are : every (allowed false 1) (slice (6 + 2 * c) (6 + 2 * c + s) t) ≡ marks
+    unfolding allowed
+    marks-are = rw (C, S) (ap (every (λ b. leb b 1)) (take-drop (marksAt t) (stateCount t) t))
+
+    nexts-are : every (allowed false s) (slice (6 + 2 * c + s) (6 + 2 * c + s + c * s) t) ≡ nexts
+    unfolding allowed
+    nexts-are = rw (C, S) (ap (every (λ b. leb b (stateCount t))) (take-drop (rowsAt t) (columnCount t * stateCount t) t))
+
+    rest-is : every (allowed false 0) (slice (6 + 2 * c + s + c * s) 510 t) ≡ rest
+    unfolding allowed
+    rest-is = rw (C, S) (every-zero (slice (tableEnd t) 510 t))
+
+    -- a callee's answer that fails
+    pub counts-fail : (r : Bool) → r ≡ rightCounts c s → not r ≡ true → isTable t letters ≡ false
+    counts-fail r q k = table-is ∙ first-fails counts sides marks nexts rest (fails r (q ∙ counts-are) k)
+
+    pub sides-fail : (r : Bool) → r ≡ every (allowed true letters) (slice 6 (6 + 2 * c) t) → not r ≡ true → isTable t letters ≡ false
+    sides-fail r q k = table-is ∙ second-fails counts sides marks nexts rest (fails r (q ∙ sides-are) k)
+
+    pub marks-fail : (r : Bool) → r ≡ every (allowed false 1) (slice (6 + 2 * c) (6 + 2 * c + s) t) → not r ≡ true → isTable t letters ≡ false
+    marks-fail r q k = table-is ∙ third-fails counts sides marks nexts rest (fails r (q ∙ marks-are) k)
+
+    pub nexts-fail : (r : Bool) → r ≡ every (allowed false s) (slice (6 + 2 * c + s) (6 + 2 * c + s + c * s) t) → not r ≡ true → isTable t letters ≡ false
+    nexts-fail r q k = table-is ∙ fourth-fails counts sides marks nexts rest (fails r (q ∙ nexts-are) k)
+
+    -- and those that pass
+    pub counts-pass : (r : Bool) → r ≡ rightCounts c s → not r ≡ false → counts ≡ true
+    counts-pass r q k = passes r (q ∙ counts-are) k
+
+    pub sides-pass : (r : Bool) → r ≡ every (allowed true letters) (slice 6 (6 + 2 * c) t) → not r ≡ false → sides ≡ true
+    sides-pass r q k = passes r (q ∙ sides-are) k
+
+    pub marks-pass : (r : Bool) → r ≡ every (allowed false 1) (slice (6 + 2 * c) (6 + 2 * c + s) t) → not r ≡ false → marks ≡ true
+    marks-pass r q k = passes r (q ∙ marks-are) k
+
+    pub nexts-pass : (r : Bool) → r ≡ every (allowed false s) (slice (6 + 2 * c + s) (6 + 2 * c + s + c * s) t) → not r ≡ false → nexts ≡ true
+    nexts-pass r q k = passes r (q ∙ nexts-are) k
+
+    pub rest-decides : counts ≡ true → sides ≡ true → marks ≡ true → nexts ≡ true
+        → (r : Bool) → r ≡ every (allowed false 0) (slice (6 + 2 * c + s + c * s) 510 t) → r ≡ isTable t letters
+    rest-decides p q u v r e = e ∙ rest-is ∙ sym (table-is ∙ last-decides counts sides marks nexts rest p q u v)
+
+-- counts in range keep the table before the check
+pub counts-bound : (c s : ℕ) → rightCounts c s ≡ true → (1 ≤ c) × (c ≤ 16) × (1 ≤ s) × (s ≤ 24) × (c * s ≤ 384)
+counts-bound c s e =
+    let u = and-out (within 1 16 c) (within 1 24 s) (of-true (rightCounts c s) e) in
+    let v = within-out 1 16 c (u .0) in
+    let w = within-out 1 24 s (u .1) in
+    (v .0, v .1, w .0, w .1, mul-le-mul {n₁ = c} {m₁ = s} {n₂ = 16} {m₂ = 24} (v .1) (w .1))

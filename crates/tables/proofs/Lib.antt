@@ -1,0 +1,6 @@
+pub mod Lists
+pub mod Bounds
+pub mod Pairs
+pub mod Choice
+pub mod Breadths
+pub mod Laws

@@ -1,0 +1,127 @@
+-- Laws of tests over what a loop has passed and what is left: parts of a list, and numbers below a bound.
+use Prim.Native.Nat.{ℕ, zero, suc, _+_, _<_, _≤_}
+use native.Mathlib.Nat.{zero-add, add-zero, add-assoc, le-of-lt}
+use native.Mathlib.Numerals.{add-one}
+use native.Mathlib.Omega.{arith}
+use native.Mathlib.Decide.{ℕ-discrete}
+use mathlib.Core.Bool.{Bool, true, false, _&&_, not, cond}
+use mathlib.Core.Path.{_≡_, refl, sym, ap, _∙_}
+use mathlib.Core.List.{List, [], _∷_, _++_}
+use lib.ListN.{length, getD, take, drop, set}
+use lib.Seq.{slice, slice-cons, take-suc, drop-cons, set-at, append-snoc, length-take-le}
+use lib.Dec.{T}
+use borrow.Author.Tests.{not-true, not-false}
+use Rattle.model.specs.Lists.{below, every, count}
+use Rattle.model.proofs.Booleans.{and-out}
+use Rattle.model.proofs.Lists.{every-append}
+
+pub left-false : (a b : Bool) → a ≡ false → (a && b) ≡ false
+left-false a b e = ap (λ (x : Bool). x && b) e
+
+pub right-false : (a b : Bool) → b ≡ false → (a && b) ≡ false
+right-false true b e = e
+right-false false b e = refl
+
+pub left-true : (a b : Bool) → a ≡ true → (a && b) ≡ b
+left-true a b e = ap (λ (x : Bool). x && b) e
+
+and-true : (a : Bool) → (a && true) ≡ a
+and-true true = refl
+and-true false = refl
+
+-- what a callee's answer says, where it is negated
+pub fails : {b : Bool} (r : Bool) → r ≡ b → not r ≡ true → b ≡ false
+fails r e k = sym e ∙ not-true r k
+
+pub passes : {b : Bool} (r : Bool) → r ≡ b → not r ≡ false → b ≡ true
+passes r e k = sym e ∙ not-false r k
+
+module _ {A : Type 0} (f : A → Bool) (from to : ℕ) (l : List A) (d : A) (h : from < to) (k : to ≤ length l) where
+  -- the first of a part passes: the rest decides
+  pub every-slice-more : f (getD l from d) ≡ true → every f (slice from to l) ≡ every f (slice (from + 1) to l)
+  every-slice-more e =
+      ap (every f) (slice-cons from to l d h k)
+      ∙ left-true (f (getD l from d)) (every f (slice (suc from) to l)) e
+      ∙ ap (λ (n : ℕ). every f (slice n to l)) (sym (add-one from))
+
+  pub every-slice-fails : f (getD l from d) ≡ false → every f (slice from to l) ≡ false
+  every-slice-fails e = ap (every f) (slice-cons from to l d h k) ∙ left-false (f (getD l from d)) (every f (slice (suc from) to l)) e
+
+module _ (f : ℕ → Bool) where
+  every-below-suc : (n : ℕ) → every f (below (suc n)) ≡ (every f (below n) && every f (n ∷ []))
+  every-below-suc n = every-append f (below n) (n ∷ [])
+
+  -- a number more passes
+  pub every-below-more : (n : ℕ) → every f (below n) ≡ true → f n ≡ true → every f (below (n + 1)) ≡ true
+  every-below-more n e k =
+      ap (λ (m : ℕ). every f (below m)) (add-one n)
+      ∙ every-below-suc n
+      ∙ left-true (every f (below n)) (every f (n ∷ [])) e
+      ∙ left-true (f n) true k
+
+  pub every-below-fails : (n k : ℕ) → k < n → f k ≡ false → every f (below n) ≡ false
+  every-below-fails zero k h e = absurd (omega arith)
+  every-below-fails (suc n) k h e = every-below-suc n ∙ go (ℕ-discrete k n) (λ l. every-below-fails n k l e)
+    where
+      go : Dec (k ≡ n) → (k < n → every f (below n) ≡ false) → (every f (below n) && every f (n ∷ [])) ≡ false
+      go (yes q) r = right-false (every f (below n)) (every f (n ∷ [])) (left-false (f n) true (ap f (sym q) ∙ e))
+      go (no q) r = left-false (every f (below n)) (every f (n ∷ [])) (r (omega arith))
+
+-- an element of a list whose every element passes
+module _ {A : Type 0} (f : A → Bool) (d : A) where
+  pub every-getD : (l : List A) (i : ℕ) → i < length l → T (every f l) → T (f (getD l i d))
+  every-getD [] i h t = absurd (omega arith)
+  every-getD (x ∷ l) zero h t = and-out (f x) (every f l) t .0
+  every-getD (x ∷ l) (suc i) h t = every-getD l i (omega arith) (and-out (f x) (every f l) t .1)
+
+  -- and past its end, where what stands there passes
+  pub every-getD-any : (l : List A) (i : ℕ) → T (f d) → T (every f l) → T (f (getD l i d))
+  every-getD-any [] i h t = h
+  every-getD-any (x ∷ l) zero h t = and-out (f x) (every f l) t .0
+  every-getD-any (x ∷ l) (suc i) h t = every-getD-any l i h (and-out (f x) (every f l) t .1)
+
+-- an element more of a list's beginning
+module _ {A : Type 0} (f : A → Bool) where
+  count-append : (xs ys : List A) → count f (xs ++ ys) ≡ count f xs + count f ys
+  count-append [] ys = sym (zero-add (count f ys))
+  count-append (x ∷ xs) ys = ap (λ (n : ℕ). cond (f x) 1 0 + n) (count-append xs ys) ∙ sym (add-assoc (cond (f x) 1 0) (count f xs) (count f ys))
+
+  pub count-length : (l : List A) → count f l ≤ length l
+  count-length [] = omega arith
+  count-length (x ∷ l) = go (f x) (count-length l)
+    where
+      go : (b : Bool) → count f l ≤ length l → cond b 1 0 + count f l ≤ suc (length l)
+      go true h = omega arith
+      go false h = omega arith
+
+  module _ (l : List A) (p : ℕ) (d : A) (h : p < length l) where
+    take-more : take (p + 1) l ≡ take p l ++ (getD l p d ∷ [])
+    take-more = ap (λ (n : ℕ). take n l) (add-one p) ∙ take-suc l p d h
+
+    count-next : count f (take (p + 1) l) ≡ count f (take p l) + (cond (f (getD l p d)) 1 0 + 0)
+    count-next = ap (count f) take-more ∙ count-append (take p l) (getD l p d ∷ [])
+
+    pub count-more : f (getD l p d) ≡ true → count f (take (p + 1) l) ≡ count f (take p l) + 1
+    count-more e = count-next ∙ ap (λ (b : Bool). count f (take p l) + (cond b 1 0 + 0)) e
+
+    pub count-same : f (getD l p d) ≡ false → count f (take (p + 1) l) ≡ count f (take p l)
+    count-same e = count-next ∙ ap (λ (b : Bool). count f (take p l) + (cond b 1 0 + 0)) e ∙ add-zero (count f (take p l))
+
+    every-next : every f (take (p + 1) l) ≡ (every f (take p l) && every f (getD l p d ∷ []))
+    every-next = ap (every f) take-more ∙ every-append f (take p l) (getD l p d ∷ [])
+
+    pub every-take-more : f (getD l p d) ≡ true → every f (take (p + 1) l) ≡ every f (take p l)
+    every-take-more e = every-next ∙ ap (λ (b : Bool). every f (take p l) && (b && true)) e ∙ and-true (every f (take p l))
+
+    pub every-take-fails : f (getD l p d) ≡ false → every f (take (p + 1) l) ≡ false
+    every-take-fails e = every-next ∙ right-false (every f (take p l)) (every f (getD l p d ∷ [])) (left-false (f (getD l p d)) true e)
+
+-- a list written over the front of another, an element more
+module _ {A : Type 0} where
+  pub front-more : (s d : List A) (p : ℕ) (z : A) → p < length s → p < length d → set (take p s ++ drop p d) p (getD s p z) ≡ take (p + 1) s ++ drop (p + 1) d
+  front-more s d p z h k =
+      ap (λ (l : List A). set (take p s ++ l) p (getD s p z)) (drop-cons d p z k)
+      ∙ set-at (take p s) (getD d p z) (drop (suc p) d) (getD s p z) p (length-take-le p s (le-of-lt h))
+      ∙ sym (append-snoc (take p s) (getD s p z) (drop (suc p) d))
+      ∙ ap (λ (l : List A). l ++ drop (suc p) d) (sym (take-suc s p z h))
+      ∙ ap (λ (n : ℕ). take n s ++ drop n d) (sym (add-one p))

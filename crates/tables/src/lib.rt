@@ -1,0 +1,102 @@
+// Rule tables: the tests 6 and 7 of the image check, and the column that each pair takes.
+mod columns;
+mod range;
+pub mod sides;
+
+ghost use mathlib.Core.Path.{_≡_};
+ghost use mathlib.Core.List.{_++_};
+ghost use Prim.Native.Nat.{_*_, _+_, _<_, _≤_};
+ghost use lib.Dec.{T, ltb};
+ghost use lib.ListN.{length, drop};
+ghost use Rattle.model.specs.Lists.{every};
+ghost use Rattle.model.specs.RuleTables.{table, isTable, columnCount, columnsOf};
+ghost use Rattle.model.specs.Refusals.{rightTables, rightColumns};
+ghost use Rattle.image.specs.Header.{headerOf};
+ghost use Rattle.image.specs.Laid.{Laid};
+
+// What test 6 asks of one table.
+fn is_table(t: &[u8], letters: usize) -> bool
+    requires { ⌜ 510 ≤ length (now t) ⌝ }
+    ensures { λ r. ⌜ r ≡ isTable (now (t .entry)) letters ⌝ }
+{
+    let columns = image::byte_at(t, 4);
+    let states = image::byte_at(t, 5);
+    if !range::right_counts(columns, states) {
+        return false;
+    }
+    let marks = 6 + 2 * columns;
+    if !range::all_allowed(t, 6, marks, letters, true) {
+        return false;
+    }
+    let rows = marks + states;
+    if !range::all_allowed(t, marks, rows, 1, false) {
+        return false;
+    }
+    let end = rows + columns * states;
+    if !range::all_allowed(t, rows, end, states, false) {
+        return false;
+    }
+    range::all_allowed(t, end, 510, 0, false)
+}
+
+// The block of the table of rule r.
+pub fn table_at(image: &[u8], r: usize) -> &[u8]
+    requires { ⌜ 512 * (4 + r) ≤ length (now image) ⌝ }
+    ensures { λ t. ⌜ (now t ≡ table (now (image .entry)) r) × (length (now t) ≡ 512) ⌝ }
+{
+    let from = 512 * (3 + r);
+    let to = from + 512;
+    &image[from..to]
+}
+
+// Test 6 of the image check.
+pub fn right_tables(image: &[u8], h: image::Header) -> bool
+    requires { ⌜ Laid (now image) (headerOf h) ⌝ }
+    ensures { λ r. ⌜ r ≡ rightTables (now (image .entry)) ⌝ }
+{
+    let letters = h.letters;
+    let rules = h.rules;
+    let mut r = 0;
+    while r < rules {
+        if !is_table(table_at(image, r), letters) {
+            return false;
+        }
+        r += 1;
+    }
+    true
+}
+
+// The columns that rule r takes for pair 0, 1, .. P-1 and the boundary pair, written to the front of `out`; whether every one of them
+// is a column. Test 7 and an index of columns are both made of this.
+pub fn choose_columns(image: &[u8], h: image::Header, r: usize, out: &mut [u8]) -> bool
+    requires { ⌜ Laid (now image) (headerOf h) ⌝ }
+    requires { ⌜ r < headerOf h .rules ⌝ }
+    requires { ⌜ T (rightTables (now image)) ⌝ }
+    requires { ⌜ headerOf h .pairs + 1 ≤ length (now out) ⌝ }
+    ensures { λ _. ⌜ now (out .exit) ≡ columnsOf (now (image .entry)) r ++ drop (headerOf h .pairs + 1) (now (out .entry)) ⌝ }
+    ensures { λ ok. ⌜ ok ≡ every (λ c. ltb c (columnCount (table (now (image .entry)) r))) (columnsOf (now (image .entry)) r) ⌝ }
+{
+    let pairs = h.pairs;
+    let t = table_at(image, r);
+    let columns = image::byte_at(t, 4);
+    let breadths = columns::breadths_of(image, pairs, t, columns);
+    columns::take_columns(image, pairs, t, columns, &breadths, out)
+}
+
+// Test 7 of the image check.
+pub fn right_columns(image: &[u8], h: image::Header) -> bool
+    requires { ⌜ Laid (now image) (headerOf h) ⌝ }
+    requires { ⌜ T (rightTables (now image)) ⌝ }
+    ensures { λ r. ⌜ r ≡ rightColumns (now (image .entry)) ⌝ }
+{
+    let rules = h.rules;
+    let mut chosen = [0u8; 256];
+    let mut r = 0;
+    while r < rules {
+        if !choose_columns(image, h, r, &mut chosen) {
+            return false;
+        }
+        r += 1;
+    }
+    true
+}

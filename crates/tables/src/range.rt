@@ -1,0 +1,55 @@
+// Bytes of a table that must be within a bound.
+ghost use mathlib.Core.Path.{_≡_};
+ghost use Prim.Native.Nat.{_≤_};
+ghost use lib.ListN.{length};
+ghost use lib.Seq.{slice};
+ghost use Rattle.model.specs.Lists.{every, within};
+ghost use Rattle.tables.specs.Bounds.{rightCounts, allowed};
+
+// A number from `low` to `high`.
+fn is_within(low: usize, high: usize, n: usize) -> bool
+    ensures { λ r. ⌜ r ≡ within low high n ⌝ }
+{
+    if n < low {
+        return false;
+    }
+    n <= high
+}
+
+// A table's column count and state count.
+pub fn right_counts(columns: usize, states: usize) -> bool
+    ensures { λ r. ⌜ r ≡ rightCounts columns states ⌝ }
+{
+    if !is_within(1, 16, columns) {
+        return false;
+    }
+    is_within(1, 24, states)
+}
+
+// A byte that is at most `most`, or 255 where `any` allows it.
+fn is_allowed(b: usize, most: usize, any: bool) -> bool
+    ensures { λ r. ⌜ r ≡ allowed any most b ⌝ }
+{
+    if b <= most {
+        return true;
+    }
+    if any {
+        return b == 255;
+    }
+    false
+}
+
+// Every byte from `from` to before `to` is such a byte.
+pub fn all_allowed(bytes: &[u8], from: usize, to: usize, most: usize, any: bool) -> bool
+    requires { ⌜ (from ≤ to) × (to ≤ length (now bytes)) ⌝ }
+    ensures { λ r. ⌜ r ≡ every (allowed any most) (slice from to (now (bytes .entry))) ⌝ }
+{
+    let mut i = from;
+    while i < to {
+        if !is_allowed(image::byte_at(bytes, i), most, any) {
+            return false;
+        }
+        i += 1;
+    }
+    true
+}
