@@ -3,7 +3,7 @@ use Prim.Native.Nat.{ℕ, _+_, _<_, _≤_}
 use mathlib.Core.Bool.{Bool, true, false}
 use mathlib.Core.Path.{_≡_, refl, sym, ap, _∙_}
 use mathlib.Core.List.{List, [], _∷_, _++_}
-use lib.ListN.{length, take, drop}
+use lib.ListN.{length, take, drop, length-take, length-drop}
 use lib.Dec.{ltb}
 use borrow.Author.Tests.{lt-ltb, le-ltb, ltb-true, ltb-false}
 use native.Mathlib.Omega.{arith}
@@ -154,3 +154,14 @@ module _ (image : List ℕ) (e n : ℕ) where
       let m : formLength (entry image e) ≡ n = cc in
       let short = entries.form-short image h (a .laid) (of-true (rightEntries image) (a .entries-right)) e inside in
       record { some = laid-some image h (a .laid); entry-few = omega (arith, a .laid .limits .entries-most); rules-few = a .laid .limits .rules-most; inside = omega (arith, entries.form-inside image h (a .laid) e inside short) }
+
+-- the view and its companion agree: the letters of the length told, and none after a refusal
+pub record Agree (reply : beside.FormReply) (letters : List ℕ) : Type 0 where
+  pub told : (n : ℕ) → reply ≡ beside.FormReply.letters n → length letters ≡ n
+  pub refused-none : (k : ℕ) → reply ≡ beside.FormReply.refused k → letters ≡ []
+
+pub view-agrees : (image : List ℕ) (e : ℕ) → Agree (formReply image e) (viewed image e)
+view-agrees image e = record {
+  told = λ n f. let v = viewed-there image e n f in ap length (sym (view-letters image e n f)) ∙ omega (arith, v .inside, length-take n (drop (formStart image e) image), length-drop (formStart image e) image);
+  refused-none = λ k f. sym (view-none image e k f);
+}

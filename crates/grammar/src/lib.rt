@@ -5,7 +5,6 @@ ghost use Rattle.model.specs.Beside.{formReply, viewed};
 ghost use Rattle.image.specs.Header.{headerOf};
 ghost use Rattle.image.specs.Laid.{Laid};
 ghost use Rattle.grammar.specs.Answers.{verdictOf, formReplyOf, recordsVerdict};
-
 use image::Header;
 
 pub enum Verdict {

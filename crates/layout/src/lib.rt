@@ -10,11 +10,11 @@ ghost use Rattle.model.specs.Refusals.{rightLength, rightChecks, rightLayout};
 ghost use Rattle.image.specs.Header.{headerOf};
 ghost use Rattle.image.specs.Laid.{Limited};
 ghost use Rattle.layout.specs.Kinds.{inAll, firstBlock};
-
 use image::Header;
 
 // By kind: the width of a record, and how many records a block holds at the most.
 const WIDTH: [usize; 7] = [0, 12, 2, 2, 506, 2, 16];
+
 const PER_BLOCK: [usize; 7] = [0, 42, 253, 253, 1, 253, 31];
 
 fn right_block(block: &[u8], k: usize) -> bool
@@ -162,9 +162,9 @@ fn all_laid_out(image: &[u8], h: Header) -> bool
     requires { ⌜ (rightLength (now image) ≡ true) × Limited (headerOf h) ⌝ }
     ensures { λ r. ⌜ r ≡ every (λ k. laidOut (headerOf h) k (block (now (image .entry)) k)) (below (blockCount (now (image .entry)))) ⌝ }
 {
-    let blocks = image.len() / 512;
+    let total = image.len() / 512;
     let mut k: usize = 0;
-    while k < blocks {
+    while k < total {
         let from = 512 * k;
         let to = from + 512;
         if !laid_out(&image[from..to], h, k) {

@@ -4,3 +4,4 @@ pub mod Pairs
 pub mod Choice
 pub mod Breadths
 pub mod Laws
+pub mod Unique

@@ -1,13 +1,11 @@
 // The two sides of a pair and of a column. A letter of one level is never compared with a letter of the other.
+use letters::Lexical;
+use letters::Surface;
 ghost use mathlib.Core.Path.{_≡_};
 ghost use Prim.Native.Nat.{_+_, _<_, _≤_};
 ghost use lib.ListN.{length};
 ghost use Rattle.model.specs.RuleTables.{matchesSide, matches, column};
 ghost use Rattle.tables.specs.Sides.{sidesOf, sidesFrom, pairNumber, Paired};
-
-pub struct Lexical(pub u8);
-
-pub struct Surface(pub u8);
 
 pub struct Sides {
     pub lexical: Lexical,

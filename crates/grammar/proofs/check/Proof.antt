@@ -47,7 +47,7 @@ read-header-requires : tie.Need-read-header-requires
 read-header-requires c κs = right-some (c .before .before .before .before .before .before .before .args .image .now) (length-right (c .before .before .before .before))
 
 check-records-requires : tie.Need-check-records-requires
-check-records-requires c κs = 
+check-records-requires c κs =
     let image = c .before .before .before .before .before .before .before .before .args .image .now in
     subst (Laid image) (sym (c .read-header .ensures)) (laid image (length-right (c .before .before .before .before .before)) (layout-right (c .before)))
 

@@ -34,25 +34,25 @@ read-header-requires : tie.Need-read-header-requires
 read-header-requires c κs = laid-some (c .before .before .before .before .args .image .now) (header (c .before .before .before .before .args .image .now)) (accepted-image (c .before .before .before .before .args .image .now) (judged c) .laid)
 
 returns : tie.Need-returns
-returns c = 
+returns c =
     let read = c .before .before in
     let start = read .before .before .before .before .before in
     form-missing (start .args .image .now) (start .args .e) (judged (read .before)) (omega (arith, entries-are read))
 
 form-length-requires : tie.Need-form-length-requires
-form-length-requires c κs = 
+form-length-requires c κs =
     let read = c .before .before in
     let start = read .before .before .before .before .before in
     (subst (Laid (start .args .image .now)) (sym (read .read-header .ensures)) (accepted-image (start .args .image .now) (judged (read .before)) .laid), c .if1 .left)
 
 returns-2 : tie.Need-returns-2
-returns-2 c = 
+returns-2 c =
     let told = c .before in
     let start = told .before .before .before .before in
     form-refused (start .args .image .now) (start .args .e) (told .verdict .given .0 .0) (sym (told .before .before .check .ensures) ∙ ap verdictOf (told .verdict .given .1))
 
 returns-3 : tie.Need-returns-3
-returns-3 c = 
+returns-3 c =
     let read = c .before .before .before in
     let start = read .before .before .before .before .before in
     ap beside.FormReply.letters (c .form-length .ensures .0) ∙ form-there (start .args .image .now) (start .args .e) (judged (read .before)) (omega (arith, entries-are read, c .before .if1 .left))

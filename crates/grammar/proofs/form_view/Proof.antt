@@ -67,13 +67,13 @@ part-result-end-2 : tie.Need-part-result-end-2
 part-result-end-2 c = let v = there (c .before .before) in omega (arith, v .inside, starts c)
 
 returns : tie.Need-returns
-returns c = 
+returns c =
     let told = c .before in
     let start = told .before .before .before .before in
     view-none (start .args .image .now) (start .args .e) _ (sym (told .before .before .form-reply .ensures) ∙ ap formReplyOf (told .enum-told .given .1))
 
 returns-2 : tie.Need-returns-2
-returns-2 c = 
+returns-2 c =
     let begun = c .before in
     let told = begun .before .before in
     let start = told .before .before .before .before .before in

@@ -19,10 +19,10 @@ abbrev right : List ℕ → Header → ℕ → Bool
 right image h k = laidOut h k (block image k)
 
 abbrev Inv-loop : tie.InvT-loop
-Inv-loop image h blocks k₀ k = (k ≤ blocks) × (every (right image (headerOf h)) (below k) ≡ true)
+Inv-loop image h total k₀ k = (k ≤ total) × (every (right image (headerOf h)) (below k) ≡ true)
 
 abbrev μ-loop : tie.MeasureT-loop
-μ-loop image h blocks k₀ k = blocks - k
+μ-loop image h total k₀ k = total - k
 
 -- what a turn's call says is of block k
 answer : (c : tie.After-laid-out Inv-loop μ-loop) → c .laid-out .result ≡ right (c .before .before .before .before .before .args .image .now) (headerOf (c .before .before .before .before .before .args .h)) (c .before .before .before .loop .k)
@@ -51,7 +51,7 @@ part-laid-out-end : tie.Need-part-laid-out-end Inv-loop μ-loop
 part-laid-out-end c = search needs
 
 laid-out-requires : tie.Need-laid-out-requires Inv-loop μ-loop
-laid-out-requires c κs = 
+laid-out-requires c κs =
     let at = c .before .before in
     let start = at .before .before in
     let image = start .args .image .now in
@@ -60,7 +60,7 @@ laid-out-requires c κs =
     (omega (arith, length-take (512 * at .loop .k + 512 - 512 * at .loop .k) (drop (512 * at .loop .k) image), length-drop (512 * at .loop .k) image), (start .pre .1, omega arith))
 
 returns : tie.Need-returns Inv-loop μ-loop
-returns c = 
+returns c =
     let at = c .before .before .before .before in
     let start = at .before .before in
     let image = start .args .image .now in
@@ -73,13 +73,13 @@ loop-less : tie.Need-loop-less Inv-loop μ-loop
 loop-less c = search needs
 
 loop-again : tie.Need-loop-again Inv-loop μ-loop
-loop-again c = 
+loop-again c =
     let at = c .before .before .before .before in
     let start = at .before .before in
     (omega arith, every-more (right (start .args .image .now) (headerOf (start .args .h))) (at .loop .k) (at .loop .inv .1) (sym (answer (c .before)) ∙ not-false (c .before .laid-out .result) (c .if1 .left)))
 
 returns-2 : tie.Need-returns-2 Inv-loop μ-loop
-returns-2 c = 
+returns-2 c =
     let at = c .before in
     let start = at .before .before in
     let image = start .args .image .now in

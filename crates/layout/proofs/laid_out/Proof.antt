@@ -27,7 +27,7 @@ byte-at-requires : tie.Need-byte-at-requires
 byte-at-requires c κs = search needs
 
 returns : tie.Need-returns
-returns c = 
+returns c =
     let start = c .before .before .before .before in
     sym (laid-kind (headerOf (start .args .h)) (start .args .k) (start .args .block .now) (λ e. c .if1 .taken (c .before .byte-at .ensures .0 ∙ e ∙ sym (c .before .before .kind-at .ensures .0))))
 
@@ -38,7 +38,7 @@ byte-at-requires-2 : tie.Need-byte-at-requires-2
 byte-at-requires-2 c κs = search needs
 
 returns-2 : tie.Need-returns-2
-returns-2 c = 
+returns-2 c =
     let one = c .before .before .before in
     let start = one .before .before .before .before in
     sym (laid-count (headerOf (start .args .h)) (start .args .k) (start .args .block .now) (kind one) (λ e. c .if2 .taken (c .before .byte-at2 .ensures .0 ∙ e ∙ sym (c .before .before .records-at .ensures .0))))
@@ -62,7 +62,7 @@ zeros-requires c κs = search needs
 
 returns-3 : tie.Need-returns-3
 unfolding recordWidth
-returns-3 c = 
+returns-3 c =
     let two = c .before in
     let one = two .before .before .before in
     let start = one .before .before .before .before in

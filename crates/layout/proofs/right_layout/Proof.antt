@@ -18,7 +18,7 @@ read-header-requires : tie.Need-read-header-requires
 read-header-requires c κs = right-some (c .before .args .image .now) (c .before .pre)
 
 returns : tie.Need-returns
-returns c = 
+returns c =
     let header = c .before .before in
     sym (layout-form (header .before .before .args .image .now) (headerOf (header .read-header .result)) (header .read-header .ensures) (c .if1 .taken))
 
@@ -26,7 +26,7 @@ within-limits-requires : tie.Need-within-limits-requires
 within-limits-requires c κs = search needs
 
 returns-2 : tie.Need-returns-2
-returns-2 c = 
+returns-2 c =
     let one = c .before .before in
     let header = one .before .before in
     sym (layout-limits (header .before .before .args .image .now) (headerOf (header .read-header .result)) (header .read-header .ensures) (one .if1 .left) (sym (c .before .within-limits .ensures) ∙ not-true (c .before .within-limits .result) (c .if2 .taken)))
@@ -35,7 +35,7 @@ block-total-requires : tie.Need-block-total-requires
 block-total-requires c κs = limited (headerOf (c .before .before .before .before .read-header .result)) (in-limits c)
 
 returns-3 : tie.Need-returns-3
-returns-3 c = 
+returns-3 c =
     let two = c .before .before in
     let one = two .before .before in
     let header = one .before .before in
@@ -45,7 +45,7 @@ all-laid-out-requires : tie.Need-all-laid-out-requires
 all-laid-out-requires c κs = (c .before .before .before .before .before .before .before .before .pre, limited (headerOf (c .before .before .before .before .before .before .read-header .result)) (in-limits (c .before .before)))
 
 returns-4 : tie.Need-returns-4
-returns-4 c = 
+returns-4 c =
     let three = c .before in
     let two = three .before .before in
     let one = two .before .before in

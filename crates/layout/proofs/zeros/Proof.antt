@@ -38,7 +38,7 @@ byte-at-requires : tie.Need-byte-at-requires Inv-loop μ-loop
 byte-at-requires c κs = search needs
 
 returns : tie.Need-returns Inv-loop μ-loop
-returns c = 
+returns c =
     let at = c .before .before in
     let l = take (at .before .before .before .args .to) (at .before .before .before .args .block .now) in
     sym (sym (at .before .loop .inv) ∙ every-fails l 0 (at .before .loop .i) (within at) isZero (ne-eqb _ 0 (λ e. c .if1 .taken (c .before .byte-at .ensures .0 ∙ sym (read at) ∙ e))))
@@ -50,13 +50,13 @@ loop-less : tie.Need-loop-less Inv-loop μ-loop
 loop-less c = search needs
 
 loop-again : tie.Need-loop-again Inv-loop μ-loop
-loop-again c = 
+loop-again c =
     let at = c .before .before in
     let l = take (at .before .before .before .args .to) (at .before .before .before .args .block .now) in
     sym (every-on l 0 (at .before .loop .i) (within at) isZero (eq-eqb _ 0 (read at ∙ sym (c .before .byte-at .ensures .0) ∙ c .if1 .left))) ∙ at .before .loop .inv
 
 returns-2 : tie.Need-returns-2 Inv-loop μ-loop
-returns-2 c = 
+returns-2 c =
     let at = c .before in
     let l = take (at .before .before .args .to) (at .before .before .args .block .now) in
     sym (sym (at .loop .inv) ∙ every-done l (at .loop .i) (omega (arith, length-take (at .before .before .args .to) (at .before .before .args .block .now))) isZero)
