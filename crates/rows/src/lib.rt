@@ -1,0 +1,162 @@
+// What a search carries of a reading, the rows that it puts into a lent buffer, and the reply.
+ghost use mathlib.Core.Path.{_≡_};
+ghost use mathlib.Core.List.{[]};
+ghost use Prim.Native.Nat.{_+_, _*_, _/_, _%_, _^_, _<_, _≤_};
+ghost use lib.ListN.{length, set, getD};
+ghost use Rattle.model.specs.Rows.{padded, rowBytes, rowCount, replyNumber};
+ghost use Rattle.model.specs.Demand.{replyRows};
+ghost use Rattle.rows.specs.Trail.{readingOf, withEntry, withPair, Short, Holds, rowNumber};
+ghost use Rattle.rows.specs.Fill.{put, replyFor, replyOf};
+
+// A reading as far as a search has come: its entries and its pairs.
+pub struct Trail {
+    pub path: [u16; 16],
+    pub entries: usize,
+    pub pairing: [u8; 40],
+    pub pairs: usize,
+}
+
+pub fn no_trail() -> Trail
+    ensures { λ r. ⌜ Holds r (record { path = []; pairing = [] }) 0 0 ⌝ }
+{
+    Trail {
+        path: [0u16; 16],
+        entries: 0,
+        pairing: [0u8; 40],
+        pairs: 0,
+    }
+}
+
+pub fn with_entry(t: Trail, e: u16) -> Trail
+    requires { ⌜ Short t × (t .entries < 16) ⌝ }
+    ensures { λ r. ⌜ Holds r (withEntry (readingOf t) e) (t .entries + 1) (t .pairs) ⌝ }
+{
+    let mut r = t;
+    let n = r.entries;
+    r.path[n] = e;
+    r.entries = n + 1;
+    r
+}
+
+pub fn with_pair(t: Trail, p: u8) -> Trail
+    requires { ⌜ Short t × (t .pairs < 40) ⌝ }
+    ensures { λ r. ⌜ Holds r (withPair (readingOf t) p) (t .entries) (t .pairs + 1) ⌝ }
+{
+    let mut r = t;
+    let n = r.pairs;
+    r.pairing[n] = p;
+    r.pairs = n + 1;
+    r
+}
+
+// What stands in a row's unused places.
+const UNUSED: u16 = 65535;
+
+fn entry_place(t: Trail, i: usize) -> u16
+    requires { ⌜ Short t × (i < 16) ⌝ }
+    ensures { λ r. ⌜ r ≡ getD (padded 16 (readingOf t .path)) i 0 ⌝ }
+{
+    if i < t.entries {
+        return t.path[i];
+    }
+    UNUSED
+}
+
+fn pair_place(t: Trail, i: usize) -> u16
+    requires { ⌜ Short t × (i < 40) ⌝ }
+    ensures { λ r. ⌜ r ≡ getD (padded 40 (readingOf t .pairing)) i 0 ⌝ }
+{
+    if i < t.pairs {
+        return t.pairing[i] as u16;
+    }
+    UNUSED
+}
+
+// The number at place k of a row.
+fn row_number(t: Trail, k: usize) -> u16
+    requires { ⌜ Short t × (k < 58) ⌝ }
+    ensures { λ r. ⌜ r ≡ rowNumber (readingOf t) k ⌝ }
+{
+    if k == 0 {
+        return t.entries as u16;
+    }
+    if k <= 16 {
+        return entry_place(t, k - 1);
+    }
+    if k == 17 {
+        return t.pairs as u16;
+    }
+    pair_place(t, k - 18)
+}
+
+// A two-byte number, the low byte first.
+fn put_number(row: &mut [u8], place: usize, n: u16)
+    requires { ⌜ 2 * place + 1 < length (now row) ⌝ }
+    ensures { λ _. ⌜ now (row .exit) ≡ set (set (now (row .entry)) (2 * place) (n % 256)) (2 * place + 1) (n / 256 % 256) ⌝ }
+{
+    let low = 2 * place;
+    row[low] = (n % 256) as u8;
+    row[low + 1] = (n / 256) as u8;
+}
+
+pub fn write_row(row: &mut [u8], t: Trail)
+    requires { ⌜ (length (now row) ≡ 116) × Short t ⌝ }
+    ensures { λ _. ⌜ now (row .exit) ≡ rowBytes (readingOf t) ⌝ }
+{
+    let mut k = 0;
+    while k < 58 {
+        let n = row_number(t, k);
+        put_number(row, k, n);
+        k += 1;
+    }
+}
+
+// Puts a row after those that were found before, and answers how many are found now. One that has no room is counted all the same, so that the
+// answer is more than the buffer's rows exactly when a row is missing.
+pub fn emit(rows: &mut [u8], found: usize, t: Trail) -> usize
+    requires { ⌜ (found ≤ rowCount (now rows)) × Short t ⌝ }
+    ensures { λ r. ⌜ (now (rows .exit), r) ≡ put (rowCount (now (rows .entry))) (now (rows .entry), found) (readingOf t) ⌝ }
+{
+    let capacity = rows.len() / 116;
+    if found < capacity {
+        let next = found + 1;
+        let from = 116 * found;
+        let to = from + 116;
+        write_row(&mut rows[from..to], t);
+        return next;
+    }
+    capacity + 1
+}
+
+// What a listing replies.
+pub enum Reply {
+    All(usize),
+    More(usize),
+    None,
+    Refused(u8),
+}
+
+pub fn reply_for(found: usize, capacity: usize) -> Reply
+    ensures { λ r. ⌜ replyOf r ≡ replyFor found capacity ⌝ }
+{
+    if found == 0 {
+        return Reply::None;
+    }
+    if found <= capacity {
+        return Reply::All(found);
+    }
+    Reply::More(capacity)
+}
+
+// The reply as one number, for callers from C.
+pub fn reply_number(r: Reply) -> u64
+    requires { ⌜ replyRows (replyOf r) < 2 ^ 62 ⌝ }
+    ensures { λ n. ⌜ n ≡ replyNumber (replyOf r) ⌝ }
+{
+    match r {
+        Reply::All(n) => 4 * (n as u64) + 1,
+        Reply::More(n) => 4 * (n as u64) + 2,
+        Reply::None => 0,
+        Reply::Refused(k) => 4 * (k as u64) + 3,
+    }
+}
