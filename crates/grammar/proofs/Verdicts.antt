@@ -80,24 +80,25 @@ pub laid-some : (image : List ℕ) (h : Header) → Laid image h → 512 ≤ len
 unfolding blockTotal
 laid-some image h l = omega (arith, l .whole)
 
+-- tests before others: their refusal is that of all, and where they accept the others decide
+pub tests-refused : (ts us : List (ℕ × Bool)) (k : ℕ) → firstFailing ts ≡ refused k → firstFailing (ts ++ us) ≡ refused k
+tests-refused [] us k f = let z : _≡_ {A = ℕ} 0 1 = cc in absurd (omega arith)
+tests-refused (t ∷ ts) us k f = go (t .1) (tests-refused ts us k) f
+  where
+    go : (b : Bool) → (firstFailing ts ≡ refused k → firstFailing (ts ++ us) ≡ refused k) → unless b (t .0) (firstFailing ts) ≡ refused k → unless b (t .0) (firstFailing (ts ++ us)) ≡ refused k
+    go true r f = r f
+    go false r f = f
+
+pub tests-accepted : (ts us : List (ℕ × Bool)) → firstFailing ts ≡ accepted → firstFailing (ts ++ us) ≡ firstFailing us
+tests-accepted [] us f = refl
+tests-accepted (t ∷ ts) us f = go (t .1) (tests-accepted ts us) f
+  where
+    go : (b : Bool) → (firstFailing ts ≡ accepted → firstFailing (ts ++ us) ≡ firstFailing us) → unless b (t .0) (firstFailing ts) ≡ accepted → unless b (t .0) (firstFailing (ts ++ us)) ≡ firstFailing us
+    go true r f = r f
+    go false r f = let z : _≡_ {A = ℕ} 0 1 = cc in absurd (omega arith)
+
 -- the entry view and its companion, by the verdict and by whether the entry is there
 module _ (image : List ℕ) (e : ℕ) where
-  tests-refused : (ts us : List (ℕ × Bool)) (k : ℕ) → firstFailing ts ≡ refused k → firstFailing (ts ++ us) ≡ refused k
-  tests-refused [] us k f = let z : _≡_ {A = ℕ} 0 1 = cc in absurd (omega arith)
-  tests-refused (t ∷ ts) us k f = go (t .1) (tests-refused ts us k) f
-    where
-      go : (b : Bool) → (firstFailing ts ≡ refused k → firstFailing (ts ++ us) ≡ refused k) → unless b (t .0) (firstFailing ts) ≡ refused k → unless b (t .0) (firstFailing (ts ++ us)) ≡ refused k
-      go true r f = r f
-      go false r f = f
-
-  tests-accepted : (ts us : List (ℕ × Bool)) → firstFailing ts ≡ accepted → firstFailing (ts ++ us) ≡ firstFailing us
-  tests-accepted [] us f = refl
-  tests-accepted (t ∷ ts) us f = go (t .1) (tests-accepted ts us) f
-    where
-      go : (b : Bool) → (firstFailing ts ≡ accepted → firstFailing (ts ++ us) ≡ firstFailing us) → unless b (t .0) (firstFailing ts) ≡ accepted → unless b (t .0) (firstFailing (ts ++ us)) ≡ firstFailing us
-      go true r f = r f
-      go false r f = let z : _≡_ {A = ℕ} 0 1 = cc in absurd (omega arith)
-
   view-refused : (k : ℕ) → imageVerdict image ≡ refused k → firstFailing (viewTests image e) ≡ refused k
   unfolding viewTests imageVerdict
   view-refused k f = tests-refused (imageTests image) ((12, ltb e (header image .entries)) ∷ []) k f

@@ -1,0 +1,59 @@
+-- `judge` meets its contract: the image check, then the tests of path and pairing, then the reading.
+use borrow.Author.Needs.{needs}
+use mathlib.Core.Path.{_≡_, sym, ap, subst, _∙_}
+use Rattle.model.specs.Blocks.{header}
+use Rattle.model.specs.Refusals.{accepted, imageVerdict}
+use Rattle.image.specs.Accepted.{Accepted}
+use Rattle.grammar.specs.Answers.{verdictOf}
+use Rattle.grammar.proofs.Verdicts.{accepted-image, laid-some}
+use Rattle.judge.proofs.Judgements.{image-refused, image-accepted}
+use Rattle.judge.proofs.judge.Statement.{statement}
+use Rattle.judge.proofs.judge.Tie as tie
+
+-- in the arm of an accepted image
+passed : (c : tie.After-enum-told) → imageVerdict (c .before .before .before .before .before .before .args .image .now) ≡ accepted
+passed c = sym (c .before .before .check .ensures) ∙ ap verdictOf (c .enum-told .given .1)
+
+check-requires : tie.Need-check-requires
+check-requires c κs = search needs
+
+enum-known-verdict : tie.Need-enum-known-verdict
+enum-known-verdict c = search needs
+
+enum-told : tie.Need-enum-told
+enum-told c = search needs
+
+read-header-requires : tie.Need-read-header-requires
+read-header-requires c κs =
+    let image = c .before .before .before .before .before .before .args .image .now in
+    laid-some image (header image) (accepted-image image (passed c) .laid)
+
+judge-accepted-requires : tie.Need-judge-accepted-requires
+judge-accepted-requires c κs =
+    let told = c .before in
+    let image = told .before .before .before .before .before .before .args .image .now in
+    subst (Accepted image) (sym (c .read-header .ensures)) (accepted-image image (passed told))
+
+returns : tie.Need-returns
+returns c =
+    let told = c .before in
+    let start = told .before .before .before .before .before .before in
+    image-refused (start .args .image .now) (start .args .path .now) (start .args .pairing .now) (told .verdict .given .0 .0) (sym (told .before .before .check .ensures) ∙ ap verdictOf (told .verdict .given .1))
+
+returns-2 : tie.Need-returns-2
+returns-2 c =
+    let told = c .before .before in
+    let start = told .before .before .before .before .before .before in
+    c .judge-accepted .ensures ∙ image-accepted (start .args .image .now) (start .args .path .now) (start .args .pairing .now) (passed told)
+
+pub judge-spec : {M : Type 1} → statement M
+judge-spec =
+    tie.close
+    (tie.spec
+    check-requires
+    enum-known-verdict
+    enum-told
+    read-header-requires
+    judge-accepted-requires
+    returns
+    returns-2)

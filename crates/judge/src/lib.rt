@@ -1,0 +1,48 @@
+// The judge: whether a path and a pairing are a reading of the word that they spell, or the refusal.
+ghost use mathlib.Core.Path.{_≡_};
+ghost use lib.ListN.{length};
+ghost use Rattle.model.specs.Beside.{judged};
+ghost use Rattle.image.specs.Header.{headerOf};
+ghost use Rattle.image.specs.Accepted.{Accepted};
+ghost use Rattle.judge.specs.Answers.{judgementOf, judgedAccepted};
+use grammar::Verdict;
+use image::Header;
+
+pub enum Judgement {
+    Holds,
+    Fails,
+    Refused(u8),
+}
+
+// The image check, and then the tests of the path and the pairing.
+pub fn judge(image: &[u8], path: &[u8], pairing: &[u8]) -> Judgement
+    ensures { λ r. ⌜ judgementOf r ≡ judged (now (image .entry)) (now (path .entry)) (now (pairing .entry)) ⌝ }
+{
+    let verdict = grammar::check(image);
+    match verdict {
+        Verdict::Refused(k) => Judgement::Refused(k),
+        Verdict::Accepted => judge_accepted(image, image::read_header(image), path, pairing),
+    }
+}
+
+// Tests 11 to 13 by number, and then the reading. The index is made where they hold.
+fn judge_accepted(image: &[u8], h: Header, path: &[u8], pairing: &[u8]) -> Judgement
+    requires { ⌜ Accepted (now image) (headerOf h) ⌝ }
+    ensures { λ r. ⌜ judgementOf r ≡ judgedAccepted (now (image .entry)) (now (path .entry)) (now (pairing .entry)) ⌝ }
+{
+    if !rules::paths::path_length_right(path) {
+        return Judgement::Refused(11);
+    }
+    if !rules::paths::path_linked(image, h, path) {
+        return Judgement::Refused(12);
+    }
+    if !rules::judge::pairing_right(h, pairing) {
+        return Judgement::Refused(13);
+    }
+    let mut index = [0u8; 39168];
+    rules::index::fill_index(image, h, &mut index);
+    if rules::judge::is_reading(image, &index, h, path, pairing) {
+        return Judgement::Holds;
+    }
+    Judgement::Fails
+}

@@ -1,0 +1,8 @@
+pub mod Laws
+mod RowByRow
+mod Columns
+pub mod Stepping
+pub mod Candidates
+pub mod PathLaws
+pub mod PairingLaws
+pub mod Judging

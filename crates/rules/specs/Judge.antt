@@ -1,0 +1,33 @@
+-- What the judge is handed, in the model's words: entries that the image has, pairs that it has, the joined forms, and the reading.
+use Prim.Native.Nat.{ℕ}
+use mathlib.Core.Bool.{Bool, _&&_}
+use mathlib.Core.List.{List, map}
+use lib.Dec.{T, ltb}
+use Rattle.model.specs.Lists.{every, joined, sameList}
+use Rattle.model.specs.Blocks.{header}
+use Rattle.model.specs.GrammarOf.{grammarOf}
+use Rattle.model.specs.Readings.{Reading, spelled, fewNulls, wordLength}
+use Rattle.model.specs.Query.{entryNumbers}
+
+-- each number of a pairing is a pair's
+abbrev pub Listed : List ℕ → List ℕ → Type 0
+Listed image pairing = T (every (λ p. ltb p (header image .pairs)) pairing)
+
+-- each number of a path is an entry's
+abbrev pub Entered : List ℕ → List ℕ → Type 0
+Entered image path = T (every (λ e. ltb e (header image .entries)) (entryNumbers path))
+
+-- the joined forms of a path
+abbrev pub formsOf : List ℕ → List ℕ → List ℕ
+formsOf image path = joined (map (grammarOf image .form) (entryNumbers path))
+
+-- what a reading asks of the two levels, but for the rules
+abbrev pub levelsRight : List ℕ → List ℕ → List ℕ → Bool
+levelsRight image path pairing =
+    sameList (spelled (grammarOf image .lexical) pairing) (formsOf image path)
+    && fewNulls (grammarOf image .lexical) pairing
+    && wordLength (spelled (grammarOf image .surface) pairing)
+    && fewNulls (grammarOf image .surface) pairing
+
+abbrev pub readingOf : List ℕ → List ℕ → Reading
+readingOf path pairing = record { path = entryNumbers path; pairing = pairing }

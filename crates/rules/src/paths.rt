@@ -1,0 +1,100 @@
+// A path as two bytes to an entry number: tests 11 and 12, and the letters of its joined forms.
+ghost use mathlib.Core.Bool.{_&&_, not};
+ghost use mathlib.Core.Path.{_≡_};
+ghost use mathlib.Core.Logic.{_⊎_};
+ghost use Prim.Native.Nat.{_<_, _%_};
+ghost use lib.ListN.{length, getD};
+ghost use lib.Dec.{ltb, eqb};
+ghost use Rattle.model.specs.Lexicon.{inLexicon, entry, formLength, formOf, pathLength};
+ghost use Rattle.model.specs.GrammarOf.{grammarOf};
+ghost use Rattle.model.specs.Readings.{isLinked};
+ghost use Rattle.model.specs.Query.{entryNumbers};
+ghost use Rattle.image.specs.Header.{headerOf};
+ghost use Rattle.image.specs.Laid.{Laid};
+ghost use Rattle.image.specs.Accepted.{Accepted};
+ghost use Rattle.rules.specs.Judge.{Entered, formsOf};
+use image::Header;
+use letters::Lexical;
+
+// Test 11: 1 to 16 entries, two bytes to each.
+pub fn path_length_right(path: &[u8]) -> bool
+    ensures { λ r. ⌜ r ≡ (eqb (length (now (path .entry)) % 2) 0 && pathLength (entryNumbers (now (path .entry)))) ⌝ }
+{
+    let n = path.len();
+    if n % 2 != 0 {
+        return false;
+    }
+    if n < 2 {
+        return false;
+    }
+    n <= 32
+}
+
+// Whether entry e may open in lexicon x, where 255 is the end of a path.
+fn opens(image: &[u8], h: Header, x: usize, e: usize) -> bool
+    requires { ⌜ Laid (now image) (headerOf h) ⌝ }
+    requires { ⌜ (x < h .lexicons) ⊎ (x ≡ 255) ⌝ }
+    ensures { λ r. ⌜ r ≡ (not (eqb x 255) && inLexicon (now (image .entry)) x e && ltb e (h .entries)) ⌝ }
+{
+    if x == 255 {
+        return false;
+    }
+    let first = lexicon::first_entry(image, h, x);
+    if e < first {
+        return false;
+    }
+    if first + lexicon::entry_count(image, h, x) <= e {
+        return false;
+    }
+    e < h.entries
+}
+
+// Test 12: each entry opens in the lexicon where the one before leads, and the last one leads nowhere.
+pub fn path_linked(image: &[u8], h: Header, path: &[u8]) -> bool
+    requires { ⌜ Accepted (now image) (headerOf h) ⌝ }
+    ensures { λ r. ⌜ r ≡ isLinked (grammarOf (now (image .entry))) (entryNumbers (now (path .entry))) ⌝ }
+{
+    let count = path.len() / 2;
+    let mut x: usize = 0;
+    let mut i: usize = 0;
+    while i < count {
+        let e = image::number_at(path, 2 * i);
+        if !opens(image, h, x, e) {
+            return false;
+        }
+        x = lexicon::continuation_of(image, h, e);
+        i += 1;
+    }
+    x == 255
+}
+
+// Letter t of the form of entry e.
+fn form_letter(image: &[u8], h: Header, e: usize, t: usize) -> Lexical
+    requires { ⌜ Accepted (now image) (headerOf h) ⌝ }
+    requires { ⌜ (e < h .entries) × (t < formLength (entry (now image) e)) ⌝ }
+    ensures { λ r. ⌜ r .0 ≡ getD (formOf (entry (now (image .entry)) e)) t 0 ⌝ }
+{
+    let at = lexicon::entry_start(h, e) + (1 + t);
+    Lexical(image[at])
+}
+
+// Letter t of the joined forms of a path, or 0 after the last.
+pub fn letter_at(image: &[u8], h: Header, path: &[u8], t: usize) -> Lexical
+    requires { ⌜ Accepted (now image) (headerOf h) ⌝ }
+    requires { ⌜ Entered (now image) (now path) ⌝ }
+    ensures { λ r. ⌜ r .0 ≡ getD (formsOf (now (image .entry)) (now (path .entry))) t 0 ⌝ }
+{
+    let count = path.len() / 2;
+    let mut left = t;
+    let mut i: usize = 0;
+    while i < count {
+        let e = image::number_at(path, 2 * i);
+        let n = lexicon::form_length(image, h, e);
+        if left < n {
+            return form_letter(image, h, e, left);
+        }
+        left -= n;
+        i += 1;
+    }
+    Lexical(0)
+}
