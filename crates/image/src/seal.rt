@@ -27,7 +27,8 @@ pub fn right_length(n: usize) -> bool
     n % 512 == 0
 }
 
-fn put_number(bytes: &mut [u8], at: usize, n: usize)
+// A number in two bytes.
+pub fn put_number(bytes: &mut [u8], at: usize, n: usize)
     requires { ⌜ at + 1 < length (now bytes) ⌝ }
     ensures { λ _. ⌜ now (bytes .exit) ≡ set (set (now (bytes .entry)) at (n % 256)) (at + 1) (n / 256 % 256) ⌝ }
 {

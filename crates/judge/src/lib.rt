@@ -39,7 +39,7 @@ fn judge_accepted(image: &[u8], h: Header, path: &[u8], pairing: &[u8]) -> Judge
     if !rules::judge::pairing_right(h, pairing) {
         return Judgement::Refused(13);
     }
-    let mut index = [0u8; 39168];
+    let mut index = [0u8; 39424];
     rules::index::fill_index(image, h, &mut index);
     if rules::judge::is_reading(image, &index, h, path, pairing) {
         return Judgement::Holds;

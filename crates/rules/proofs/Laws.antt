@@ -1,26 +1,28 @@
 -- Reading the index and the rule tables of an accepted image: which byte says what, and that it is within its bounds.
-use Prim.Native.Nat.{ℕ, zero, suc, _+_, _*_, _-_, _<_, _≤_}
+use Prim.Native.Nat.{ℕ, zero, suc, _+_, _*_, _-_, _/_, _%_, _<_, _≤_}
 use native.Mathlib.Omega.{arith}
 use mathlib.Core.Bool.{Bool, true, false, _||_}
 use mathlib.Core.Path.{_≡_, refl, sym, ap, ap₂, _∙_}
 use mathlib.Core.Logic.{_⊎_, inl, inr}
-use mathlib.Core.List.{List, [], _∷_, _++_, List·Memᴰ, List·Memᴰ·head, List·Memᴰ·tail, List·Memᴰ·append-cases, List·Memᴰ·eq-of-singleton, List·Memᴰ·not-nil}
+use mathlib.Core.List.{List, [], _∷_, _++_, append-nil, List·Memᴰ, List·Memᴰ·head, List·Memᴰ·tail, List·Memᴰ·append-cases, List·Memᴰ·eq-of-singleton, List·Memᴰ·not-nil}
 use lib.ListN.{length, getD, drop, replicate, length-append, length-take, length-replicate, List·getD-append}
 use lib.Seq.{getD-take, getD-drop, getD-append-add}
 use lib.Dec.{T, leb, ltb, eqb}
 use borrow.Author.Tests.{lt-ltb, le-leb}
-use Rattle.model.specs.Lists.{below, given, flatMap, within, isZero, byte}
+use Rattle.model.specs.Lists.{below, given, flatMap, within, isZero, byte, number, numberBytes}
 use Rattle.model.specs.Blocks.{Header, header, blockTotal}
 use Rattle.model.specs.RuleTables.{pairs, boundaryPair, table, columnCount, stateCount, rowsAt, isFinal, nextState, isTable, columnsOf}
+use Rattle.model.specs.Lexicon.{firstEntry}
 use Rattle.model.specs.GrammarOf.{grammarOf}
 use Rattle.model.specs.Refusals.{rightTables, rightColumns}
 use Rattle.model.proofs.Booleans.{of-true}
 use Rattle.model.proofs.Lists.{length-below, getD-below, below-from, getD-map-below}
 use Rattle.model.proofs.Parts.{length-parts, part-at}
+use Rattle.model.proofs.Sealing.{number-back}
 use Rattle.tables.proofs.Laws.{length-columnsOf, right-table, right-column, row-before, next-most}
 use Rattle.image.specs.Laid.{Laid}
 use Rattle.image.specs.Accepted.{Accepted}
-use Rattle.image.specs.Index.{only, indexRow, columnRow, candidates, candidateRow, indexOf}
+use Rattle.image.specs.Index.{only, indexRow, columnRow, candidates, candidateRow, ruleRows, lexiconRow, indexOf}
 
 -- an image that is accepted by a header is accepted by its own
 pub accepted-here : {image : List ℕ} {h : Header} → Accepted image h → Accepted image (header image)
@@ -75,29 +77,52 @@ module _ (image : List ℕ) where
   pub candidates-part : length (flatMap (candidateRow image) (below 121)) ≡ 30976
   candidates-part = length-parts 256 (candidateRow image) (below 121) (λ a m. length-candidateRow a) ∙ ap (λ (n : ℕ). 256 * n) (length-below 121)
 
-  pub index-is : (columns candidates : List ℕ) → columns ≡ flatMap (columnRow image) (below 32) → candidates ≡ flatMap (candidateRow image) (below 121) → columns ++ candidates ≡ indexOf image
-  unfolding indexOf
-  index-is columns candidates e f = ap₂ (λ (x y : List ℕ). x ++ y) e f
+  pub rule-rows : (columns candidates : List ℕ) → columns ≡ flatMap (columnRow image) (below 32) → candidates ≡ flatMap (candidateRow image) (below 121) → columns ++ candidates ≡ ruleRows image
+  unfolding ruleRows
+  rule-rows columns candidates e f = ap₂ (λ (x y : List ℕ). x ++ y) e f
 
-  pub length-indexOf : length (indexOf image) ≡ 39168
+  pub all-rows : (rules lexicons : List ℕ) → rules ≡ ruleRows image → lexicons ≡ lexiconRow image → rules ++ lexicons ≡ indexOf image
   unfolding indexOf
-  length-indexOf = omega (arith, length-append (flatMap (columnRow image) (below 32)) (flatMap (candidateRow image) (below 121)), columns-part, candidates-part)
+  all-rows rules lexicons e f = ap₂ (λ (x y : List ℕ). x ++ y) e f
+
+  pub length-ruleRows : length (ruleRows image) ≡ 39168
+  unfolding ruleRows
+  length-ruleRows = omega (arith, length-append (flatMap (columnRow image) (below 32)) (flatMap (candidateRow image) (below 121)), columns-part, candidates-part)
+
+  length-lexiconRow : length (lexiconRow image) ≡ 256
+  unfolding lexiconRow
+  length-lexiconRow = length-indexRow (flatMap (λ x. numberBytes (firstEntry image x)) (below (header image .lexicons + 1)))
+
+  pub length-indexOf : length (indexOf image) ≡ 39424
+  unfolding indexOf
+  length-indexOf = omega (arith, length-append (ruleRows image) (lexiconRow image), length-ruleRows, length-lexiconRow)
+
+  -- the rows of the rules and the pairs come first
+  rule-byte : (i : ℕ) → i < 39168 → byte (indexOf image) i ≡ byte (ruleRows image) i
+  unfolding indexOf
+  rule-byte i h = List·getD-append (ruleRows image) (lexiconRow image) 0 i (omega (arith, length-ruleRows))
+
+  lexicon-byte : (i : ℕ) → byte (indexOf image) (39168 + i) ≡ byte (lexiconRow image) i
+  unfolding indexOf
+  lexicon-byte i = ap (λ (n : ℕ). byte (ruleRows image ++ lexiconRow image) (n + i)) (sym length-ruleRows) ∙ getD-append-add (ruleRows image) (lexiconRow image) i 0
 
   -- byte 256 * r + p is the column that rule r takes for pair p
   pub index-column : (r p : ℕ) → r < header image .rules → r < 32 → p ≤ header image .pairs → p < 256 → byte (indexOf image) (256 * r + p) ≡ getD (columnsOf image r) p 0
-  unfolding indexOf columnRow
+  unfolding ruleRows columnRow
   index-column r p h k l m =
-      joined-byte 256 (columnRow image) 32 (flatMap (candidateRow image) (below 121)) length-columnRow r p k m
+      rule-byte (256 * r + p) (omega arith)
+      ∙ joined-byte 256 (columnRow image) 32 (flatMap (candidateRow image) (below 121)) length-columnRow r p k m
       ∙ ap (λ (b : Bool). byte (indexRow (given b (columnsOf image r))) p) (lt-ltb r (header image .rules) h)
       ∙ row-byte (columnsOf image r) p m (omega (arith, length-columnsOf image r))
 
   -- the row of lexical letter a
   index-candidates : (a i : ℕ) → a ≤ header image .letters → a < 121 → i < 256 → i ≤ length (candidates image a) → byte (indexOf image) (256 * (32 + a) + i) ≡ getD (length (candidates image a) ∷ candidates image a) i 0
-  unfolding indexOf candidateRow
+  unfolding ruleRows candidateRow
   index-candidates a i h k l m =
       let columns = flatMap (columnRow image) (below 32) in
       let rows = flatMap (candidateRow image) (below 121) in
-      ap (byte (columns ++ rows)) (omega (arith, columns-part))
+      rule-byte (256 * (32 + a) + i) (omega arith)
+      ∙ ap (byte (columns ++ rows)) (omega (arith, columns-part))
       ∙ getD-append-add columns rows (256 * a + i) 0
       ∙ ap (λ (xs : List ℕ). byte xs (256 * a + i)) (sym (append-none rows))
       ∙ joined-byte 256 (candidateRow image) 121 [] length-candidateRow a i k l
@@ -160,6 +185,23 @@ module _ {image : List ℕ} (ok : Accepted image (header image)) where
       let m = candidates-most image a in
       ap (byte (indexOf image)) (omega arith)
       ∙ index-candidates image a (suc i) h (omega (arith, ok .laid .limits .letters-most)) (omega (arith, ok .laid .limits .pairs-most)) (omega arith)
+
+  -- row 153 has where each lexicon begins
+  pub lexicon-number : (x : ℕ) → x ≤ header image .lexicons → firstEntry image x < 65536 → number (indexOf image) (39168 + 2 * x) ≡ firstEntry image x
+  unfolding lexiconRow
+  lexicon-number x h k =
+      let row = flatMap (λ x. numberBytes (firstEntry image x)) (below (header image .lexicons + 1)) in
+      let few = ok .laid .limits .lexicons-most in
+      let long : length row ≡ 2 * (header image .lexicons + 1) = length-parts 2 (λ x. numberBytes (firstEntry image x)) (below (header image .lexicons + 1)) (λ y m. refl) ∙ ap (λ (n : ℕ). 2 * n) (length-below (header image .lexicons + 1)) in
+      let at : (i : ℕ) → i < 2 → byte (indexOf image) (39168 + (2 * x + i)) ≡ byte (numberBytes (firstEntry image x)) i =
+      λ i l.
+      lexicon-byte image (2 * x + i)
+      ∙ row-byte row (2 * x + i) (omega arith) (omega arith)
+      ∙ ap (λ (xs : List ℕ). byte xs (2 * x + i)) (sym (append-nil row))
+      ∙ joined-byte 2 (λ x. numberBytes (firstEntry image x)) (header image .lexicons + 1) [] (λ y. refl) x i (omega arith) l in
+      let lo : byte (indexOf image) (39168 + 2 * x) ≡ firstEntry image x % 256 = ap (byte (indexOf image)) (omega arith) ∙ at 0 (omega arith) in
+      let hi : byte (indexOf image) (39168 + 2 * x + 1) ≡ firstEntry image x / 256 % 256 = ap (byte (indexOf image)) (omega arith) ∙ at 1 (omega arith) in
+      ap₂ (λ (a b : ℕ). a + 256 * b) lo hi ∙ number-back (firstEntry image x) k
 
 -- the rules of an accepted image
 module _ {image : List ℕ} (ok : Accepted image (header image)) where

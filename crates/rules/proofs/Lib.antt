@@ -1,6 +1,7 @@
 pub mod Laws
 mod RowByRow
 mod Columns
+mod Lexicons
 pub mod Stepping
 pub mod Candidates
 pub mod PathLaws

@@ -1,5 +1,5 @@
-// The index of an accepted image, filled row by row: the column of each rule for each pair, and for each lexical letter the pairs that may pair it or
-// stand before it. It is filled once a call or once a run; a step only reads it.
+// The index of an accepted image, filled row by row: the column of each rule for each pair, for each lexical letter the pairs that may pair it or
+// stand before it, and where each lexicon begins. It is filled once a call or once a run; a step only reads it.
 ghost use mathlib.Core.Path.{_≡_};
 ghost use Prim.Native.Nat.{_≤_, _<_};
 ghost use lib.ListN.{replicate};
@@ -8,7 +8,7 @@ ghost use Rattle.model.specs.Blocks.{header};
 ghost use Rattle.image.specs.Header.{headerOf};
 ghost use Rattle.image.specs.Laid.{Laid};
 ghost use Rattle.image.specs.Accepted.{Accepted};
-ghost use Rattle.image.specs.Index.{columnRow, candidateRow, indexOf};
+ghost use Rattle.image.specs.Index.{columnRow, candidateRow, ruleRows, lexiconRow, indexOf};
 ghost use Rattle.rules.specs.Candidates.{isCandidate};
 use image::Header;
 use letters::Lexical;
@@ -76,12 +76,39 @@ fn fill_columns(image: &[u8], h: Header, out: &mut [u8])
     }
 }
 
-// The whole index. `out` is all 0 before.
-pub fn fill_index(image: &[u8], h: Header, out: &mut [u8])
+// The rows of the rules and of the letters. `out` is the index up to byte 39167, all 0 before.
+fn fill_rules(image: &[u8], h: Header, out: &mut [u8])
     requires { ⌜ Accepted (now image) (headerOf h) ⌝ }
     requires { ⌜ now out ≡ replicate 39168 0 ⌝ }
-    ensures { λ _. ⌜ now (out .exit) ≡ indexOf (now (image .entry)) ⌝ }
+    ensures { λ _. ⌜ now (out .exit) ≡ ruleRows (now (image .entry)) ⌝ }
 {
     fill_columns(image, h, &mut out[0..8192]);
     fill_candidates(image, h, &mut out[8192..39168]);
+}
+
+// Where each lexicon begins, and after the last the count of all entries. `row` is the last of the index, all 0 before.
+fn fill_lexicons(image: &[u8], h: Header, row: &mut [u8])
+    requires { ⌜ Laid (now image) (headerOf h) ⌝ }
+    requires { ⌜ now row ≡ replicate 256 0 ⌝ }
+    ensures { λ _. ⌜ now (row .exit) ≡ lexiconRow (now (image .entry)) ⌝ }
+{
+    let lexicons = h.lexicons;
+    let mut first: usize = 0;
+    let mut x: usize = 0;
+    while x < lexicons {
+        image::seal::put_number(row, 2 * x, first);
+        first += lexicon::entry_count(image, h, x);
+        x += 1;
+    }
+    image::seal::put_number(row, 2 * lexicons, first);
+}
+
+// The whole index. `out` is all 0 before.
+pub fn fill_index(image: &[u8], h: Header, out: &mut [u8])
+    requires { ⌜ Accepted (now image) (headerOf h) ⌝ }
+    requires { ⌜ now out ≡ replicate 39424 0 ⌝ }
+    ensures { λ _. ⌜ now (out .exit) ≡ indexOf (now (image .entry)) ⌝ }
+{
+    fill_rules(image, h, &mut out[0..39168]);
+    fill_lexicons(image, h, &mut out[39168..39424]);
 }

@@ -1,47 +1,47 @@
--- `fill_index` meets its contract: the rules' rows, and the letters' rows after them.
+-- `fill_index` meets its contract: the rows of rules and letters, and the lexicons' row after them.
 use borrow.Author.Needs.{needs}
 use native.Mathlib.Omega.{arith}
 use mathlib.Core.Path.{ap, _∙_}
 use lib.ListN.{length}
 use borrow.Rule.Slice.PartMut.{same-len-mid}
-use Rattle.rules.proofs.Laws.{columns-part, index-is}
+use Rattle.rules.proofs.Laws.{length-ruleRows, all-rows}
 use Rattle.rules.proofs.RowByRow.{length-zeros, first-part, second-part, both-parts}
 use Rattle.rules.proofs.index.fill_index.Statement.{statement}
 use Rattle.rules.proofs.index.fill_index.Tie as tie
 
-sub-fill-columns : tie.Need-sub-fill-columns
-sub-fill-columns c = search needs
+sub-fill-rules : tie.Need-sub-fill-rules
+sub-fill-rules c = search needs
 
-part-fill-columns-start : tie.Need-part-fill-columns-start
-part-fill-columns-start c = search needs
+part-fill-rules-start : tie.Need-part-fill-rules-start
+part-fill-rules-start c = search needs
 
-part-fill-columns-end : tie.Need-part-fill-columns-end
-part-fill-columns-end c =
+part-fill-rules-end : tie.Need-part-fill-rules-end
+part-fill-rules-end c =
     let s = c .before .before in
-    omega (arith, length-zeros 8192 30976 (s .args .out .now) (s .pre .1))
+    omega (arith, length-zeros 39168 256 (s .args .out .now) (s .pre .1))
 
-fill-columns-requires : tie.Need-fill-columns-requires
-fill-columns-requires c κs =
+fill-rules-requires : tie.Need-fill-rules-requires
+fill-rules-requires c κs =
     let s = c .before .before .before in
-    (s .pre .0, first-part 8192 30976 (s .args .out .now) (s .pre .1))
+    (s .pre .0, first-part 39168 256 (s .args .out .now) (s .pre .1))
 
-sub-fill-candidates : tie.Need-sub-fill-candidates
-sub-fill-candidates c = search needs
+sub-fill-lexicons : tie.Need-sub-fill-lexicons
+sub-fill-lexicons c = search needs
 
-part-fill-candidates-start : tie.Need-part-fill-candidates-start
-part-fill-candidates-start c = search needs
+part-fill-lexicons-start : tie.Need-part-fill-lexicons-start
+part-fill-lexicons-start c = search needs
 
-part-fill-candidates-end : tie.Need-part-fill-candidates-end
-part-fill-candidates-end c =
+part-fill-lexicons-end : tie.Need-part-fill-lexicons-end
+part-fill-lexicons-end c =
     let filled = c .before .before in
     let s = filled .before .before .before .before in
-    omega (arith, same-len-mid 0 8192 (s .args .out .now) (filled .fill-columns .last .1 .1 .0) (filled .fill-columns .kept .1 .1 .0), length-zeros 8192 30976 (s .args .out .now) (s .pre .1))
+    omega (arith, same-len-mid 0 39168 (s .args .out .now) (filled .fill-rules .last .1 .1 .0) (filled .fill-rules .kept .1 .1 .0), length-zeros 39168 256 (s .args .out .now) (s .pre .1))
 
-fill-candidates-requires : tie.Need-fill-candidates-requires
-fill-candidates-requires c κs =
+fill-lexicons-requires : tie.Need-fill-lexicons-requires
+fill-lexicons-requires c κs =
     let filled = c .before .before .before in
     let s = filled .before .before .before .before in
-    (s .pre .0 .laid, second-part 8192 30976 (s .args .out .now) (s .pre .1) (filled .fill-columns .last .1 .1 .0) (ap length (filled .fill-columns .ensures) ∙ columns-part (s .args .image .now)))
+    (s .pre .0 .laid, second-part 39168 256 (s .args .out .now) (s .pre .1) (filled .fill-rules .last .1 .1 .0) (ap length (filled .fill-rules .ensures) ∙ length-ruleRows (s .args .image .now)))
 
 same-length : tie.Need-same-length
 same-length c = search needs
@@ -52,22 +52,22 @@ returns c =
     let filled = done .before .before .before .before in
     let s = filled .before .before .before .before in
     let image = s .args .image .now in
-    let columns = filled .fill-columns .last .1 .1 .0 in
-    let candidates = done .fill-candidates .last .1 .1 .0 in
-    both-parts 8192 30976 (s .args .out .now) (s .pre .1) columns (ap length (filled .fill-columns .ensures) ∙ columns-part image) candidates
-    ∙ index-is image columns candidates (filled .fill-columns .ensures) (done .fill-candidates .ensures)
+    let rules = filled .fill-rules .last .1 .1 .0 in
+    let lexicons = done .fill-lexicons .last .1 .1 .0 in
+    both-parts 39168 256 (s .args .out .now) (s .pre .1) rules (ap length (filled .fill-rules .ensures) ∙ length-ruleRows image) lexicons
+    ∙ all-rows image rules lexicons (filled .fill-rules .ensures) (done .fill-lexicons .ensures)
 
 pub fill-index-spec : {M : Type 1} → statement M
 fill-index-spec =
     tie.close
     (tie.spec
-    sub-fill-columns
-    part-fill-columns-start
-    part-fill-columns-end
-    fill-columns-requires
-    sub-fill-candidates
-    part-fill-candidates-start
-    part-fill-candidates-end
-    fill-candidates-requires
+    sub-fill-rules
+    part-fill-rules-start
+    part-fill-rules-end
+    fill-rules-requires
+    sub-fill-lexicons
+    part-fill-lexicons-start
+    part-fill-lexicons-end
+    fill-lexicons-requires
     same-length
     returns)

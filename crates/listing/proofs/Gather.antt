@@ -1,0 +1,116 @@
+-- What the code gathers is the list of all readings; and what is gathered from a node, by whether an entry opens there.
+use Prim.Native.Nat.{ℕ, zero, suc, _+_, _-_, _<_}
+use native.Mathlib.Omega.{arith}
+use mathlib.Core.Bool.{Bool, true, false, _&&_, not, true≢false}
+use mathlib.Core.Path.{_≡_, refl, sym, ap, ap₂, _∙_, subst}
+use mathlib.Core.List.{List, [], _∷_, _++_, map, append-assoc, append-nil}
+use Rattle.model.specs.Lists.{below, given, flatMap}
+use Rattle.model.specs.Grammar.{Grammar}
+use Rattle.model.specs.Readings.{Reading}
+use Rattle.model.specs.Query.{Query}
+use Rattle.model.specs.Walk.{walk}
+use Rattle.model.specs.Tree.{Node, opens, isNil, countAt, mayAt, goAt, complete, tree, put, readingAt, start, readings}
+use Rattle.model.proofs.Lists.{map-append, map-same}
+use Rattle.model.proofs.Parts.{flatMap-same}
+use Rattle.listing.specs.Gather.{grow, gather, room}
+
+-- maps and joins together
+module _ {A B C : Type 0} where
+  map-flatMap : (f : B → C) (h : A → List B) (xs : List A) → map f (flatMap h xs) ≡ flatMap (λ x. map f (h x)) xs
+  map-flatMap f h [] = refl
+  map-flatMap f h (x ∷ xs) = map-append f (h x) (flatMap h xs) ∙ ap (λ (l : List C). map f (h x) ++ l) (map-flatMap f h xs)
+
+  map-map : (f : B → C) (h : A → B) (xs : List A) → map f (map h xs) ≡ map (λ x. f (h x)) xs
+  map-map f h [] = refl
+  map-map f h (x ∷ xs) = ap {B = List C} (λ l. f (h x) ∷ l) (map-map f h xs)
+
+module _ {A B : Type 0} where
+  map-given : (f : A → B) (b : Bool) (l : List A) → map f (given b l) ≡ given b (map f l)
+  map-given f true l = refl
+  map-given f false l = refl
+
+abbrev join : Reading → Reading → Reading
+join r s = record { path = r .path ++ s .path; pairing = r .pairing ++ s .pairing }
+
+abbrev nothing : Reading
+nothing = record { path = []; pairing = [] }
+
+module _ (g : Grammar) (q : Query) where
+  join-grow : (b : Bool) (r s : Reading) (x : ℕ) → join (grow b r x) s ≡ join r (put g q b x s)
+  join-grow true r s e = ap (λ (l : List ℕ). record { path = l; pairing = r .pairing ++ s .pairing }) (append-assoc (r .path) (e ∷ []) (s .path))
+  join-grow false r s p = ap (λ (l : List ℕ). record { path = r .path ++ s .path; pairing = l }) (append-assoc (r .pairing) (p ∷ []) (s .pairing))
+
+  join-nothing : (r : Reading) → join r nothing ≡ r
+  join-nothing r = ap₂ {C = Reading} (λ (es ps : List ℕ). record { path = es; pairing = ps }) (append-nil (r .path)) (append-nil (r .pairing))
+
+  -- the reading of a step list, after r
+  abbrev after : Node → Reading → List ℕ → Reading
+  after n r l = join r (readingAt g q n l)
+
+  end-is : (b : Bool) (n : Node) (r : Reading) → given b (r ∷ []) ≡ map (after n r) (given b ([] ∷ []))
+  unfolding readingAt
+  end-is b n r = sym (map-given (after n r) b ([] ∷ []) ∙ ap (λ (s : Reading). given b (s ∷ [])) (join-nothing r))
+
+  step-is : (n : Node) (r : Reading) (x : ℕ) (ls : List (List ℕ)) → map (after (goAt g q (opens n) n x) (grow (opens n) r x)) ls ≡ map (after n r) (map (λ l. x ∷ l) ls)
+  unfolding readingAt
+  step-is n r x ls = map-same (after (goAt g q (opens n) n x) (grow (opens n) r x)) (λ l. after n r (x ∷ l)) ls (λ l m. join-grow (opens n) r (readingAt g q (goAt g q (opens n) n x) l) x) ∙ sym (map-map (after n r) (λ l. x ∷ l) ls)
+
+  gather-walk : (k : ℕ) (n : Node) (r : Reading) → gather g q k n r ≡ map (after n r) (walk (tree g q) k n)
+  unfolding gather walk
+  gather-walk zero n r = end-is (complete g q n) n r
+  gather-walk (suc k) n r =
+      let xs = below (countAt g q (opens n) n) in
+      let found : ℕ → List Reading = λ x. given (mayAt g q (opens n) n x) (gather g q k (goAt g q (opens n) n x) (grow (opens n) r x)) in
+      let lists : ℕ → List (List ℕ) = λ x. given (mayAt g q (opens n) n x) (map (λ l. x ∷ l) (walk (tree g q) k (goAt g q (opens n) n x))) in
+      ap₂ (λ (x y : List Reading). x ++ y) (end-is (complete g q n) n r)
+      (flatMap-same found (λ x. map (after n r) (lists x)) xs
+      (λ x m.
+      ap (given (mayAt g q (opens n) n x)) (gather-walk k (goAt g q (opens n) n x) (grow (opens n) r x) ∙ step-is n r x (walk (tree g q) k (goAt g q (opens n) n x)))
+      ∙ sym (map-given (after n r) (mayAt g q (opens n) n x) (map (λ l. x ∷ l) (walk (tree g q) k (goAt g q (opens n) n x)))))
+      ∙ sym (map-flatMap (after n r) lists xs))
+      ∙ sym (map-append (after n r) (given (complete g q n) ([] ∷ [])) (flatMap lists xs))
+
+  -- the whole search, from the start with nothing read
+  pub readings-gathered : readings g q ≡ gather g q 56 (start g q) nothing
+  unfolding readings
+  readings-gathered = map-same (readingAt g q (start g q)) (after (start g q) nothing) (walk (tree g q) 56 (start g q)) (λ l m. refl) ∙ sym (gather-walk 56 (start g q) nothing)
+
+  -- one node's own steps
+  abbrev pub branch : ℕ → Node → Reading → Bool → ℕ → List Reading
+  branch k n r b x = given (mayAt g q b n x) (gather g q k (goAt g q b n x) (grow b r x))
+
+  complete-open : (n : Node) → opens n ≡ true → complete g q n ≡ false
+  unfolding complete
+  complete-open n o = go (isNil (n .rest)) (n .ended) _ _ _ o
+    where
+      go : (a b x y z : Bool) → (a && not b) ≡ true → (a && b && x && y && z) ≡ false
+      go true true x y z e = absurd (true≢false (sym e))
+      go true false x y z e = refl
+      go false b x y z e = refl
+
+  pub gather-end : (n : Node) (r : Reading) → opens n ≡ true → gather g q zero n r ≡ []
+  unfolding gather
+  gather-end n r o = rw (complete-open n o) refl
+
+  pub gather-last : (n : Node) (r : Reading) → gather g q zero n r ≡ given (complete g q n) (r ∷ [])
+  unfolding gather
+  gather-last n r = refl
+
+  -- where an entry opens, nothing ends
+  pub gather-open : (k : ℕ) (n : Node) (r : Reading) → opens n ≡ true → gather g q (suc k) n r ≡ flatMap (branch k n r true) (below (g .entries))
+  unfolding gather countAt
+  gather-open k n r o = rw (complete-open n o) (subst (λ (b : Bool). flatMap (branch k n r b) (below (countAt g q b n)) ≡ flatMap (branch k n r true) (below (g .entries))) (sym o) refl)
+
+  -- where none opens, what ends here stands first
+  pub gather-pair : (k : ℕ) (n : Node) (r : Reading) → opens n ≡ false → gather g q (suc k) n r ≡ given (complete g q n) (r ∷ []) ++ flatMap (branch k n r false) (below (g .pairs))
+  unfolding gather countAt
+  gather-pair k n r o = subst (λ (b : Bool). given (complete g q n) (r ∷ []) ++ flatMap (branch k n r b) (below (countAt g q b n)) ≡ given (complete g q n) (r ∷ []) ++ flatMap (branch k n r false) (below (g .pairs))) (sym o) refl
+
+  -- a step takes a place
+  pub room-enter : (n : Node) (e : ℕ) → n .entries < 16 → room n ≡ suc (room (goAt g q true n e))
+  unfolding room goAt
+  room-enter n e h = omega arith
+
+  pub room-pair : (n : Node) (p : ℕ) → n .pairs < 40 → room n ≡ suc (room (goAt g q false n p))
+  unfolding room goAt
+  room-pair n p h = omega arith

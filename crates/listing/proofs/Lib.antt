@@ -1,0 +1,7 @@
+pub mod Gather
+pub mod Loops
+pub mod Levels
+pub mod Places
+pub mod Taking
+pub mod Ranges
+pub mod Searching

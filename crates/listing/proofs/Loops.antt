@@ -1,0 +1,54 @@
+-- Loops that try fewer than all numbers below a bound, and lose nothing: a range, or those that pass a test.
+use Prim.Native.Nat.{ℕ, zero, suc, _+_, _-_, _<_, _≤_}
+use native.Mathlib.Numerals.{add-one}
+use native.Mathlib.Omega.{arith}
+use native.Mathlib.Decide.{decLt}
+use mathlib.Core.Bool.{Bool, true, false}
+use mathlib.Core.Path.{_≡_, refl, sym, ap, ap₂, _∙_}
+use mathlib.Core.List.{List, [], _∷_, _++_, append-nil}
+use lib.ListN.{length, getD, take}
+use lib.Seq.{take-suc}
+use Rattle.model.specs.Lists.{below, given, flatMap}
+use Rattle.model.proofs.Lists.{flatMap-append, flatMap-below}
+use Rattle.image.specs.Index.{only}
+
+module _ {B : Type 0} (f : ℕ → List B) where
+  -- nothing is found where the test fails
+  pub flatMap-only : (test : ℕ → Bool) (xs : List ℕ) → ((x : ℕ) → test x ≡ false → f x ≡ []) → flatMap f xs ≡ flatMap f (only test xs)
+  flatMap-only test [] e = refl
+  flatMap-only test (x ∷ xs) e = go (test x) refl (flatMap-only test xs e)
+    where
+      go : (b : Bool) → test x ≡ b → flatMap f xs ≡ flatMap f (only test xs) → f x ++ flatMap f xs ≡ flatMap f (given b (x ∷ []) ++ only test xs)
+      go true t r = ap (λ (l : List B). f x ++ l) r
+      go false t r = ap₂ (λ (k l : List B). k ++ l) (e x t) r
+
+  -- a turn more through a list
+  pub flatMap-more : (xs : List ℕ) (k : ℕ) → k < length xs → flatMap f (take (k + 1) xs) ≡ flatMap f (take k xs) ++ f (getD xs k 0)
+  flatMap-more xs k h =
+      ap (λ (n : ℕ). flatMap f (take n xs)) (add-one k)
+      ∙ ap (flatMap f) (take-suc xs k 0 h)
+      ∙ flatMap-append f (take k xs) (getD xs k 0 ∷ [])
+      ∙ ap (λ (l : List B). flatMap f (take k xs) ++ l) (append-nil (f (getD xs k 0)))
+
+  -- nothing is found below low or from high on
+  pub below-low : (low n : ℕ) → ((x : ℕ) → x < low → f x ≡ []) → n ≤ low → flatMap f (below n) ≡ []
+  below-low low zero e h = refl
+  below-low low (suc n) e h = flatMap-below f n ∙ ap₂ (λ (k l : List B). k ++ l) (below-low low n e (omega arith)) (e n h)
+
+  same-below : (k m : ℕ) → k ≡ m → flatMap f (below k) ≡ flatMap f (below m)
+  same-below k m e = ap (λ (k : ℕ). flatMap f (below k)) e
+
+  pub below-range : (low n m : ℕ) → ((x : ℕ) → x < low → f x ≡ []) → ((x : ℕ) → low + n ≤ x → f x ≡ []) → low + n ≤ m → flatMap f (below m) ≡ flatMap (λ i. f (low + i)) (below n)
+  below-range low n m before after h = top m h ∙ middle n
+    where
+      middle : (i : ℕ) → flatMap f (below (low + i)) ≡ flatMap (λ i. f (low + i)) (below i)
+      middle zero = same-below (low + 0) low (omega arith) ∙ below-low low low before (omega arith)
+      middle (suc i) = same-below (low + suc i) (suc (low + i)) (omega arith) ∙ flatMap-below f (low + i) ∙ ap (λ (l : List B). l ++ f (low + i)) (middle i) ∙ sym (flatMap-below (λ i. f (low + i)) i)
+
+      step : (k : ℕ) → Dec (k < low + n) → low + n ≤ suc k → (low + n ≤ k → flatMap f (below k) ≡ flatMap f (below (low + n))) → flatMap f (below (suc k)) ≡ flatMap f (below (low + n))
+      step k (yes l) h r = same-below (suc k) (low + n) (omega arith)
+      step k (no l) h r = flatMap-below f k ∙ ap₂ (λ (x y : List B). x ++ y) (r (omega arith)) (after k (omega arith)) ∙ append-nil (flatMap f (below (low + n)))
+
+      top : (k : ℕ) → low + n ≤ k → flatMap f (below k) ≡ flatMap f (below (low + n))
+      top zero h = same-below 0 (low + n) (omega arith)
+      top (suc k) h = step k (decLt k (low + n)) h (top k)

@@ -1,0 +1,144 @@
+-- The entries that may open at a place, and that nothing is found at the others.
+use Prim.Native.Nat.{ℕ, _+_, _*_, _-_, _/_, _<_, _≤_}
+use native.Mathlib.Omega.{arith}
+use native.Mathlib.Decide.{ℕ-discrete}
+use mathlib.Core.Bool.{Bool, true, false, _&&_}
+use mathlib.Core.Path.{_≡_, refl, sym, ap, ap₂, _∙_, subst}
+use mathlib.Core.List.{List}
+use lib.ListN.{length, getD}
+use lib.Dec.{ltb, eqb}
+use borrow.Author.Tests.{le-leb, lt-leb, lt-ltb, le-ltb, eq-eqb, ne-eqb}
+use Rattle.model.specs.Lists.{number}
+use Rattle.model.specs.Blocks.{Header, header}
+use Rattle.model.specs.Lexicon.{firstEntry, entryCount, inLexicon}
+use Rattle.model.specs.Query.{Query, analysis, generation, queryOf, entryNumbers}
+use Rattle.model.specs.Refusals.{rightEntries}
+use Rattle.model.proofs.Booleans.{of-true}
+use Rattle.model.proofs.Lists.{length-map-below, getD-map-below}
+use Rattle.image.specs.Accepted.{Accepted}
+use Rattle.image.specs.Index.{indexOf}
+use Rattle.rules.proofs.Laws.{length-indexOf, lexicon-number}
+use Rattle.lexicon.proofs.Laws as entries
+use Rattle.listing.specs.Opening.{Ranged}
+
+module _ (image : List ℕ) (x : ℕ) where
+  in-range : (e : ℕ) → firstEntry image x ≤ e → e < firstEntry image x + entryCount image x → inLexicon image x e ≡ true
+  unfolding inLexicon
+  in-range e h k = rw (le-leb (firstEntry image x) e h, lt-ltb e (firstEntry image x + entryCount image x) k) refl
+
+  below-range : (e : ℕ) → e < firstEntry image x → inLexicon image x e ≡ false
+  unfolding inLexicon
+  below-range e h = rw (lt-leb (firstEntry image x) e h) refl
+
+  past-range : (e : ℕ) → firstEntry image x + entryCount image x ≤ e → inLexicon image x e ≡ false
+  unfolding inLexicon
+  past-range e h = let k : firstEntry image x ≤ e = omega arith in rw (le-leb (firstEntry image x) e k, le-ltb e (firstEntry image x + entryCount image x) h) refl
+
+-- a && b, by one of them
+left-false : (a b : Bool) → a ≡ false → (a && b) ≡ false
+left-false a b e = rw e refl
+
+right-false : (a b : Bool) → b ≡ false → (a && b) ≡ false
+right-false true b e = e
+right-false false b e = refl
+
+module _ (image : List ℕ) (h : Header) (a : Accepted image h) (x : ℕ) (inside : x < h .lexicons) (low high : ℕ) (e1 : low ≡ firstEntry image x) (e2 : high ≡ firstEntry image x + entryCount image x) where
+  within : high ≤ header image .entries
+  within = omega (arith, entries.lexicon-within image h (a .laid) (of-true (rightEntries image) (a .entries-right)) x inside, ap (λ (g : Header). g .entries) (a .laid .header-is))
+
+  -- analysis: all of the lexicon
+  pub analysis-range : (word : List ℕ) (n : ℕ) → Ranged image (queryOf (analysis word)) x n low high
+  unfolding queryOf
+  analysis-range word n = record {
+    in-order = omega arith;
+    in-entries = within;
+    inside = λ e k l. rw (in-range image x e (omega arith) (omega arith)) refl;
+    before = λ e k. left-false (inLexicon image x e) true (below-range image x e (omega arith));
+    past = λ e k. left-false (inLexicon image x e) true (past-range image x e (omega arith));
+  }
+
+  module _ (path : List ℕ) (n : ℕ) where
+    abbrev q : Query
+    q = queryOf (generation path)
+
+    abbrev asked : ℕ → Bool
+    asked e = q .entries .allows n e
+
+    numbers : length (entryNumbers path) ≡ length path / 2
+    unfolding entryNumbers
+    numbers = length-map-below (λ i. number path (2 * i)) (length path / 2)
+
+    named : n < length path / 2 → getD (entryNumbers path) n 0 ≡ number path (2 * n)
+    unfolding entryNumbers
+    named k = getD-map-below (λ i. number path (2 * i)) (length path / 2) n 0 k
+
+    -- past the path's last entry
+    not-past : length path / 2 ≤ n → (e : ℕ) → asked e ≡ false
+    unfolding queryOf
+    not-past k e = left-false (ltb n (length (entryNumbers path))) (eqb (getD (entryNumbers path) n 0) e) (le-ltb n (length (entryNumbers path)) (omega (arith, numbers)))
+
+    asked-other : n < length path / 2 → (e : ℕ) → (number path (2 * n) ≡ e → ⊥) → asked e ≡ false
+    unfolding queryOf
+    asked-other k e f = right-false (ltb n (length (entryNumbers path))) (eqb (getD (entryNumbers path) n 0) e) (ne-eqb (getD (entryNumbers path) n 0) e (λ g. f (sym (named k) ∙ g)))
+
+    asked-one : n < length path / 2 → (e : ℕ) → number path (2 * n) ≡ e → asked e ≡ true
+    unfolding queryOf
+    asked-one k e g = rw (lt-ltb n (length (entryNumbers path)) (omega (arith, numbers)), eq-eqb (getD (entryNumbers path) n 0) e (named k ∙ g)) refl
+
+    none : ((e : ℕ) → (inLexicon image x e && asked e) ≡ false) → Ranged image q x n 0 0
+    none f = record { in-order = omega arith; in-entries = omega arith; inside = λ e k l. absurd (omega arith); before = λ e k. f e; past = λ e k. f e }
+
+    pub generation-past : length path / 2 ≤ n → Ranged image q x n 0 0
+    generation-past k = none (λ e. right-false (inLexicon image x e) (asked e) (not-past k e))
+
+    module _ (k : n < length path / 2) (one : ℕ) (e3 : one ≡ number path (2 * n)) where
+      other : (e : ℕ) → (e ≡ one → ⊥) → (inLexicon image x e && asked e) ≡ false
+      other e f = right-false (inLexicon image x e) (asked e) (asked-other k e (λ g. f (sym g ∙ sym e3)))
+
+      pub generation-below : one < low → Ranged image q x n 0 0
+      generation-below l = none (λ e. go e (ℕ-discrete e one))
+        where
+          go : (e : ℕ) → Dec (e ≡ one) → (inLexicon image x e && asked e) ≡ false
+          go e (yes g) = left-false (inLexicon image x e) (asked e) (below-range image x e (omega arith))
+          go e (no f) = other e f
+
+      pub generation-above : high ≤ one → Ranged image q x n 0 0
+      generation-above l = none (λ e. go e (ℕ-discrete e one))
+        where
+          go : (e : ℕ) → Dec (e ≡ one) → (inLexicon image x e && asked e) ≡ false
+          go e (yes g) = left-false (inLexicon image x e) (asked e) (past-range image x e (omega arith))
+          go e (no f) = other e f
+
+      pub generation-one : low ≤ one → one < high → Ranged image q x n one (one + 1)
+      generation-one l m = record {
+        in-order = omega arith;
+        in-entries = omega (arith, within);
+        inside = λ e i j. rw (in-range image x e (omega arith) (omega arith)) (asked-one k e (sym e3 ∙ omega arith));
+        before = λ e i. other e (λ g. omega arith);
+        past = λ e i. other e (λ g. omega arith);
+      }
+
+-- the index's row of lexicons
+module _ (image index : List ℕ) (h : Header) (a : Accepted image h) (is : index ≡ indexOf image) (x : ℕ) (inside : x < h .lexicons) where
+  here : Accepted image (header image)
+  here = subst (Accepted image) (a .laid .header-is) a
+
+  few : x < 64
+  few = omega (arith, a .laid .limits .lexicons-most)
+
+  pub row-inside : 39168 + 2 * x + 2 + 1 < length index
+  row-inside = omega (arith, ap length is, length-indexOf image, few)
+
+  total : firstEntry image x + entryCount image x ≤ 2800
+  total = omega (arith, entries.lexicon-within image h (a .laid) (of-true (rightEntries image) (a .entries-right)) x inside, a .laid .limits .entries-most)
+
+  pub row-low : number index (39168 + 2 * x) ≡ firstEntry image x
+  row-low =
+      let k : x ≤ header image .lexicons = omega (arith, ap (λ (g : Header). g .lexicons) (a .laid .header-is)) in
+      ap (λ (l : List ℕ). number l (39168 + 2 * x)) is ∙ lexicon-number here x k (omega (arith, total))
+
+  pub row-high : number index (39168 + 2 * x + 2) ≡ firstEntry image x + entryCount image x
+  row-high =
+      let k : x + 1 ≤ header image .lexicons = omega (arith, ap (λ (g : Header). g .lexicons) (a .laid .header-is)) in
+      let w : 39168 + 2 * x + 2 ≡ 39168 + 2 * (x + 1) = omega arith in
+      ap₂ (λ (l : List ℕ) (i : ℕ). number l i) is w ∙ lexicon-number here (x + 1) k (omega (arith, total, entries.first-more image x)) ∙ entries.first-more image x

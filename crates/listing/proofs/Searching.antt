@@ -1,0 +1,151 @@
+-- The laws by which the search's two loops find what is found at a place.
+use Prim.Native.Nat.{ℕ, zero, suc, pred, _+_, _-_, _<_, _≤_}
+use native.Mathlib.Omega.{arith}
+use mathlib.Core.Bool.{Bool, true, false, _&&_, _||_, true≢false}
+use mathlib.Core.Path.{_≡_, refl, sym, ap, ap₂, _∙_}
+use mathlib.Core.List.{List, [], _∷_, _++_, append-nil}
+use lib.Dec.{T, eqb}
+use borrow.Author.Tests.{lt-ltb, le-ltb, eqb-false, eqb-true, ne-eqb, eq-eqb}
+use Rattle.model.specs.Lists.{below, given, flatMap, isZero}
+use Rattle.model.specs.Blocks.{header}
+use Rattle.model.specs.RuleTables.{pairs}
+use Rattle.model.specs.Grammar.{Grammar}
+use Rattle.model.specs.GrammarOf.{grammarOf}
+use Rattle.model.specs.Readings.{Reading}
+use Rattle.model.specs.Query.{Query}
+use Rattle.model.specs.Tree.{Node, opens, spells, mayAt, goAt, complete}
+use Rattle.model.specs.Lexicon.{inLexicon}
+use Rattle.model.proofs.Booleans.{of-true}
+use Rattle.model.proofs.Lists.{below-from}
+use Rattle.model.proofs.Parts.{flatMap-same}
+use Rattle.rows.specs.declared.Trail.{Trail}
+use Rattle.rows.specs.Trail.{readingOf}
+use Rattle.listing.specs.declared.place.Place.{Place}
+use Rattle.listing.specs.Gather.{grow, gather, room}
+use Rattle.listing.specs.Places.{restOf, nodeOf}
+use Rattle.listing.specs.Opening.{Ranged}
+use Rattle.listing.specs.Search.{nodeAt, foundAt}
+use Rattle.listing.proofs.Gather.{branch, gather-open, gather-pair, gather-end, gather-last, room-enter}
+use Rattle.listing.proofs.Loops.{below-low, below-range}
+
+all-empty : {B : Type 0} (f : ℕ → List B) (n : ℕ) → ((x : ℕ) → f x ≡ []) → flatMap f (below n) ≡ []
+all-empty f n e = below-low f n n (λ x h. e x) (omega arith)
+
+entries-within : (image : List ℕ) (high : ℕ) → high ≤ header image .entries → (m : ℕ) → m ≡ high → m ≤ grammarOf image .entries
+unfolding grammarOf
+entries-within image high h m e = omega arith
+
+same-none : {B : Type 0} (b : Bool) (l : List B) → b ≡ false → given b l ≡ []
+same-none b l e = rw e refl
+
+module _ (image : List ℕ) (q : Query) (place : Place) (trail : Trail) where
+  abbrev g : Grammar
+  g = grammarOf image
+
+  abbrev n : Node
+  n = nodeAt image place trail
+
+  abbrev r : Reading
+  r = readingOf trail
+
+  -- with no entry to spare, none opens
+  open-shut : 16 ≤ trail .entries → (x : ℕ) → mayAt g q true n x ≡ false
+  unfolding mayAt nodeOf
+  open-shut h x = rw (le-ltb (trail .entries) 16 h) refl
+
+  pub open-full : opens n ≡ true → 16 ≤ trail .entries → foundAt image q place trail ≡ []
+  unfolding foundAt
+  open-full o h = go (room n)
+    where
+      go : (k : ℕ) → gather g q k n r ≡ []
+      go zero = gather-end g q n r o
+      go (suc k) = gather-open g q k n r o ∙ all-empty (branch g q k n r true) (g .entries) (λ x. same-none (mayAt g q true n x) (gather g q k (goAt g q true n x) (grow true r x)) (open-shut h x))
+
+  -- with none of its pairs to spare, only what ends here
+  pair-shut : 40 ≤ trail .pairs → (x : ℕ) → mayAt g q false n x ≡ false
+  unfolding mayAt nodeOf
+  pair-shut h x = rw (le-ltb (trail .pairs) 40 h) (none (spells (restOf image place) (g .lexical x)) _ _ _)
+    where
+      none : (a b c d : Bool) → (a && false && b && c && d) ≡ false
+      none true b c d = refl
+      none false b c d = refl
+
+  pub pair-full : opens n ≡ false → 40 ≤ trail .pairs → foundAt image q place trail ≡ given (complete g q n) (r ∷ [])
+  unfolding foundAt
+  pair-full o h = go (room n)
+    where
+      go : (k : ℕ) → gather g q k n r ≡ given (complete g q n) (r ∷ [])
+      go zero = gather-last g q n r
+      go (suc k) =
+          gather-pair g q k n r o
+          ∙ ap (λ (l : List Reading). given (complete g q n) (r ∷ []) ++ l) (all-empty (branch g q k n r false) (g .pairs) (λ x. same-none (mayAt g q false n x) (gather g q k (goAt g q false n x) (grow false r x)) (pair-shut h x)))
+          ∙ append-nil (given (complete g q n) (r ∷ []))
+
+  -- what is found by entry low + i
+  abbrev pub openOne : ℕ → ℕ → List Reading
+  openOne low i = gather g q (pred (room n)) (goAt g q true n (low + i)) (grow true r (low + i))
+
+  module _ (spare : trail .entries < 16) where
+    entries-few : n .entries < 16
+    unfolding nodeOf
+    entries-few = spare
+
+    room-is : room n ≡ suc (pred (room n))
+    unfolding room nodeOf
+    room-is = omega arith
+
+    entry-may : (x : ℕ) (b : Bool) → (inLexicon image (place .onward) x && q .entries .allows (trail .entries) x) ≡ b → mayAt g q true n x ≡ b
+    unfolding mayAt nodeOf
+    entry-may x b e = rw (lt-ltb (trail .entries) 16 spare) e
+
+    pub open-all : (low high : ℕ) → opens n ≡ true → Ranged image q (place .onward) (trail .entries) low high → foundAt image q place trail ≡ flatMap (openOne low) (below (high - low))
+    unfolding foundAt
+    open-all low high o ranged =
+        let k = pred (room n) in
+        let w : low + (high - low) ≡ high = omega (arith, ranged .in-order) in
+        ap (λ (m : ℕ). gather g q m n r) room-is
+        ∙ gather-open g q k n r o
+        ∙ below-range (branch g q k n r true) low (high - low) (g .entries)
+        (λ x h. same-none (mayAt g q true n x) (gather g q k (goAt g q true n x) (grow true r x)) (entry-may x false (ranged .before x h)))
+        (λ x h. same-none (mayAt g q true n x) (gather g q k (goAt g q true n x) (grow true r x)) (entry-may x false (ranged .past x (omega arith))))
+        (entries-in low high ranged w)
+        ∙ flatMap-same (λ i. branch g q k n r true (low + i)) (openOne low) (below (high - low))
+        (λ i m. let b = below-from (high - low) i m in ap (λ (b : Bool). given b (openOne low i)) (entry-may (low + i) true (ranged .inside (low + i) (omega arith) (omega arith))))
+      where
+        entries-in : (low high : ℕ) → Ranged image q (place .onward) (trail .entries) low high → low + (high - low) ≡ high → low + (high - low) ≤ g .entries
+        entries-in low high ranged w = entries-within image high (ranged .in-entries) (low + (high - low)) w
+
+    -- and by the code's call
+    pub open-one : (low i : ℕ) (next : Place) (longer : Trail) → nodeAt image next longer ≡ goAt g q true n (low + i) → readingOf longer ≡ grow true r (low + i) → foundAt image q next longer ≡ openOne low i
+    unfolding foundAt
+    open-one low i next longer e f =
+        let s : room (goAt g q true n (low + i)) ≡ pred (room n) = ap pred (sym (room-enter g q n (low + i) entries-few)) in
+        ap₂ (λ (m : Node) (x : Reading). gather g q (room m) m x) e f ∙ ap (λ (k : ℕ). gather g q k (goAt g q true n (low + i)) (grow true r (low + i))) s
+
+-- the first of the letters left, 0 where there is none
+abbrev pub headOf : List ℕ → ℕ
+headOf [] = 0
+headOf (x ∷ xs) = x
+
+or-false : (b c : Bool) → (b || c) ≡ false → c ≡ false
+or-false true c e = absurd (true≢false e)
+or-false false c e = e
+
+or-right : (b c : Bool) → b ≡ false → (b || c) ≡ true → c ≡ true
+or-right true c f e = absurd (true≢false f)
+or-right false c f e = e
+
+-- a pair spells on where its lexical side is the null or the first letter left
+pub spells-not : (rest : List ℕ) (x : ℕ) → (isZero x || eqb x (headOf rest)) ≡ false → spells rest x ≡ false
+spells-not rest zero e = absurd (true≢false e)
+spells-not [] (suc a) e = refl
+spells-not (y ∷ rest) (suc a) e = ne-eqb y (suc a) (λ f. eqb-false (suc a) y (or-false (isZero (suc a)) (eqb (suc a) y) e) (sym f))
+
+pub spells-so : (rest : List ℕ) (x : ℕ) → (isZero x || eqb x (headOf rest)) ≡ true → T (spells rest x)
+spells-so rest zero e = tt
+spells-so [] (suc a) e =
+    let z : suc a ≡ 0 = eqb-true (suc a) 0 (or-right (isZero (suc a)) (eqb (suc a) 0) (ne-eqb (suc a) 0 (λ h. omega arith)) e) in
+    absurd (omega arith)
+spells-so (y ∷ rest) (suc a) e =
+    let same : suc a ≡ y = eqb-true (suc a) y (or-right (isZero (suc a)) (eqb (suc a) y) (ne-eqb (suc a) 0 (λ h. omega arith)) e) in
+    of-true (eqb y (suc a)) (eq-eqb y (suc a) (sym same))

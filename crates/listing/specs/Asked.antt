@@ -1,0 +1,10 @@
+-- A listing's request, by the code's direction and the bytes it was given.
+use Prim.Native.Nat.{ℕ}
+use mathlib.Core.List.{List}
+use Rattle.model.specs.Query as model
+use Rattle.listing.specs.declared.asked.Direction.{Direction}
+use Rattle.listing.specs.declared.asked.Direction.the-variants.{Analysis, Generation}
+
+abbrev pub requestOf : Direction → List ℕ → model.Request
+requestOf Analysis word = model.Request.analysis word
+requestOf Generation path = model.Request.generation path

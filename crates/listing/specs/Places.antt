@@ -1,0 +1,50 @@
+-- A place of the code's search as a node of the model's tree, and what holds of it.
+use Prim.Native.Nat.{ℕ, suc, _-_, _<_, _≤_}
+use mathlib.Core.Bool.{Bool, true, false}
+use mathlib.Core.Path.{_≡_}
+use mathlib.Core.Logic.{_⊎_}
+use mathlib.Core.List.{List}
+use lib.ListN.{length, take, drop}
+use lib.Dec.{T, eqb}
+use Rattle.model.specs.Lists.{every, within}
+use Rattle.model.specs.Blocks.{header}
+use Rattle.model.specs.Lexicon.{inLexicon}
+use Rattle.model.specs.GrammarOf.{grammarOf}
+use Rattle.model.specs.Query.{Query}
+use Rattle.model.specs.Tree.{Node, mayAt, goAt}
+use Rattle.rules.specs.Live.{Live}
+use Rattle.listing.specs.declared.place.Place.{Place}
+use Rattle.listing.specs.Levels.{levelOf, Bounded}
+
+-- the letters left
+abbrev pub restOf : List ℕ → Place → List ℕ
+restOf image p = take (p .to - p .from) (drop (p .from) image)
+
+-- with so many entries and pairs read
+unfoldable pub nodeOf : List ℕ → Place → ℕ → ℕ → Node
+nodeOf image p entries pairs =
+    record {
+      rest = restOf image p;
+      ways = inLexicon image (p .onward);
+      ended = eqb (p .onward) 255;
+      entries = entries;
+      pairs = pairs;
+      nulls = p .nulls;
+      surface = levelOf (p .surface);
+      states = take (header image .rules) (p .states);
+    }
+
+pub record Standing (image : List ℕ) (p : Place) : Type 0 where
+  pub in-order : p .from ≤ p .to
+  pub in-image : p .to ≤ length image
+  pub letters-right : T (every (within 2 (header image .letters)) (restOf image p))
+  pub onward-right : (p .onward < header image .lexicons) ⊎ (p .onward ≡ 255)
+  pub nulls-in : p .nulls ≤ 8
+  pub surface-in : Bounded (p .surface)
+  pub states-live : Live image (p .states)
+
+-- whether pair p may be taken, and the place after it
+pub record Took (image : List ℕ) (q : Query) (place : Place) (p : ℕ) (may : Bool) (after : Place) : Type 0 where
+  pub may-is : (n m : ℕ) → m < 40 → may ≡ mayAt (grammarOf image) q false (nodeOf image place n m) p
+  pub node-is : may ≡ true → (n m : ℕ) → nodeOf image after n (suc m) ≡ goAt (grammarOf image) q false (nodeOf image place n m) p
+  pub stands : may ≡ true → Standing image after

@@ -1,0 +1,19 @@
+-- What the search finds from a place with a trail behind it.
+use Prim.Native.Nat.{ℕ}
+use mathlib.Core.List.{List}
+use Rattle.model.specs.GrammarOf.{grammarOf}
+use Rattle.model.specs.Readings.{Reading}
+use Rattle.model.specs.Query.{Query}
+use Rattle.model.specs.Tree.{Node}
+use Rattle.rows.specs.declared.Trail.{Trail}
+use Rattle.rows.specs.Trail.{readingOf}
+use Rattle.listing.specs.declared.place.Place.{Place}
+use Rattle.listing.specs.Gather.{gather, room}
+use Rattle.listing.specs.Places.{nodeOf}
+
+abbrev pub nodeAt : List ℕ → Place → Trail → Node
+nodeAt image place trail = nodeOf image place (trail .entries) (trail .pairs)
+
+-- all that is found in the room that is left
+unfoldable pub foundAt : List ℕ → Query → Place → Trail → List Reading
+foundAt image q place trail = let n = nodeAt image place trail in gather (grammarOf image) q (room n) n (readingOf trail)

@@ -1,0 +1,82 @@
+// The two levels as far as a search has come, and what one more pair makes of each.
+ghost use mathlib.Core.Bool.{true};
+ghost use mathlib.Core.Path.{_≡_};
+ghost use Prim.Native.Nat.{_≤_, _<_};
+ghost use lib.Dec.{leb};
+ghost use Rattle.model.specs.Query.{queryOf};
+ghost use Rattle.model.specs.Tree.{lettersAnd, nullsAnd};
+ghost use Rattle.listing.specs.Asked.{requestOf};
+ghost use Rattle.listing.specs.Levels.{levelMayBy, levelGoBy, levelOf, Bounded};
+use crate::asked::Direction;
+use letters::Lexical;
+use letters::Surface;
+
+pub struct Level {
+    pub letters: usize,
+    pub nulls: usize,
+}
+
+// A level after one more pair, where the pair may come next.
+pub struct Passed {
+    pub may: bool,
+    pub level: Level,
+}
+
+pub fn pass(d: Direction, asked: &[u8], level: Level, x: Surface) -> Passed
+    requires { ⌜ Bounded level ⌝ }
+    ensures may { λ r. ⌜ r .may ≡ levelMayBy (queryOf (requestOf d (now (asked .entry))) .letters) (levelOf level) (x .0) ⌝ }
+    ensures go { λ r. ⌜ (r .may ≡ true → (levelOf (r .level) ≡ levelGoBy (levelOf level) (x .0)) × Bounded (r .level)) ⌝ }
+{
+    let letters = level.letters;
+    let nulls = level.nulls;
+    if x.0 == 0 {
+        let more = Level {
+            letters: letters,
+            nulls: nulls + 1,
+        };
+        return Passed {
+            may: nulls < 8,
+            level: more,
+        };
+    }
+    if !crate::asked::allows_letter(d, asked, letters, x) {
+        return Passed {
+            may: false,
+            level: level,
+        };
+    }
+    let more = Level {
+        letters: letters + 1,
+        nulls: nulls,
+    };
+    Passed {
+        may: letters < 32,
+        level: more,
+    }
+}
+
+// The lexical level after one more pair: where the letters left begin, and its nulls.
+pub struct Spelled {
+    pub may: bool,
+    pub from: usize,
+    pub nulls: usize,
+}
+
+pub fn spell(from: usize, nulls: usize, x: Lexical) -> Spelled
+    requires { ⌜ (nulls ≤ 8) × (from < 65536) ⌝ }
+    ensures may { λ r. ⌜ r .may ≡ leb (nullsAnd nulls (x .0)) 8 ⌝ }
+    ensures go { λ r. ⌜ (r .may ≡ true → (r .from ≡ lettersAnd from (x .0)) × ((r .nulls ≡ nullsAnd nulls (x .0)) × (r .nulls ≤ 8))) ⌝ }
+{
+    if x.0 == 0 {
+        return Spelled {
+            may: nulls < 8,
+            from: from,
+            nulls: nulls + 1,
+        };
+    }
+    Spelled {
+        may: true,
+        from: from + 1,
+        nulls: nulls,
+    }
+}

@@ -1,0 +1,6 @@
+// What a search for readings goes by, the direction a parameter: what is asked, the levels, the entries that may open, a pair taken, the end.
+pub mod asked;
+pub mod level;
+pub mod opening;
+pub mod pairing;
+pub mod place;
