@@ -4,11 +4,12 @@ use native.Mathlib.Omega.{arith}
 use mathlib.Core.Bool.{Bool, true, false, _&&_, _||_, true≢false}
 use mathlib.Core.Path.{_≡_, refl, sym, ap, ap₂, _∙_}
 use mathlib.Core.List.{List, [], _∷_, _++_, append-nil}
+use lib.ListN.{getD}
 use lib.Dec.{T, eqb}
 use borrow.Author.Tests.{lt-ltb, le-ltb, eqb-false, eqb-true, ne-eqb, eq-eqb}
 use Rattle.model.specs.Lists.{below, given, flatMap, isZero}
 use Rattle.model.specs.Blocks.{header}
-use Rattle.model.specs.RuleTables.{pairs}
+use Rattle.model.specs.RuleTables.{pairs, boundaryPair}
 use Rattle.model.specs.Grammar.{Grammar}
 use Rattle.model.specs.GrammarOf.{grammarOf}
 use Rattle.model.specs.Readings.{Reading}
@@ -18,6 +19,7 @@ use Rattle.model.specs.Lexicon.{inLexicon}
 use Rattle.model.proofs.Booleans.{of-true}
 use Rattle.model.proofs.Lists.{below-from}
 use Rattle.model.proofs.Parts.{flatMap-same}
+use Rattle.image.specs.Index.{candidates}
 use Rattle.rows.specs.declared.Trail.{Trail}
 use Rattle.rows.specs.Trail.{readingOf}
 use Rattle.listing.specs.declared.place.Place.{Place}
@@ -25,8 +27,8 @@ use Rattle.listing.specs.Gather.{grow, gather, room}
 use Rattle.listing.specs.Places.{restOf, nodeOf}
 use Rattle.listing.specs.Opening.{Ranged}
 use Rattle.listing.specs.Search.{nodeAt, foundAt}
-use Rattle.listing.proofs.Gather.{branch, gather-open, gather-pair, gather-end, gather-last, room-enter}
-use Rattle.listing.proofs.Loops.{below-low, below-range}
+use Rattle.listing.proofs.Gather.{branch, gather-open, gather-pair, gather-end, gather-last, room-enter, room-pair}
+use Rattle.listing.proofs.Loops.{flatMap-only, below-low, below-range}
 
 all-empty : {B : Type 0} (f : ℕ → List B) (n : ℕ) → ((x : ℕ) → f x ≡ []) → flatMap f (below n) ≡ []
 all-empty f n e = below-low f n n (λ x h. e x) (omega arith)
@@ -149,3 +151,52 @@ spells-so [] (suc a) e =
 spells-so (y ∷ rest) (suc a) e =
     let same : suc a ≡ y = eqb-true (suc a) y (or-right (isZero (suc a)) (eqb (suc a) y) (ne-eqb (suc a) 0 (λ h. omega arith)) e) in
     of-true (eqb y (suc a)) (eq-eqb y (suc a) (sym same))
+
+module _ (image : List ℕ) (q : Query) (place : Place) (trail : Trail) (spare : trail .pairs < 40) where
+  -- what one pair finds
+  abbrev pub pairOne : ℕ → List Reading
+  pairOne p = branch (grammarOf image) q (pred (room (nodeAt image place trail))) (nodeAt image place trail) (readingOf trail) false p
+
+  pair-room : room (nodeAt image place trail) ≡ suc (pred (room (nodeAt image place trail)))
+  unfolding room nodeOf
+  pair-room = omega arith
+
+  -- a pair that may not be taken finds nothing
+  pub pair-skip : (p : ℕ) → mayAt (grammarOf image) q false (nodeAt image place trail) p ≡ false → pairOne p ≡ []
+  pair-skip p e = same-none (mayAt (grammarOf image) q false (nodeAt image place trail) p) _ e
+
+  -- nor does one whose lexical side is neither the null nor the next letter
+  pair-apart : (p : ℕ) → (isZero (getD (pairs image) p boundaryPair .lexical) || eqb (getD (pairs image) p boundaryPair .lexical) (headOf (restOf image place))) ≡ false → pairOne p ≡ []
+  unfolding mayAt nodeOf grammarOf
+  pair-apart p e = pair-skip p (rw (spells-not (restOf image place) (getD (pairs image) p boundaryPair .lexical) e) refl)
+
+  pairs-counted : grammarOf image .pairs ≡ header image .pairs
+  unfolding grammarOf
+  pairs-counted = refl
+
+  pub pair-all : opens (nodeAt image place trail) ≡ false → foundAt image q place trail ≡ given (complete (grammarOf image) q (nodeAt image place trail)) (readingOf trail ∷ []) ++ flatMap pairOne (candidates image (headOf (restOf image place)))
+  unfolding foundAt candidates
+  pair-all o =
+      let g = grammarOf image in
+      let n = nodeAt image place trail in
+      let k = pred (room n) in
+      ap (λ (m : ℕ). gather g q m n (readingOf trail)) pair-room
+      ∙ gather-pair g q k n (readingOf trail) o
+      ∙ ap (λ (l : List Reading). given (complete g q n) (readingOf trail ∷ []) ++ l)
+      (ap (λ (m : ℕ). flatMap pairOne (below m)) pairs-counted
+      ∙ flatMap-only pairOne (λ p. isZero (getD (pairs image) p boundaryPair .lexical) || eqb (getD (pairs image) p boundaryPair .lexical) (headOf (restOf image place))) (below (header image .pairs)) pair-apart)
+
+  pairs-few : nodeAt image place trail .pairs < 40
+  unfolding nodeOf
+  pairs-few = spare
+
+  -- and by the code's call
+  pub pair-one : (p : ℕ) (next : Place) (longer : Trail) → mayAt (grammarOf image) q false (nodeAt image place trail) p ≡ true → nodeAt image next longer ≡ goAt (grammarOf image) q false (nodeAt image place trail) p → readingOf longer ≡ grow false (readingOf trail) p → foundAt image q next longer ≡ pairOne p
+  unfolding foundAt
+  pair-one p next longer may e f =
+      let g = grammarOf image in
+      let n = nodeAt image place trail in
+      let s : room (goAt g q false n p) ≡ pred (room n) = ap pred (sym (room-pair g q n p pairs-few)) in
+      ap₂ (λ (m : Node) (x : Reading). gather g q (room m) m x) e f
+      ∙ ap (λ (k : ℕ). gather g q k (goAt g q false n p) (grow false (readingOf trail) p)) s
+      ∙ ap (λ (b : Bool). given b (gather g q (pred (room n)) (goAt g q false n p) (grow false (readingOf trail) p))) (sym may)
