@@ -6,12 +6,13 @@ use Rattle.model.specs.Lists.{below, given, flatMap}
 use Rattle.model.specs.Grammar.{Grammar}
 use Rattle.model.specs.Readings.{Reading}
 use Rattle.model.specs.Query.{Query}
+use Rattle.rows.specs.Trail.{withEntry, withPair}
 use Rattle.model.specs.Tree.{Node, opens, countAt, mayAt, goAt, complete}
 
 -- an entry or a pair more
 abbrev pub grow : Bool → Reading → ℕ → Reading
-grow true r e = record { path = r .path ++ (e ∷ []); pairing = r .pairing }
-grow false r p = record { path = r .path; pairing = r .pairing ++ (p ∷ []) }
+grow true r e = withEntry r e
+grow false r p = withPair r p
 
 module _ (g : Grammar) (q : Query) where
   -- what is found from a node in at most k steps, r having been read

@@ -17,7 +17,8 @@ use Rattle.model.proofs.Lists.{every-at, below-has}
 use Rattle.image.specs.Laid.{Laid}
 use Rattle.tables.specs.Sides.{Paired}
 use Rattle.tables.specs.Breadths.{Columned, columnsBy}
-use Rattle.tables.proofs.Lists.{every-getD, every-getD-any}
+use Rattle.model.proofs.Rest.{every-getD}
+use Rattle.tables.proofs.Lists.{every-getD-any}
 use Rattle.tables.proofs.Bounds.{counts, sides, marks, nexts, rest, table-is, counts-bound}
 use Rattle.tables.proofs.Breadths.{length-columns}
 
@@ -116,7 +117,7 @@ module _ (image : List ℕ) where
   right-column t r p h k =
       let i : p < length (columnsOf image r) = omega (arith, length-columnsOf r) in
       ltb→lt (getD (columnsOf image r) p 0) (columnCount (table image r))
-      (every-getD (λ c. ltb c (columnCount (table image r))) 0 (columnsOf image r) p i
+      (every-getD (λ c. ltb c (columnCount (table image r))) (columnsOf image r) p 0 i
       (every-at (λ r. every (λ c. ltb c (columnCount (table image r))) (columnsOf image r)) (below (header image .rules)) (below-has (header image .rules) r h) t))
 
 -- a table that was read of an image that passes test 6

@@ -67,14 +67,8 @@ module _ (f : ℕ → Bool) where
       go (yes q) r = right-false (every f (below n)) (every f (n ∷ [])) (left-false (f n) true (ap f (sym q) ∙ e))
       go (no q) r = left-false (every f (below n)) (every f (n ∷ [])) (r (omega arith))
 
--- an element of a list whose every element passes
+-- an element of a list whose every element passes, and past its end what passes as well
 module _ {A : Type 0} (f : A → Bool) (d : A) where
-  pub every-getD : (l : List A) (i : ℕ) → i < length l → T (every f l) → T (f (getD l i d))
-  every-getD [] i h t = absurd (omega arith)
-  every-getD (x ∷ l) zero h t = and-out (f x) (every f l) t .0
-  every-getD (x ∷ l) (suc i) h t = every-getD l i (omega arith) (and-out (f x) (every f l) t .1)
-
-  -- and past its end, where what stands there passes
   pub every-getD-any : (l : List A) (i : ℕ) → T (f d) → T (every f l) → T (f (getD l i d))
   every-getD-any [] i h t = h
   every-getD-any (x ∷ l) zero h t = and-out (f x) (every f l) t .0
