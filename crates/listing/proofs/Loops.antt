@@ -1,13 +1,12 @@
 -- Loops that try fewer than all numbers below a bound, and lose nothing: a range, or those that pass a test.
 use Prim.Native.Nat.{ℕ, zero, suc, _+_, _-_, _<_, _≤_}
-use native.Mathlib.Numerals.{add-one}
 use native.Mathlib.Omega.{arith}
 use native.Mathlib.Decide.{decLt}
 use mathlib.Core.Bool.{Bool, true, false}
 use mathlib.Core.Path.{_≡_, refl, sym, ap, ap₂, _∙_}
 use mathlib.Core.List.{List, [], _∷_, _++_, append-nil}
 use lib.ListN.{length, getD, take}
-use lib.Seq.{take-suc}
+use lib.Seq.{take-suc, take-all}
 use Rattle.model.specs.Lists.{below, given, flatMap}
 use Rattle.model.proofs.Lists.{flatMap-append, flatMap-below}
 use Rattle.image.specs.Index.{only}
@@ -23,12 +22,22 @@ module _ {B : Type 0} (f : ℕ → List B) where
       go false t r = ap₂ (λ (k l : List B). k ++ l) (e x t) r
 
   -- a turn more through a list
-  pub flatMap-more : (xs : List ℕ) (k : ℕ) → k < length xs → flatMap f (take (k + 1) xs) ≡ flatMap f (take k xs) ++ f (getD xs k 0)
+  flatMap-more : (xs : List ℕ) (k : ℕ) → k < length xs → flatMap f (take (suc k) xs) ≡ flatMap f (take k xs) ++ f (getD xs k 0)
   flatMap-more xs k h =
-      ap (λ (n : ℕ). flatMap f (take n xs)) (add-one k)
-      ∙ ap (flatMap f) (take-suc xs k 0 h)
+      ap (flatMap f) (take-suc xs k 0 h)
       ∙ flatMap-append f (take k xs) (getD xs k 0 ∷ [])
       ∙ ap (λ (l : List B). flatMap f (take k xs) ++ l) (append-nil (f (getD xs k 0)))
+
+  flatMap-taken : (xs : List ℕ) (k : ℕ) → k ≤ length xs → flatMap f (take k xs) ≡ flatMap (λ i. f (getD xs i 0)) (below k)
+  flatMap-taken xs zero h = refl
+  flatMap-taken xs (suc k) h =
+      flatMap-more xs k h
+      ∙ ap (λ (l : List B). l ++ f (getD xs k 0)) (flatMap-taken xs k (omega arith))
+      ∙ sym (flatMap-below (λ i. f (getD xs i 0)) k)
+
+  -- a list by its places
+  pub flatMap-places : (xs : List ℕ) → flatMap f xs ≡ flatMap (λ i. f (getD xs i 0)) (below (length xs))
+  flatMap-places xs = ap (flatMap f) (sym (take-all (length xs) xs (omega arith))) ∙ flatMap-taken xs (length xs) (omega arith)
 
   -- nothing is found below low or from high on
   pub below-low : (low n : ℕ) → ((x : ℕ) → x < low → f x ≡ []) → n ≤ low → flatMap f (below n) ≡ []
@@ -52,3 +61,13 @@ module _ {B : Type 0} (f : ℕ → List B) where
       top : (k : ℕ) → low + n ≤ k → flatMap f (below k) ≡ flatMap f (below (low + n))
       top zero h = same-below 0 (low + n) (omega arith)
       top (suc k) h = step k (decLt k (low + n)) h (top k)
+
+-- each of those that pass a test passes it
+pub only-passes : (test : ℕ → Bool) (xs : List ℕ) (i : ℕ) → i < length (only test xs) → test (getD (only test xs) i 0) ≡ true
+only-passes test [] i h = absurd (omega arith)
+only-passes test (x ∷ xs) i h = go (test x) refl i h (only-passes test xs)
+  where
+    go : (b : Bool) → test x ≡ b → (i : ℕ) → i < length (given b (x ∷ []) ++ only test xs) → ((i : ℕ) → i < length (only test xs) → test (getD (only test xs) i 0) ≡ true) → test (getD (given b (x ∷ []) ++ only test xs) i 0) ≡ true
+    go true e zero h r = e
+    go true e (suc i) h r = r i (omega arith)
+    go false e i h r = r i h

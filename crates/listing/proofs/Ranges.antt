@@ -38,7 +38,7 @@ module _ (image : List ℕ) (x : ℕ) where
 left-false : (a b : Bool) → a ≡ false → (a && b) ≡ false
 left-false a b e = rw e refl
 
-right-false : (a b : Bool) → b ≡ false → (a && b) ≡ false
+pub right-false : (a b : Bool) → b ≡ false → (a && b) ≡ false
 right-false true b e = e
 right-false false b e = refl
 

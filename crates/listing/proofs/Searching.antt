@@ -26,7 +26,7 @@ use Rattle.listing.specs.declared.place.Place.{Place}
 use Rattle.listing.specs.Gather.{grow, gather, room}
 use Rattle.listing.specs.Places.{restOf, nodeOf}
 use Rattle.listing.specs.Opening.{Ranged}
-use Rattle.listing.specs.Search.{nodeAt, foundAt}
+use Rattle.listing.specs.Search.{nodeAt, headOf, foundAt}
 use Rattle.listing.proofs.Gather.{branch, gather-open, gather-pair, gather-end, gather-last, room-enter, room-pair}
 use Rattle.listing.proofs.Loops.{flatMap-only, below-low, below-range}
 
@@ -124,11 +124,6 @@ module _ (image : List ℕ) (q : Query) (place : Place) (trail : Trail) where
         let s : room (goAt g q true n (low + i)) ≡ pred (room n) = ap pred (sym (room-enter g q n (low + i) entries-few)) in
         ap₂ (λ (m : Node) (x : Reading). gather g q (room m) m x) e f ∙ ap (λ (k : ℕ). gather g q k (goAt g q true n (low + i)) (grow true r (low + i))) s
 
--- the first of the letters left, 0 where there is none
-abbrev pub headOf : List ℕ → ℕ
-headOf [] = 0
-headOf (x ∷ xs) = x
-
 or-false : (b c : Bool) → (b || c) ≡ false → c ≡ false
 or-false true c e = absurd (true≢false e)
 or-false false c e = e
@@ -152,21 +147,21 @@ spells-so (y ∷ rest) (suc a) e =
     let same : suc a ≡ y = eqb-true (suc a) y (or-right (isZero (suc a)) (eqb (suc a) y) (ne-eqb (suc a) 0 (λ h. omega arith)) e) in
     of-true (eqb y (suc a)) (eq-eqb y (suc a) (sym same))
 
-module _ (image : List ℕ) (q : Query) (place : Place) (trail : Trail) (spare : trail .pairs < 40) where
-  -- what one pair finds
-  abbrev pub pairOne : ℕ → List Reading
-  pairOne p = branch (grammarOf image) q (pred (room (nodeAt image place trail))) (nodeAt image place trail) (readingOf trail) false p
+-- what one pair finds
+abbrev pub pairOne : List ℕ → Query → Place → Trail → ℕ → List Reading
+pairOne image q place trail p = branch (grammarOf image) q (pred (room (nodeAt image place trail))) (nodeAt image place trail) (readingOf trail) false p
 
+module _ (image : List ℕ) (q : Query) (place : Place) (trail : Trail) (spare : trail .pairs < 40) where
   pair-room : room (nodeAt image place trail) ≡ suc (pred (room (nodeAt image place trail)))
   unfolding room nodeOf
   pair-room = omega arith
 
   -- a pair that may not be taken finds nothing
-  pub pair-skip : (p : ℕ) → mayAt (grammarOf image) q false (nodeAt image place trail) p ≡ false → pairOne p ≡ []
+  pub pair-skip : (p : ℕ) → mayAt (grammarOf image) q false (nodeAt image place trail) p ≡ false → pairOne image q place trail p ≡ []
   pair-skip p e = same-none (mayAt (grammarOf image) q false (nodeAt image place trail) p) _ e
 
   -- nor does one whose lexical side is neither the null nor the next letter
-  pair-apart : (p : ℕ) → (isZero (getD (pairs image) p boundaryPair .lexical) || eqb (getD (pairs image) p boundaryPair .lexical) (headOf (restOf image place))) ≡ false → pairOne p ≡ []
+  pair-apart : (p : ℕ) → (isZero (getD (pairs image) p boundaryPair .lexical) || eqb (getD (pairs image) p boundaryPair .lexical) (headOf (restOf image place))) ≡ false → pairOne image q place trail p ≡ []
   unfolding mayAt nodeOf grammarOf
   pair-apart p e = pair-skip p (rw (spells-not (restOf image place) (getD (pairs image) p boundaryPair .lexical) e) refl)
 
@@ -174,7 +169,7 @@ module _ (image : List ℕ) (q : Query) (place : Place) (trail : Trail) (spare :
   unfolding grammarOf
   pairs-counted = refl
 
-  pub pair-all : opens (nodeAt image place trail) ≡ false → foundAt image q place trail ≡ given (complete (grammarOf image) q (nodeAt image place trail)) (readingOf trail ∷ []) ++ flatMap pairOne (candidates image (headOf (restOf image place)))
+  pub pair-all : opens (nodeAt image place trail) ≡ false → foundAt image q place trail ≡ given (complete (grammarOf image) q (nodeAt image place trail)) (readingOf trail ∷ []) ++ flatMap (pairOne image q place trail) (candidates image (headOf (restOf image place)))
   unfolding foundAt candidates
   pair-all o =
       let g = grammarOf image in
@@ -183,15 +178,15 @@ module _ (image : List ℕ) (q : Query) (place : Place) (trail : Trail) (spare :
       ap (λ (m : ℕ). gather g q m n (readingOf trail)) pair-room
       ∙ gather-pair g q k n (readingOf trail) o
       ∙ ap (λ (l : List Reading). given (complete g q n) (readingOf trail ∷ []) ++ l)
-      (ap (λ (m : ℕ). flatMap pairOne (below m)) pairs-counted
-      ∙ flatMap-only pairOne (λ p. isZero (getD (pairs image) p boundaryPair .lexical) || eqb (getD (pairs image) p boundaryPair .lexical) (headOf (restOf image place))) (below (header image .pairs)) pair-apart)
+      (ap (λ (m : ℕ). flatMap (pairOne image q place trail) (below m)) pairs-counted
+      ∙ flatMap-only (pairOne image q place trail) (λ p. isZero (getD (pairs image) p boundaryPair .lexical) || eqb (getD (pairs image) p boundaryPair .lexical) (headOf (restOf image place))) (below (header image .pairs)) pair-apart)
 
   pairs-few : nodeAt image place trail .pairs < 40
   unfolding nodeOf
   pairs-few = spare
 
   -- and by the code's call
-  pub pair-one : (p : ℕ) (next : Place) (longer : Trail) → mayAt (grammarOf image) q false (nodeAt image place trail) p ≡ true → nodeAt image next longer ≡ goAt (grammarOf image) q false (nodeAt image place trail) p → readingOf longer ≡ grow false (readingOf trail) p → foundAt image q next longer ≡ pairOne p
+  pub pair-one : (p : ℕ) (next : Place) (longer : Trail) → mayAt (grammarOf image) q false (nodeAt image place trail) p ≡ true → nodeAt image next longer ≡ goAt (grammarOf image) q false (nodeAt image place trail) p → readingOf longer ≡ grow false (readingOf trail) p → foundAt image q next longer ≡ pairOne image q place trail p
   unfolding foundAt
   pair-one p next longer may e f =
       let g = grammarOf image in

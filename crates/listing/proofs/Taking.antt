@@ -37,13 +37,13 @@ module _ (image : List ℕ) (h : Header) (a : Accepted image h) where
 
 -- a letter taken off the front of a part of the image
 module _ (image : List ℕ) (from to : ℕ) (inside : to ≤ length image) where
-  abbrev part : ℕ → List ℕ
+  abbrev pub part : ℕ → List ℕ
   part i = take (to - i) (drop i image)
 
-  part-nil : to ≤ from → part from ≡ []
+  pub part-nil : to ≤ from → part from ≡ []
   part-nil h = let z : to - from ≡ 0 = omega arith in rw z refl
 
-  part-cons : from < to → part from ≡ getD image from 0 ∷ part (suc from)
+  pub part-cons : from < to → part from ≡ getD image from 0 ∷ part (suc from)
   part-cons h =
       let k : from < length image = omega arith in
       let w : to - from ≡ suc (to - suc from) = omega arith in

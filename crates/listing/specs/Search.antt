@@ -1,6 +1,6 @@
 -- What the search finds from a place with a trail behind it.
 use Prim.Native.Nat.{ℕ}
-use mathlib.Core.List.{List}
+use mathlib.Core.List.{List, [], _∷_}
 use Rattle.model.specs.GrammarOf.{grammarOf}
 use Rattle.model.specs.Readings.{Reading}
 use Rattle.model.specs.Query.{Query}
@@ -13,6 +13,11 @@ use Rattle.listing.specs.Places.{nodeOf}
 
 abbrev pub nodeAt : List ℕ → Place → Trail → Node
 nodeAt image place trail = nodeOf image place (trail .entries) (trail .pairs)
+
+-- the first of the letters left, 0 where there is none
+abbrev pub headOf : List ℕ → ℕ
+headOf [] = 0
+headOf (x ∷ xs) = x
 
 -- all that is found in the room that is left
 unfoldable pub foundAt : List ℕ → Query → Place → Trail → List Reading

@@ -1,0 +1,56 @@
+-- The proof of the cycle of calls {open, pair}. With m entries and pairs of the trail left, the measure of `open` is 2m and that of `pair` 2m + 1.
+use Rattle.search.proofs.open.Reads as «open»
+use Rattle.search.proofs.pair.Reads as pair
+use Rattle.search.proofs.+open+pair.Lts-open as open-lts
+use Rattle.search.proofs.+open+pair.Lts-pair as pair-lts
+use Rattle.search.proofs.+open+pair.{statement}
+use Rattle.search.proofs.+open+pair.Tie.{close}
+use Rattle.search.proofs.+open+pair.Proof.Shared.{μ-open, μ-pair, open-at, pair-at, open-claims, pair-claims, open-Inv-loop, open-μ-loop, pair-Inv-loop, pair-μ-loop}
+use Rattle.search.proofs.+open+pair.Proof.Open as o
+use Rattle.search.proofs.+open+pair.Proof.Pair as p
+mod Shared
+mod Open
+mod Pair
+
+pub +open+pair-spec : {M : Type 1} → statement M
++open+pair-spec = close μ-open μ-pair
+    (λ t. open-lts.spec (open-claims t) (open-at t) open.Post open-Inv-loop open-μ-loop
+    (o.returns t)
+    (o.open-range-requires t)
+    (o.sub-count t)
+    (o.loop-holds t)
+    (o.same-length t)
+    (o.returns-2 t)
+    (o.add-e t)
+    (o.enter-requires t)
+    (o.cast-with-entry t)
+    (o.with-entry-requires t)
+    (o.pair-requires t)
+    (o.add-k t)
+    (o.loop-less t)
+    (o.loop-again t)
+    (o.same-length-2 t)
+    (o.returns-3 t))
+    (λ t. pair-lts.spec (pair-claims t) (pair-at t) pair.Post pair-Inv-loop pair-μ-loop
+    (p.opens-requires t)
+    (p.open-requires t)
+    (p.same-length t)
+    (p.returns t)
+    (p.finish-requires t)
+    (p.same-length-2 t)
+    (p.returns-2 t)
+    (p.next-letter-requires t)
+    (p.candidate-count-requires t)
+    (p.loop-holds t)
+    (p.same-length-3 t)
+    (p.returns-3 t)
+    (p.candidate-requires t)
+    (p.take-requires t)
+    (p.cast-with-pair t)
+    (p.with-pair-requires t)
+    (p.pair-requires t)
+    (p.add-k t)
+    (p.loop-less t)
+    (p.loop-again t)
+    (p.same-length-4 t)
+    (p.returns-4 t))

@@ -1,0 +1,82 @@
+-- What the two members of the cycle share: the measures, what each is given at the measure t and what a call of it asks below t, the invariants.
+use Prim.Native.Nat.{ℕ, _<_, _≤_, _+_, _*_, _-_}
+use borrow.Fn.Kinds.{In}
+use borrow.Fn.PlainCycle.{Measures, is, falls, and}
+use Rattle.model.specs.Query.{queryOf}
+use Rattle.listing.specs.Asked.{requestOf}
+use Rattle.listing.proofs.Searching.{openOne}
+use Rattle.listing.proofs.opening.open_range.Reads as open-range-reads
+use Rattle.listing.proofs.pairing.take.Reads as take-reads
+use Rattle.listing.proofs.place.enter.Reads as enter-reads
+use Rattle.rows.proofs.with_entry.Reads as with-entry-reads
+use Rattle.rows.proofs.with_pair.Reads as with-pair-reads
+use Rattle.search.proofs.Passing.{Passed}
+use Rattle.search.proofs.Heads.{room, pairAt}
+use Rattle.search.proofs.open.Reads as «open»
+use Rattle.search.proofs.open.Kinds as open-kinds
+use Rattle.search.proofs.+open+pair.Lts-open as open-lts
+use Rattle.search.proofs.pair.Reads as pair
+use Rattle.search.proofs.pair.Kinds as pair-kinds
+use Rattle.search.proofs.+open+pair.Lts-pair as pair-lts
+use Rattle.search.proofs.here.candidate.Reads as candidate-reads
+use Rattle.search.proofs.here.candidate_count.Reads as candidate-count-reads
+use Rattle.search.proofs.here.finish.Reads as finish-reads
+use Rattle.search.proofs.here.next_letter.Reads as next-letter-reads
+use Rattle.search.proofs.here.opens.Reads as opens-reads
+
+abbrev pub μ-open : Measures 4 open-kinds.ps ℕ
+μ-open κs a = 2 * room (a .1 .1 .1 .1 .1 .1 .0)
+
+abbrev pub μ-pair : Measures 4 pair-kinds.ps ℕ
+μ-pair κs a = 2 * room (a .1 .1 .1 .1 .1 .1 .0) + 1
+
+abbrev pub open-at : ℕ → In 4 open-kinds.ps
+open-at t = and 4 open-kinds.ps (is 4 open-kinds.ps μ-open t) open.Pre
+
+abbrev pub open-below : ℕ → In 4 open-kinds.ps
+open-below t = and 4 open-kinds.ps (falls 4 open-kinds.ps _<_ μ-open t) open.Pre
+
+abbrev pub pair-at : ℕ → In 4 pair-kinds.ps
+pair-at t = and 4 pair-kinds.ps (is 4 pair-kinds.ps μ-pair t) pair.Pre
+
+abbrev pub pair-below : ℕ → In 4 pair-kinds.ps
+pair-below t = and 4 pair-kinds.ps (falls 4 pair-kinds.ps _<_ μ-pair t) pair.Pre
+
+abbrev pub open-claims : ℕ → open-lts.Claims
+open-claims t = (open-range-reads.Asked, open-range-reads.Learnt, enter-reads.Asked, enter-reads.Learnt, with-entry-reads.Asked, with-entry-reads.Learnt, pair-below t, pair.Post)
+
+abbrev pub pair-claims : ℕ → pair-lts.Claims
+pair-claims t = (
+  opens-reads.Asked,
+  opens-reads.Learnt,
+  open-below t,
+  open.Post,
+  finish-reads.Asked,
+  finish-reads.Learnt,
+  next-letter-reads.Asked,
+  next-letter-reads.Learnt,
+  candidate-count-reads.Asked,
+  candidate-count-reads.Learnt,
+  candidate-reads.Asked,
+  candidate-reads.Learnt,
+  take-reads.Asked,
+  take-reads.Learnt,
+  with-pair-reads.Asked,
+  with-pair-reads.Learnt,
+  pair-below t,
+  pair.Post,
+)
+
+abbrev pub open-Inv-loop : open-lts.InvT-loop
+open-Inv-loop image index h d asked place trail out₀ capacity found low count n₀ k₀ out n k =
+    (k ≤ count) × Passed (openOne image (queryOf (requestOf d asked)) place trail low) out₀ found out n k
+
+abbrev pub open-μ-loop : open-lts.MeasureT-loop
+open-μ-loop image index h d asked place trail out₀ capacity found low count n₀ k₀ out n k = count - k
+
+abbrev pub pair-Inv-loop : pair-lts.InvT-loop
+pair-Inv-loop image index h d asked place trail out₀ capacity found ended letter many n₀ k₀ out n k =
+    (k ≤ many) × Passed (pairAt image (queryOf (requestOf d asked)) place trail letter) out₀ ended out n k
+
+abbrev pub pair-μ-loop : pair-lts.MeasureT-loop
+pair-μ-loop image index h d asked place trail out₀ capacity found ended letter many n₀ k₀ out n k = many - k

@@ -1,0 +1,43 @@
+-- The candidate pairs of a letter, as the index has them.
+use Prim.Native.Nat.{ℕ, _+_, _*_, _<_, _≤_}
+use native.Mathlib.Omega.{arith}
+use mathlib.Core.Path.{_≡_, sym, ap, _∙_, subst}
+use mathlib.Core.List.{List}
+use lib.ListN.{length, getD}
+use Rattle.model.specs.Lists.{byte}
+use Rattle.model.specs.Blocks.{Header, header}
+use Rattle.image.specs.Accepted.{Accepted}
+use Rattle.image.specs.Index.{candidates, indexOf}
+use Rattle.rules.proofs.Laws.{length-indexOf, candidate-count, candidate-byte, candidate-at, candidates-most}
+
+module _ (image index : List ℕ) (h : Header) (ok : Accepted image h) (indexed : index ≡ indexOf image) (a : ℕ) (letter : a ≤ h .letters) where
+  here : Accepted image (header image)
+  here = subst (Accepted image) (ok .laid .header-is) ok
+
+  letters-are : header image .letters ≡ h .letters
+  letters-are = ap (λ (g : Header). g .letters) (sym (ok .laid .header-is))
+
+  pairs-are : header image .pairs ≡ h .pairs
+  pairs-are = ap (λ (g : Header). g .pairs) (sym (ok .laid .header-is))
+
+  long : length index ≡ 39424
+  long = ap length indexed ∙ length-indexOf image
+
+  pub count-inside : 256 * (32 + a) < length index
+  count-inside = omega (arith, long, ok .laid .limits .letters-most)
+
+  pub count-is : byte index (256 * (32 + a)) ≡ length (candidates image a)
+  count-is = ap (λ (l : List ℕ). byte l (256 * (32 + a))) indexed ∙ candidate-count here a (omega (arith, letters-are))
+
+  module _ (k : ℕ) (inside : k < length (candidates image a)) where
+    pub pair-few : k < 250
+    pair-few = omega (arith, candidates-most image a, pairs-are, ok .laid .limits .pairs-most)
+
+    pub pair-inside : 256 * (32 + a) + 1 + k < length index
+    pair-inside = omega (arith, long, pair-few, ok .laid .limits .letters-most)
+
+    pub pair-is : byte index (256 * (32 + a) + 1 + k) ≡ getD (candidates image a) k 0
+    pair-is = ap (λ (l : List ℕ). byte l (256 * (32 + a) + 1 + k)) indexed ∙ candidate-byte here a k (omega (arith, letters-are)) inside
+
+    pub pair-below : getD (candidates image a) k 0 < h .pairs
+    pair-below = omega (arith, candidate-at image a k inside, pairs-are)

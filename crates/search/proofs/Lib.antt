@@ -1,0 +1,5 @@
+pub mod Passing
+pub mod Standing
+pub mod Candidates
+pub mod Heads
+pub mod Starting

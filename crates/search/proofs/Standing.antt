@@ -1,0 +1,64 @@
+-- The place where the search stands, as the model's node: whether an entry opens, the next letter, the reading that ends.
+use Prim.Native.Nat.{ℕ, suc, _<_, _≤_}
+use native.Mathlib.Omega.{arith}
+use native.Mathlib.Decide.{decLt, ℕ-discrete}
+use mathlib.Core.Bool.{true, false, true≢false}
+use mathlib.Core.Path.{_≡_, refl, sym, ap, _∙_, subst}
+use mathlib.Core.List.{List, [], _∷_}
+use lib.Dec.{T, leb}
+use borrow.Author.Tests.{le-leb, lt-leb, ne-eqb, leb-true}
+use Rattle.model.specs.Lists.{every, within, byte}
+use Rattle.model.specs.Blocks.{header}
+use Rattle.model.specs.GrammarOf.{grammarOf}
+use Rattle.model.specs.Query.{Query}
+use Rattle.model.specs.Tree.{opens, complete}
+use Rattle.model.proofs.Booleans.{and-out, true-of}
+use Rattle.listing.specs.declared.place.Place.{Place}
+use Rattle.listing.specs.Places.{restOf, nodeOf, Standing}
+use Rattle.listing.specs.Search.{headOf}
+use Rattle.listing.proofs.Taking.{part-nil, part-cons}
+use Rattle.search.specs.Here.{opensAt}
+
+module _ (image : List ℕ) (place : Place) (stands : Standing image place) where
+  rest-none : place .to ≤ place .from → restOf image place ≡ []
+  rest-none h = part-nil image (place .from) (place .to) (stands .in-image) h
+
+  rest-some : place .from < place .to → restOf image place ≡ byte image (place .from) ∷ restOf image (record { from = suc (place .from); to = place .to; onward = place .onward; nulls = place .nulls; surface = place .surface; states = place .states })
+  rest-some h = part-cons image (place .from) (place .to) (stands .in-image) h
+
+  pub opens-is : (n m : ℕ) → opens (nodeOf image place n m) ≡ opensAt place
+  unfolding nodeOf opensAt
+  opens-is n m = go (decLt (place .from) (place .to))
+    where
+      go : Dec (place .from < place .to) → opens (nodeOf image place n m) ≡ opensAt place
+      go (yes h) = rw (rest-some h, lt-leb (place .to) (place .from) h) refl
+      go (no h) = let k : place .to ≤ place .from = omega arith in rw (rest-none k, le-leb (place .to) (place .from) k) refl
+
+  pub head-some : place .from < place .to → byte image (place .from) ≡ headOf (restOf image place)
+  head-some h = sym (ap headOf (rest-some h))
+
+  pub head-none : place .to ≤ place .from → 0 ≡ headOf (restOf image place)
+  head-none h = sym (ap headOf (rest-none (omega arith)))
+
+  pub head-most : headOf (restOf image place) ≤ header image .letters
+  head-most = go (restOf image place) (stands .letters-right)
+    where
+      go : (l : List ℕ) → T (every (within 2 (header image .letters)) l) → headOf l ≤ header image .letters
+      go [] t = omega arith
+      go (x ∷ l) t =
+          let w = and-out (within 2 (header image .letters) x) (every (within 2 (header image .letters)) l) t .0 in
+          leb-true x (header image .letters) (true-of (leb x (header image .letters)) (and-out (leb 2 x) (leb x (header image .letters)) w .1))
+
+  -- nothing ends while a letter is left
+  pub not-ended : (q : Query) (n m : ℕ) → place .from < place .to → complete (grammarOf image) q (nodeOf image place n m) ≡ false
+  unfolding complete nodeOf
+  not-ended q n m h = rw (rest-some h) refl
+
+-- where no letter is left and no entry opens, the path has ended
+pub ended-onward : (place : Place) → opensAt place ≡ false → place .to ≤ place .from → place .onward ≡ 255
+unfolding opensAt
+ended-onward place e h = go (ℕ-discrete (place .onward) 255)
+  where
+    go : Dec (place .onward ≡ 255) → place .onward ≡ 255
+    go (yes d) = d
+    go (no d) = absurd (true≢false (sym (rw (le-leb (place .to) (place .from) h, ne-eqb (place .onward) 255 d) refl) ∙ e))

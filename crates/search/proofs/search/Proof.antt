@@ -1,0 +1,40 @@
+-- `search` meets its contract: from the root, all readings.
+use borrow.Author.Needs.{needs}
+use native.Mathlib.Omega.{arith}
+use mathlib.Core.Path.{refl, ap, _∙_}
+use Rattle.model.specs.Rows.{rowCount}
+use Rattle.image.specs.Header.{headerOf}
+use Rattle.rows.specs.Fill.{putAll}
+use Rattle.listing.specs.Asked.{requestOf}
+use Rattle.search.specs.Here.{opensAt}
+use Rattle.search.proofs.Starting.{start-ready, start-found}
+use Rattle.search.proofs.search.Statement.{statement}
+use Rattle.search.proofs.search.Tie as tie
+
+start-states-requires : tie.Need-start-states-requires
+start-states-requires c κs = search needs
+
+no-trail-requires : tie.Need-no-trail-requires
+no-trail-requires c κs = search needs
+
+open-requires : tie.Need-open-requires
+unfolding opensAt
+open-requires c κs =
+    let s = c .before .before .before .before .before .before .before in
+    let a = s .args in
+    let ready = start-ready (a .image .now) (a .index .now) (headerOf (a .h)) (s .pre .0) (s .pre .1) (requestOf (a .d) (a .asked .now)) (c .before .before .start-states .result) (c .before .before .start-states .ensures) (c .before .no-trail .result) (c .before .no-trail .ensures) in
+    (ready, (refl, (refl, omega arith)))
+
+same-length : tie.Need-same-length
+same-length c = search needs
+
+returns : tie.Need-returns
+returns c =
+    let w = c .before .before .before .before in
+    let s = w .before .before .before .before .before .before in
+    let a = s .args in
+    c .before .before .«open» .ensures
+    ∙ ap (putAll (rowCount (a .out .now)) (a .out .now, 0)) (start-found (a .image .now) (a .index .now) (headerOf (a .h)) (s .pre .0) (s .pre .1) (requestOf (a .d) (a .asked .now)) (w .before .start-states .result) (w .before .start-states .ensures) (w .no-trail .result) (w .no-trail .ensures))
+
+pub search-spec : {M : Type 1} → statement M
+search-spec = tie.close (tie.spec start-states-requires no-trail-requires open-requires same-length returns)

@@ -1,0 +1,23 @@
+-- What the search asks of the place where it stands, and what it may rely on there.
+use Prim.Native.Nat.{ℕ}
+use mathlib.Core.Bool.{Bool, _&&_, not}
+use mathlib.Core.Path.{_≡_}
+use mathlib.Core.List.{List}
+use lib.Dec.{leb, eqb}
+use Rattle.model.specs.Blocks.{Header}
+use Rattle.image.specs.Accepted.{Accepted}
+use Rattle.image.specs.Index.{indexOf}
+use Rattle.rows.specs.declared.Trail.{Trail}
+use Rattle.rows.specs.Trail.{Short}
+use Rattle.listing.specs.declared.place.Place.{Place}
+use Rattle.listing.specs.Places.{Standing}
+
+-- "the next entry opens as soon as the last letter of the one before is paired"
+unfoldable pub opensAt : Place → Bool
+opensAt place = leb (place .to) (place .from) && not (eqb (place .onward) 255)
+
+pub record Ready (image index : List ℕ) (h : Header) (place : Place) (trail : Trail) : Type 0 where
+  pub accepted : Accepted image h
+  pub indexed : index ≡ indexOf image
+  pub stands : Standing image place
+  pub short : Short trail

@@ -1,0 +1,93 @@
+// What the search asks of the place where it stands.
+ghost use mathlib.Core.Bool.{false};
+ghost use mathlib.Core.Path.{_≡_};
+ghost use mathlib.Core.List.{[], _∷_};
+ghost use Prim.Native.Nat.{_≤_, _<_};
+ghost use lib.ListN.{length, getD};
+ghost use Rattle.model.specs.Lists.{given};
+ghost use Rattle.model.specs.Blocks.{header};
+ghost use Rattle.model.specs.GrammarOf.{grammarOf};
+ghost use Rattle.model.specs.Query.{queryOf};
+ghost use Rattle.model.specs.Rows.{rowCount};
+ghost use Rattle.model.specs.Tree.{complete};
+ghost use Rattle.image.specs.Header.{headerOf};
+ghost use Rattle.image.specs.Accepted.{Accepted};
+ghost use Rattle.image.specs.Index.{indexOf, candidates};
+ghost use Rattle.rows.specs.Trail.{readingOf};
+ghost use Rattle.rows.specs.Fill.{putAll};
+ghost use Rattle.listing.specs.Asked.{requestOf};
+ghost use Rattle.listing.specs.Places.{restOf, Standing};
+ghost use Rattle.listing.specs.Search.{nodeAt, headOf};
+ghost use Rattle.search.specs.Here.{opensAt, Ready};
+use image::Header;
+use listing::asked::Direction;
+use listing::place::Place;
+use rows::Trail;
+
+// Whether an entry opens here: every letter is paired, and the path goes on.
+pub fn opens(place: Place) -> bool
+    ensures { λ r. ⌜ r ≡ opensAt place ⌝ }
+{
+    if place.from < place.to {
+        return false;
+    }
+    place.onward != 255
+}
+
+// Puts the reading that ends here, where one does.
+pub fn finish(
+    image: &[u8],
+    index: &[u8],
+    h: Header,
+    d: Direction,
+    asked: &[u8],
+    place: Place,
+    trail: Trail,
+    out: &mut [u8],
+    found: usize,
+) -> usize
+    requires { ⌜ Ready (now image) (now index) (headerOf h) place trail ⌝ }
+    requires { ⌜ opensAt place ≡ false ⌝ }
+    requires { ⌜ found ≤ rowCount (now out) ⌝ }
+    ensures { λ r. ⌜ (now (out .exit), r) ≡ putAll (rowCount (now (out .entry))) (now (out .entry), found) (given (complete (grammarOf (now (image .entry))) (queryOf (requestOf d (now (asked .entry)))) (nodeAt (now (image .entry)) place trail)) (readingOf trail ∷ [])) ⌝ }
+{
+    if place.from < place.to {
+        return found;
+    }
+    if !listing::pairing::ends(image, index, h, d, asked, place, trail.entries) {
+        return found;
+    }
+    rows::emit(out, found, trail)
+}
+
+// The next letter to be paired, 0 where none is left.
+pub fn next_letter(image: &[u8], place: Place) -> usize
+    requires { ⌜ Standing (now image) place ⌝ }
+    ensures { λ r. ⌜ (r ≡ headOf (restOf (now (image .entry)) place)) × (r ≤ header (now (image .entry)) .letters) ⌝ }
+{
+    let from = place.from;
+    if from < place.to {
+        return image::byte_at(image, from);
+    }
+    0
+}
+
+// How many pairs may pair the letter a or stand before it.
+pub fn candidate_count(image: &[u8], index: &[u8], h: Header, a: usize) -> usize
+    requires { ⌜ Accepted (now image) (headerOf h) ⌝ }
+    requires { ⌜ now index ≡ indexOf (now image) ⌝ }
+    requires { ⌜ a ≤ h .letters ⌝ }
+    ensures { λ r. ⌜ r ≡ length (candidates (now (image .entry)) a) ⌝ }
+{
+    image::byte_at(index, 256 * (32 + a))
+}
+
+// Pair k of them.
+pub fn candidate(image: &[u8], index: &[u8], h: Header, a: usize, k: usize) -> usize
+    requires { ⌜ Accepted (now image) (headerOf h) ⌝ }
+    requires { ⌜ now index ≡ indexOf (now image) ⌝ }
+    requires { ⌜ (a ≤ h .letters) × (k < length (candidates (now image) a)) ⌝ }
+    ensures { λ r. ⌜ (r ≡ getD (candidates (now (image .entry)) a) k 0) × (r < h .pairs) ⌝ }
+{
+    image::byte_at(index, 256 * (32 + a) + 1 + k)
+}

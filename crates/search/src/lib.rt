@@ -1,0 +1,155 @@
+// The search for readings, one for both directions: opening an entry and pairing its letters call each other, and each reading found is put into
+// the lent rows.
+pub mod here;
+
+ghost use mathlib.Core.Bool.{true};
+ghost use mathlib.Core.Path.{_≡_};
+ghost use Prim.Native.Nat.{_≤_};
+ghost use Rattle.model.specs.Query.{queryOf};
+ghost use Rattle.model.specs.Rows.{rowCount};
+ghost use Rattle.model.specs.Calls.{allReadings};
+ghost use Rattle.image.specs.Header.{headerOf};
+ghost use Rattle.image.specs.Accepted.{Accepted};
+ghost use Rattle.image.specs.Index.{indexOf};
+ghost use Rattle.rows.specs.Fill.{putAll};
+ghost use Rattle.listing.specs.Asked.{requestOf};
+ghost use Rattle.listing.specs.Search.{foundAt};
+ghost use Rattle.search.specs.Here.{opensAt, Ready};
+use image::Header;
+use listing::asked::Direction;
+use listing::level::Level;
+use listing::place::Place;
+use rows::Trail;
+
+// Each entry that may open here opens, and its letters are paired.
+pub fn open(
+    image: &[u8],
+    index: &[u8],
+    h: Header,
+    d: Direction,
+    asked: &[u8],
+    place: Place,
+    trail: Trail,
+    out: &mut [u8],
+    capacity: usize,
+    found: usize,
+) -> usize
+    requires { ⌜ Ready (now image) (now index) (headerOf h) place trail ⌝ }
+    requires { ⌜ opensAt place ≡ true ⌝ }
+    requires { ⌜ (capacity ≡ rowCount (now out)) × (found ≤ capacity) ⌝ }
+    ensures { λ r. ⌜ (now (out .exit), r) ≡ putAll (rowCount (now (out .entry))) (now (out .entry), found) (foundAt (now (image .entry)) (queryOf (requestOf d (now (asked .entry)))) place trail) ⌝ }
+{
+    if trail.entries >= 16 {
+        return found;
+    }
+    let range = listing::opening::open_range(
+        image,
+        index,
+        h,
+        d,
+        asked,
+        place.onward,
+        trail.entries,
+    );
+    let low = range.low;
+    let count = range.high - low;
+    let mut n = found;
+    let mut k: usize = 0;
+    while k < count {
+        if n > capacity {
+            return n;
+        }
+        let e = low + k;
+        let next = listing::place::enter(image, h, place, e);
+        let longer = rows::with_entry(trail, e as u16);
+        n = pair(image, index, h, d, asked, next, longer, out, capacity, n);
+        k += 1;
+    }
+    n
+}
+
+// Where no entry opens: the reading that ends here, and then each pair that may come next.
+pub fn pair(
+    image: &[u8],
+    index: &[u8],
+    h: Header,
+    d: Direction,
+    asked: &[u8],
+    place: Place,
+    trail: Trail,
+    out: &mut [u8],
+    capacity: usize,
+    found: usize,
+) -> usize
+    requires { ⌜ Ready (now image) (now index) (headerOf h) place trail ⌝ }
+    requires { ⌜ (capacity ≡ rowCount (now out)) × (found ≤ capacity) ⌝ }
+    ensures { λ r. ⌜ (now (out .exit), r) ≡ putAll (rowCount (now (out .entry))) (now (out .entry), found) (foundAt (now (image .entry)) (queryOf (requestOf d (now (asked .entry)))) place trail) ⌝ }
+{
+    if crate::here::opens(place) {
+        return open(
+            image,
+            index,
+            h,
+            d,
+            asked,
+            place,
+            trail,
+            out,
+            capacity,
+            found,
+        );
+    }
+    let ended = crate::here::finish(image, index, h, d, asked, place, trail, out, found);
+    if trail.pairs >= 40 {
+        return ended;
+    }
+    let letter = crate::here::next_letter(image, place);
+    let many = crate::here::candidate_count(image, index, h, letter);
+    let mut n = ended;
+    let mut k: usize = 0;
+    while k < many {
+        if n > capacity {
+            return n;
+        }
+        let p = crate::here::candidate(image, index, h, letter, k);
+        let taken = listing::pairing::take(image, index, h, d, asked, place, p);
+        if taken.may {
+            let next = taken.place;
+            let longer = rows::with_pair(trail, p as u8);
+            n = pair(image, index, h, d, asked, next, longer, out, capacity, n);
+        }
+        k += 1;
+    }
+    n
+}
+
+// All readings, from the first lexicon on.
+pub fn search(
+    image: &[u8],
+    index: &[u8],
+    h: Header,
+    d: Direction,
+    asked: &[u8],
+    out: &mut [u8],
+) -> usize
+    requires { ⌜ Accepted (now image) (headerOf h) ⌝ }
+    requires { ⌜ now index ≡ indexOf (now image) ⌝ }
+    ensures { λ r. ⌜ (now (out .exit), r) ≡ putAll (rowCount (now (out .entry))) (now (out .entry), 0) (allReadings (now (image .entry)) (requestOf d (now (asked .entry)))) ⌝ }
+{
+    let capacity = out.len() / 116;
+    let surface = Level {
+        letters: 0,
+        nulls: 0,
+    };
+    let states = rules::states::start_states();
+    let place = Place {
+        from: 0,
+        to: 0,
+        onward: 0,
+        nulls: 0,
+        surface: surface,
+        states: states,
+    };
+    let trail = rows::no_trail();
+    open(image, index, h, d, asked, place, trail, out, capacity, 0)
+}
