@@ -62,14 +62,14 @@ pub fn continuation_of(image: &[u8], h: Header, e: usize) -> usize
     image::byte_at(image, entry_start(h, e) + 13)
 }
 
-// Whether each byte from `from` up to `end` is a letter of a form.
-fn are_letters(image: &[u8], from: usize, end: usize, letters: usize) -> bool
-    requires { ⌜ (from ≤ end) × (end ≤ length (now image)) ⌝ }
-    ensures { λ r. ⌜ r ≡ every (within 2 letters) (drop from (take end (now (image .entry)))) ⌝ }
+// Whether each byte from `from` up to `end` is a letter, as in a form or a word.
+pub fn are_letters(bytes: &[u8], from: usize, end: usize, letters: usize) -> bool
+    requires { ⌜ (from ≤ end) × (end ≤ length (now bytes)) ⌝ }
+    ensures { λ r. ⌜ r ≡ every (within 2 letters) (drop from (take end (now (bytes .entry)))) ⌝ }
 {
     let mut at = from;
     while at < end {
-        let letter = image::byte_at(image, at);
+        let letter = image::byte_at(bytes, at);
         if letter < 2 {
             return false;
         }

@@ -11,10 +11,10 @@ use Rattle.lexicon.proofs.are_letters.Statement.{statement}
 use Rattle.lexicon.proofs.are_letters.Tie as tie
 
 abbrev Inv-loop : tie.InvT-loop
-Inv-loop image from end letters at₀ at = (at ≤ end) × (every (within 2 letters) (drop at (take end image)) ≡ every (within 2 letters) (drop from (take end image)))
+Inv-loop bytes from end letters at₀ at = (at ≤ end) × (every (within 2 letters) (drop at (take end bytes)) ≡ every (within 2 letters) (drop from (take end bytes)))
 
 abbrev μ-loop : tie.MeasureT-loop
-μ-loop image from end letters at₀ at = end - at
+μ-loop bytes from end letters at₀ at = end - at
 
 -- the letter read in a turn
 module _ (c : tie.After-byte-at Inv-loop μ-loop) where
@@ -25,17 +25,17 @@ module _ (c : tie.After-byte-at Inv-loop μ-loop) where
   right = within 2 (start .args .letters)
 
   abbrev part : List ℕ
-  part = take (start .args .end) (start .args .image .now)
+  part = take (start .args .end) (start .args .bytes .now)
 
   fails : right (c .byte-at .result) ≡ false → false ≡ every right (drop (start .args .from) part)
   fails e =
       let l = c .before .before .loop in
-      sym (part-fails right (l .at) (start .args .end) (start .args .image .now) (omega arith) (omega arith) (ap right (sym (c .byte-at .ensures .0)) ∙ e)) ∙ l .inv .1
+      sym (part-fails right (l .at) (start .args .end) (start .args .bytes .now) (omega arith) (omega arith) (ap right (sym (c .byte-at .ensures .0)) ∙ e)) ∙ l .inv .1
 
   goes-on : right (c .byte-at .result) ≡ true → every right (drop (c .before .before .loop .at + 1) part) ≡ every right (drop (start .args .from) part)
   goes-on e =
       let l = c .before .before .loop in
-      part-goes-on right (l .at) (start .args .end) (start .args .image .now) (omega arith) (omega arith) (ap right (sym (c .byte-at .ensures .0)) ∙ e) ∙ l .inv .1
+      part-goes-on right (l .at) (start .args .end) (start .args .bytes .now) (omega arith) (omega arith) (ap right (sym (c .byte-at .ensures .0)) ∙ e) ∙ l .inv .1
 
 loop-holds : tie.Need-loop-holds Inv-loop μ-loop
 loop-holds c = (omega arith, refl)
@@ -62,7 +62,7 @@ returns-3 : tie.Need-returns-3 Inv-loop μ-loop
 returns-3 c =
     let a = c .before .before .before .args in
     let e : c .before .loop .at ≡ a .end = omega arith in
-    sym (every-part-end (within 2 (a .letters)) (a .end) (a .image .now)) ∙ ap (λ (n : ℕ). every (within 2 (a .letters)) (drop n (take (a .end) (a .image .now)))) (sym e) ∙ c .before .loop .inv .1
+    sym (every-part-end (within 2 (a .letters)) (a .end) (a .bytes .now)) ∙ ap (λ (n : ℕ). every (within 2 (a .letters)) (drop n (take (a .end) (a .bytes .now)))) (sym e) ∙ c .before .loop .inv .1
 
 pub are-letters-spec : {M : Type 1} → statement M
 are-letters-spec =

@@ -1,0 +1,82 @@
+-- A listing's reply and bytes by its verdict: a refusal's number and the buffer as it was, or what the search puts.
+use Prim.Native.Nat.{ℕ, _<_, _≤_}
+use native.Mathlib.Omega.{arith}
+use mathlib.Core.Bool.{Bool, true, false}
+use mathlib.Core.Path.{_≡_, refl, sym, ap, _∙_, subst}
+use mathlib.Core.List.{List, [], _++_}
+use lib.ListN.{length, take, drop}
+use lib.Seq.{take-all}
+use borrow.Author.Tests.{lt-leb, le-leb}
+use Rattle.model.specs.Lists.{every, within}
+use Rattle.model.specs.Blocks.{Header, header}
+use Rattle.model.specs.Readings.{Reading, wordLength}
+use Rattle.model.specs.Query.{Request}
+use Rattle.model.specs.Refusals.{Verdict, accepted, refused, firstFailing, imageTests, imageVerdict, wordTests, pathTests, ownTests, requestTests}
+use Rattle.model.specs.Rows.{Reply, rowCount, filled, replyTo}
+use Rattle.model.specs.Calls.{replyAfter, rowsAfter, requestVerdict, allReadings, listingReply, listingRows, afterListing}
+use Rattle.image.specs.Accepted.{Accepted}
+use Rattle.grammar.proofs.Verdicts.{accepted-image, tests-refused, tests-accepted}
+use Rattle.rows.specs.Fill.{putAll, replyFor}
+use Rattle.rows.proofs.Fill.{listed}
+
+-- what the code that reads an accepted image asks
+pub accepted-by : (image : List ℕ) (h : Header) → imageVerdict image ≡ accepted → h ≡ header image → Accepted image h
+accepted-by image h a e = subst (Accepted image) (sym e) (accepted-image image a)
+
+-- a word's tests
+module _ (image word : List ℕ) where
+  pub too-short : length word < 1 → refused 9 ≡ firstFailing (wordTests image word)
+  unfolding wordTests
+  too-short h = rw (lt-leb 1 (length word) h) refl
+
+  pub too-long : 1 ≤ length word → 32 < length word → refused 9 ≡ firstFailing (wordTests image word)
+  unfolding wordTests
+  too-long h k = rw (le-leb 1 (length word) h, lt-leb (length word) 32 k) refl
+
+  module _ (h : 1 ≤ length word) (k : length word ≤ 32) (letters : ℕ) (e : letters ≡ header image .letters) where
+    whole : every (within 2 letters) (drop 0 (take (length word) word)) ≡ every (within 2 (header image .letters)) word
+    whole = rw (take-all (length word) word (omega arith), e) refl
+
+    pub bad-letter : every (within 2 letters) (drop 0 (take (length word) word)) ≡ false → refused 10 ≡ firstFailing (wordTests image word)
+    unfolding wordTests
+    bad-letter f = rw (le-leb 1 (length word) h, le-leb (length word) 32 k, sym whole ∙ f) refl
+
+    pub right-word : every (within 2 letters) (drop 0 (take (length word) word)) ≡ true → accepted ≡ firstFailing (wordTests image word)
+    unfolding wordTests
+    right-word f = rw (le-leb 1 (length word) h, le-leb (length word) 32 k, sym whole ∙ f) refl
+
+-- the listing, for every request
+module _ (image : List ℕ) (request : Request) (before : List ℕ) where
+  by-verdict : (v : Verdict) → requestVerdict image request ≡ v
+      → (replyAfter v (rowCount before) (allReadings image request) ≡ listingReply image request (rowCount before)) × (filled before (rowsAfter v (rowCount before) (allReadings image request)) ≡ afterListing image request before)
+  unfolding listingReply afterListing listingRows
+  by-verdict v e = rw e (refl, refl)
+
+  nothing-written : filled before [] ≡ before
+  unfolding filled
+  nothing-written = refl
+
+  refused-by : (k : ℕ) → requestVerdict image request ≡ refused k → (Reply.refused k ≡ listingReply image request (rowCount before)) × (before ≡ afterListing image request before)
+  refused-by k e = let r = by-verdict (refused k) e in (r .0, sym nothing-written ∙ r .1)
+
+  -- the image is refused
+  pub image-refused : (k : ℕ) → imageVerdict image ≡ refused k → (Reply.refused k ≡ listingReply image request (rowCount before)) × (before ≡ afterListing image request before)
+  unfolding imageVerdict requestVerdict requestTests
+  image-refused k e = refused-by k (tests-refused (imageTests image) (ownTests image request) k e)
+
+  module _ (a : imageVerdict image ≡ accepted) where
+    own-decides : requestVerdict image request ≡ firstFailing (ownTests image request)
+    unfolding imageVerdict requestVerdict requestTests
+    own-decides = tests-accepted (imageTests image) (ownTests image request) a
+
+    -- what was asked is refused
+    pub own-refused : (k : ℕ) → firstFailing (ownTests image request) ≡ refused k → (Reply.refused k ≡ listingReply image request (rowCount before)) × (before ≡ afterListing image request before)
+    own-refused k e = refused-by k (own-decides ∙ e)
+
+    -- all readings are put
+    pub own-accepted : firstFailing (ownTests image request) ≡ accepted → (after : List ℕ) (found : ℕ) → (after, found) ≡ putAll (rowCount before) (before, 0) (allReadings image request)
+        → (replyFor found (rowCount before) ≡ listingReply image request (rowCount before)) × (after ≡ afterListing image request before)
+    own-accepted e after found p =
+        let r = by-verdict accepted (own-decides ∙ e) in
+        let l = listed before (allReadings image request) after found p in
+        (l .1 ∙ r .0, l .0 ∙ r .1)

@@ -1,0 +1,55 @@
+-- `list` meets its contract: the image check, and then the listing of an accepted image.
+use borrow.Author.Needs.{needs}
+use mathlib.Core.Path.{_≡_, sym, ap, _∙_}
+use Rattle.model.specs.Blocks.{header}
+use Rattle.model.specs.Refusals.{accepted, imageVerdict}
+use Rattle.grammar.specs.Answers.{verdictOf}
+use Rattle.grammar.proofs.Verdicts.{accepted-image, laid-some}
+use Rattle.listing.specs.Asked.{requestOf}
+use Rattle.analyser.proofs.Replies.{image-refused}
+use Rattle.analyser.proofs.list.Statement.{statement}
+use Rattle.analyser.proofs.list.Tie as tie
+
+-- in the arm of an accepted image
+passed : (c : tie.After-enum-told) → imageVerdict (c .before .before .before .before .before .before .args .image .now) ≡ accepted
+passed c = sym (c .before .before .check .ensures) ∙ ap verdictOf (c .enum-told .given .1)
+
+check-requires : tie.Need-check-requires
+check-requires c κs = search needs
+
+enum-known-verdict : tie.Need-enum-known-verdict
+enum-known-verdict c = search needs
+
+enum-told : tie.Need-enum-told
+enum-told c = search needs
+
+read-header-requires : tie.Need-read-header-requires
+read-header-requires c κs = let image = c .before .before .before .before .before .before .args .image .now in laid-some image (header image) (accepted-image image (passed c) .laid)
+
+list-accepted-requires : tie.Need-list-accepted-requires
+list-accepted-requires c κs = (passed (c .before .before), c .before .read-header .ensures)
+
+returns : tie.Need-returns
+returns c =
+    let told = c .before in
+    let a = told .before .before .before .before .before .before .args in
+    image-refused (a .image .now) (requestOf (a .d) (a .asked .now)) (a .out .now) (told .verdict .given .0 .0) (sym (told .before .before .check .ensures) ∙ ap verdictOf (told .verdict .given .1))
+
+same-length : tie.Need-same-length
+same-length c = search needs
+
+returns-2 : tie.Need-returns-2
+returns-2 c = search needs
+
+pub list-spec : {M : Type 1} → statement M
+list-spec =
+    tie.close
+    (tie.spec
+    check-requires
+    enum-known-verdict
+    enum-told
+    read-header-requires
+    list-accepted-requires
+    returns
+    same-length
+    returns-2)

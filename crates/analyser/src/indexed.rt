@@ -1,0 +1,61 @@
+// Analysis and generation for callers that have checked the image and made its index: same reply, same bytes.
+ghost use mathlib.Core.Path.{_≡_};
+ghost use Rattle.model.specs.Blocks.{header};
+ghost use Rattle.model.specs.Query.{analysis, generation};
+ghost use Rattle.model.specs.Refusals.{accepted, imageVerdict};
+ghost use Rattle.model.specs.Rows.{rowCount};
+ghost use Rattle.model.specs.Calls.{listingReply, afterListing};
+ghost use Rattle.image.specs.Header.{headerOf};
+ghost use Rattle.image.specs.Index.{indexOf};
+ghost use Rattle.rows.specs.Fill.{replyOf};
+ghost use Rattle.listing.specs.Asked.{requestOf};
+use grammar::Verdict;
+use image::Header;
+use listing::asked::Direction;
+use rows::Reply;
+
+pub fn analyse(image: &[u8], index: &[u8], h: Header, word: &[u8], out: &mut [u8]) -> Reply
+    requires { ⌜ imageVerdict (now image) ≡ accepted ⌝ }
+    requires { ⌜ headerOf h ≡ header (now image) ⌝ }
+    requires { ⌜ now index ≡ indexOf (now image) ⌝ }
+    ensures reply { λ r. ⌜ replyOf r ≡ listingReply (now (image .entry)) (analysis (now (word .entry))) (rowCount (now (out .entry))) ⌝ }
+    ensures bytes { λ r. ⌜ now (out .exit) ≡ afterListing (now (image .entry)) (analysis (now (word .entry))) (now (out .entry)) ⌝ }
+{
+    list(image, index, h, Direction::Analysis, word, out)
+}
+
+pub fn generate(image: &[u8], index: &[u8], h: Header, path: &[u8], out: &mut [u8]) -> Reply
+    requires { ⌜ imageVerdict (now image) ≡ accepted ⌝ }
+    requires { ⌜ headerOf h ≡ header (now image) ⌝ }
+    requires { ⌜ now index ≡ indexOf (now image) ⌝ }
+    ensures reply { λ r. ⌜ replyOf r ≡ listingReply (now (image .entry)) (generation (now (path .entry))) (rowCount (now (out .entry))) ⌝ }
+    ensures bytes { λ r. ⌜ now (out .exit) ≡ afterListing (now (image .entry)) (generation (now (path .entry))) (now (out .entry)) ⌝ }
+{
+    list(image, index, h, Direction::Generation, path, out)
+}
+
+// The call's own tests, and where they hold the search.
+pub fn list(
+    image: &[u8],
+    index: &[u8],
+    h: Header,
+    d: Direction,
+    asked: &[u8],
+    out: &mut [u8],
+) -> Reply
+    requires { ⌜ imageVerdict (now image) ≡ accepted ⌝ }
+    requires { ⌜ headerOf h ≡ header (now image) ⌝ }
+    requires { ⌜ now index ≡ indexOf (now image) ⌝ }
+    ensures reply { λ r. ⌜ replyOf r ≡ listingReply (now (image .entry)) (requestOf d (now (asked .entry))) (rowCount (now (out .entry))) ⌝ }
+    ensures bytes { λ r. ⌜ now (out .exit) ≡ afterListing (now (image .entry)) (requestOf d (now (asked .entry))) (now (out .entry)) ⌝ }
+{
+    let verdict = crate::own::own_verdict(image, h, d, asked);
+    match verdict {
+        Verdict::Refused(k) => Reply::Refused(k),
+        Verdict::Accepted => {
+            let capacity = out.len() / 116;
+            let found = search::search(image, index, h, d, asked, out);
+            rows::reply_for(found, capacity)
+        }
+    }
+}

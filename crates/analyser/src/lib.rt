@@ -1,0 +1,56 @@
+// Analysis of a word and generation from a path: the image check, the call's own tests, the index, and the search.
+pub mod indexed;
+pub mod own;
+
+ghost use mathlib.Core.Path.{_≡_};
+ghost use Rattle.model.specs.Blocks.{header};
+ghost use Rattle.model.specs.Query.{analysis, generation};
+ghost use Rattle.model.specs.Refusals.{accepted, imageVerdict};
+ghost use Rattle.model.specs.Rows.{rowCount};
+ghost use Rattle.model.specs.Calls.{listingReply, afterListing};
+ghost use Rattle.image.specs.Header.{headerOf};
+ghost use Rattle.rows.specs.Fill.{replyOf};
+ghost use Rattle.listing.specs.Asked.{requestOf};
+use grammar::Verdict;
+use image::Header;
+use listing::asked::Direction;
+use rows::Reply;
+
+// All readings of a word, as rows in the lent buffer.
+pub fn analyse(image: &[u8], word: &[u8], out: &mut [u8]) -> Reply
+    ensures reply { λ r. ⌜ replyOf r ≡ listingReply (now (image .entry)) (analysis (now (word .entry))) (rowCount (now (out .entry))) ⌝ }
+    ensures bytes { λ r. ⌜ now (out .exit) ≡ afterListing (now (image .entry)) (analysis (now (word .entry))) (now (out .entry)) ⌝ }
+{
+    list(image, Direction::Analysis, word, out)
+}
+
+// All readings with a path, given as two bytes to an entry number, as rows in the lent buffer.
+pub fn generate(image: &[u8], path: &[u8], out: &mut [u8]) -> Reply
+    ensures reply { λ r. ⌜ replyOf r ≡ listingReply (now (image .entry)) (generation (now (path .entry))) (rowCount (now (out .entry))) ⌝ }
+    ensures bytes { λ r. ⌜ now (out .exit) ≡ afterListing (now (image .entry)) (generation (now (path .entry))) (now (out .entry)) ⌝ }
+{
+    list(image, Direction::Generation, path, out)
+}
+
+// The image check, once, and then the listing over the index.
+fn list(image: &[u8], d: Direction, asked: &[u8], out: &mut [u8]) -> Reply
+    ensures reply { λ r. ⌜ replyOf r ≡ listingReply (now (image .entry)) (requestOf d (now (asked .entry))) (rowCount (now (out .entry))) ⌝ }
+    ensures bytes { λ r. ⌜ now (out .exit) ≡ afterListing (now (image .entry)) (requestOf d (now (asked .entry))) (now (out .entry)) ⌝ }
+{
+    let verdict = grammar::check(image);
+    match verdict {
+        Verdict::Refused(k) => Reply::Refused(k),
+        Verdict::Accepted => list_accepted(image, image::read_header(image), d, asked, out),
+    }
+}
+
+fn list_accepted(image: &[u8], h: Header, d: Direction, asked: &[u8], out: &mut [u8]) -> Reply
+    requires { ⌜ imageVerdict (now image) ≡ accepted ⌝ }
+    requires { ⌜ headerOf h ≡ header (now image) ⌝ }
+    ensures reply { λ r. ⌜ replyOf r ≡ listingReply (now (image .entry)) (requestOf d (now (asked .entry))) (rowCount (now (out .entry))) ⌝ }
+    ensures bytes { λ r. ⌜ now (out .exit) ≡ afterListing (now (image .entry)) (requestOf d (now (asked .entry))) (now (out .entry)) ⌝ }
+{
+    let mut index = [0u8; 39424];
+    rules::index::fill_index(image, h, &mut index);
+    crate::indexed::list(image, &index, h, d, asked, out)
+}
