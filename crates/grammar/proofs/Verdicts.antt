@@ -138,6 +138,7 @@ pub record Viewed (image : List ℕ) (e n : ℕ) : Type 0 where
   pub entry-few : e < 2800
   pub rules-few : header image .rules ≤ 32
   pub inside : formStart image e + n ≤ length image
+  pub few : n ≤ 12
 
 module _ (image : List ℕ) (e n : ℕ) where
   there-of : (v : Verdict) → imageVerdict image ≡ v → (b : Bool) → ltb e (header image .entries) ≡ b → formReply image e ≡ beside.FormReply.letters n → (v ≡ accepted) × (b ≡ true)
@@ -154,7 +155,7 @@ module _ (image : List ℕ) (e n : ℕ) where
       let g = form-there image e (t .0) inside in
       let m : formLength (entry image e) ≡ n = cc in
       let short = entries.form-short image h (a .laid) (of-true (rightEntries image) (a .entries-right)) e inside in
-      record { some = laid-some image h (a .laid); entry-few = omega (arith, a .laid .limits .entries-most); rules-few = a .laid .limits .rules-most; inside = omega (arith, entries.form-inside image h (a .laid) e inside short) }
+      record { some = laid-some image h (a .laid); entry-few = omega (arith, a .laid .limits .entries-most); rules-few = a .laid .limits .rules-most; inside = omega (arith, entries.form-inside image h (a .laid) e inside short); few = omega (arith, short, m) }
 
 -- the view and its companion agree: the letters of the length told, and none after a refusal
 pub record Agree (reply : beside.FormReply) (letters : List ℕ) : Type 0 where

@@ -1,7 +1,7 @@
 // The image check with its verdict, and the view of an entry's form with its companion.
 ghost use mathlib.Core.Path.{_≡_};
 ghost use Rattle.model.specs.Refusals.{imageVerdict};
-ghost use Rattle.model.specs.Beside.{formReply, viewed};
+ghost use Rattle.model.specs.Beside.{letters, formReply, viewed};
 ghost use Rattle.image.specs.Header.{headerOf};
 ghost use Rattle.image.specs.Laid.{Laid};
 ghost use Rattle.grammar.specs.Answers.{verdictOf, formReplyOf, recordsVerdict};
@@ -80,11 +80,17 @@ pub fn form_view(image: &[u8], e: usize) -> &[u8]
     let reply = form_reply(image, e);
     match reply {
         FormReply::Refused(_) => &image[0..0],
-        FormReply::Letters(n) => {
-            let h = image::read_header(image);
-            let from = lexicon::entry_start(h, e) + 1;
-            let to = from + n;
-            &image[from..to]
-        }
+        FormReply::Letters(n) => form_part(image, e, n),
     }
+}
+
+// The same, for a caller that the companion has told the length.
+pub fn form_part(image: &[u8], e: usize, n: usize) -> &[u8]
+    requires { ⌜ formReply (now image) e ≡ letters n ⌝ }
+    ensures { λ r. ⌜ now r ≡ viewed (now (image .entry)) e ⌝ }
+{
+    let h = image::read_header(image);
+    let from = lexicon::entry_start(h, e) + 1;
+    let to = from + n;
+    &image[from..to]
 }

@@ -1,0 +1,34 @@
+-- The replies of the calls beside the listings as one number each, in the listings' own code: what is refused with k is 4k + 3.
+use Prim.Native.Nat.{ℕ, _+_, _*_}
+use mathlib.Core.Bool.{cond}
+use mathlib.Core.List.{List, _++_}
+use lib.ListN.{length, drop}
+use lib.Dec.{leb}
+use Rattle.model.specs.Refusals.{Verdict}
+use Rattle.model.specs.Calls.{Sealing}
+use Rattle.model.specs.Beside.{Judgement, FormReply}
+
+abbrev pub refusedNumber : ℕ → ℕ
+refusedNumber k = 4 * k + 3
+
+abbrev pub verdictNumber : Verdict → ℕ
+verdictNumber Verdict.accepted = 1
+verdictNumber (Verdict.refused k) = refusedNumber k
+
+abbrev pub sealingNumber : Sealing → ℕ
+sealingNumber Sealing.sealed = 1
+sealingNumber (Sealing.refused k) = refusedNumber k
+
+abbrev pub judgementNumber : Judgement → ℕ
+judgementNumber Judgement.holds = 1
+judgementNumber Judgement.fails = 0
+judgementNumber (Judgement.refused k) = refusedNumber k
+
+-- the form's length, and whether a buffer of `room` bytes has room for it
+abbrev pub formNumber : ℕ → FormReply → ℕ
+formNumber room (FormReply.letters n) = cond (leb n room) (4 * n + 1) (4 * n + 2)
+formNumber room (FormReply.refused k) = refusedNumber k
+
+-- the letters at the front of a buffer that has room for them; the buffer as it was where it has not
+abbrev pub afterForm : List ℕ → List ℕ → List ℕ
+afterForm form buffer = cond (leb (length form) (length buffer)) (form ++ drop (length form) buffer) buffer

@@ -1,0 +1,99 @@
+// The C entry: every call on byte slices, every reply one number. `include/headwords.h` declares these functions.
+ghost use mathlib.Core.Path.{_≡_};
+ghost use mathlib.Core.List.{_++_};
+ghost use Prim.Native.Nat.{_≤_};
+ghost use lib.ListN.{length, drop};
+ghost use Rattle.model.specs.Query.{analysis, generation};
+ghost use Rattle.model.specs.Refusals.{imageVerdict};
+ghost use Rattle.model.specs.Rows.{rowCount, replyNumber};
+ghost use Rattle.model.specs.Calls.{sealingReply, afterSealing, listingReply, afterListing};
+ghost use Rattle.model.specs.Beside.{judged, formReply, viewed};
+ghost use Rattle.headwords.specs.Numbers.{refusedNumber, verdictNumber, sealingNumber, judgementNumber, formNumber, afterForm};
+use grammar::FormReply;
+use grammar::Verdict;
+use image::seal::Sealing;
+use judge::Judgement;
+
+#[no_mangle]
+pub extern "C" fn headwords_analyse(image: &[u8], word: &[u8], out: &mut [u8]) -> u64
+    ensures reply { λ r. ⌜ r ≡ replyNumber (listingReply (now (image .entry)) (analysis (now (word .entry))) (rowCount (now (out .entry)))) ⌝ }
+    ensures bytes { λ _. ⌜ now (out .exit) ≡ afterListing (now (image .entry)) (analysis (now (word .entry))) (now (out .entry)) ⌝ }
+{
+    rows::reply_number(analyser::analyse(image, word, out))
+}
+
+#[no_mangle]
+pub extern "C" fn headwords_generate(image: &[u8], path: &[u8], out: &mut [u8]) -> u64
+    ensures reply { λ r. ⌜ r ≡ replyNumber (listingReply (now (image .entry)) (generation (now (path .entry))) (rowCount (now (out .entry)))) ⌝ }
+    ensures bytes { λ _. ⌜ now (out .exit) ≡ afterListing (now (image .entry)) (generation (now (path .entry))) (now (out .entry)) ⌝ }
+{
+    rows::reply_number(analyser::generate(image, path, out))
+}
+
+#[no_mangle]
+pub extern "C" fn headwords_check(image: &[u8]) -> u64
+    ensures { λ r. ⌜ r ≡ verdictNumber (imageVerdict (now (image .entry))) ⌝ }
+{
+    match grammar::check(image) {
+        Verdict::Accepted => 1,
+        Verdict::Refused(k) => refusal(k),
+    }
+}
+
+#[no_mangle]
+pub extern "C" fn headwords_seal(image: &mut [u8]) -> u64
+    ensures reply { λ r. ⌜ r ≡ sealingNumber (sealingReply (now (image .entry))) ⌝ }
+    ensures bytes { λ _. ⌜ now (image .exit) ≡ afterSealing (now (image .entry)) ⌝ }
+{
+    match image::seal::seal(image) {
+        Sealing::Sealed => 1,
+        Sealing::Refused(k) => refusal(k),
+    }
+}
+
+#[no_mangle]
+pub extern "C" fn headwords_judge(image: &[u8], path: &[u8], pairing: &[u8]) -> u64
+    ensures { λ r. ⌜ r ≡ judgementNumber (judged (now (image .entry)) (now (path .entry)) (now (pairing .entry))) ⌝ }
+{
+    match judge::judge(image, path, pairing) {
+        Judgement::Holds => 1,
+        Judgement::Fails => 0,
+        Judgement::Refused(k) => refusal(k),
+    }
+}
+
+#[no_mangle]
+pub extern "C" fn headwords_form(image: &[u8], entry: usize, out: &mut [u8]) -> u64
+    ensures reply { λ r. ⌜ r ≡ formNumber (length (now (out .entry))) (formReply (now (image .entry)) «entry») ⌝ }
+    ensures bytes { λ _. ⌜ now (out .exit) ≡ afterForm (viewed (now (image .entry)) «entry») (now (out .entry)) ⌝ }
+{
+    match grammar::form_reply(image, entry) {
+        FormReply::Refused(k) => refusal(k),
+        FormReply::Letters(n) => {
+            if out.len() < n {
+                return 4 * (n as u64) + 2;
+            }
+            copy(grammar::form_part(image, entry, n), out);
+            4 * (n as u64) + 1
+        }
+    }
+}
+
+fn refusal(k: u8) -> u64
+    ensures { λ r. ⌜ r ≡ refusedNumber k ⌝ }
+{
+    4 * (k as u64) + 3
+}
+
+// Letters to the front of a lent buffer that has room for them.
+fn copy(letters: &[u8], out: &mut [u8])
+    requires { ⌜ length (now letters) ≤ length (now out) ⌝ }
+    ensures { λ _. ⌜ now (out .exit) ≡ now (letters .entry) ++ drop (length (now (letters .entry))) (now (out .entry)) ⌝ }
+{
+    let n = letters.len();
+    let mut i: usize = 0;
+    while i < n {
+        out[i] = letters[i];
+        i += 1;
+    }
+}
