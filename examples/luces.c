@@ -1,0 +1,60 @@
+/* Prints the headwords of "luces" by the luz grammar: the first entry of each reading's path, as its letters.
+ * Usage: luces IMAGE */
+#include <stdio.h>
+#include <stdlib.h>
+#include <string.h>
+
+#include "headwords.h"
+
+static uint8_t image[65537]; /* a byte more than an image may have, so that a longer file is refused */
+static size_t image_length;
+
+/* Letters 1 to 9 of the luz grammar. */
+static const char alphabet[] = "#+celsuzZ";
+
+static unsigned number(const uint8_t *row, unsigned place)
+{
+    return row[2 * place] + 256u * row[2 * place + 1];
+}
+
+static int print_form(unsigned entry)
+{
+    uint8_t letters[12];
+    uint64_t reply = headwords_form(image, image_length, entry, letters, sizeof letters);
+    if (reply % 4 != HEADWORDS_ALL)
+        return 0;
+    for (uint64_t i = 0; i < reply / 4; i++)
+        putchar(alphabet[letters[i] - 1]);
+    return 1;
+}
+
+int main(int argc, char **argv)
+{
+    static const char text[] = "luces";
+    uint8_t word[sizeof text - 1];
+    uint8_t rows[8 * HEADWORDS_ROW_BYTES];
+    FILE *file = argc == 2 ? fopen(argv[1], "rb") : NULL;
+    if (file != NULL) {
+        image_length = fread(image, 1, sizeof image, file);
+        fclose(file);
+    }
+    for (size_t i = 0; i < sizeof word; i++)
+        word[i] = (uint8_t)(strchr(alphabet, text[i]) - alphabet + 1);
+
+    uint64_t reply = headwords_analyse(image, image_length, word, sizeof word, rows, sizeof rows);
+    uint64_t n = reply / 4;
+    switch (reply % 4) {
+    case HEADWORDS_REFUSED:
+        fprintf(stderr, "refused %u\n", (unsigned)n);
+        return EXIT_FAILURE;
+    case HEADWORDS_MORE:
+        fprintf(stderr, "more than %u readings\n", (unsigned)n);
+        break;
+    }
+    for (uint64_t k = 0; k < n; k++) {
+        if (!print_form(number(rows + HEADWORDS_ROW_BYTES * k, 1)))
+            return EXIT_FAILURE;
+        putchar('\n');
+    }
+    return EXIT_SUCCESS;
+}

@@ -1,0 +1,79 @@
+/* The two-level headword analyser for C.
+ *
+ * A grammar is an image: 1 to 128 blocks of 512 bytes. Every call below checks the image it is given, whole, before
+ * anything else. Nothing is kept between calls: no allocation, no global state, no locale, so any number of threads may
+ * call at once on images that none of them writes.
+ *
+ * What the caller owes, and no call can test:
+ *   - each pointer is to at least as many bytes as the length after it says, and is not NULL, even where the length is 0;
+ *   - the ranges lent to one call do not overlap, save that two ranges that are only read may;
+ *   - no other thread writes to a lent range during the call, and none reads one that the call may write;
+ *   - about 100 kilobytes of stack.
+ *
+ * Every reply is one number r. r % 4 == 3 is a refusal, numbered r / 4:
+ *    1  image length 0, over 65,536, or no multiple of 512
+ *    2  a check or block number is wrong
+ *    3  form, counts, block total, kinds, record counts or unused block bytes are not as laid down
+ *    4  a code point is 0, 55296-57343, or repeated
+ *    5  a pair breaks its rule or is repeated
+ *    6  a rule table's counts, column sides, marks or next states are out of range, or a byte after its last row is not 0
+ *    7  for a listed or the boundary pair a rule has no matching column, or two narrowest
+ *    8  lexicon counts do not add up to the entries, or an entry breaks its layout
+ *    9  word length 0 or over 32
+ *   10  a word letter outside 2-L
+ *   11  path of 0 or over 16 entries, or an odd count of bytes
+ *   12  no such entry, or the path is not linked through the lexicon
+ *   13  pairing length 0 or over 40, or no such pair
+ * The first that fails, by number, is the one told. A refused call writes nothing.
+ */
+#ifndef HEADWORDS_H
+#define HEADWORDS_H
+
+#include <stddef.h>
+#include <stdint.h>
+
+#ifdef __cplusplus
+extern "C" {
+#endif
+
+/* A row: 58 two-byte numbers, the low byte first. Number 0 is the path's length, 1 to 16 its entries, 17 the pairing's
+ * length, 18 to 57 its pairs; unused places hold 65535. Row k of a buffer is its bytes 116k to 116k + 115. */
+#define HEADWORDS_ROW_BYTES 116
+
+/* What r % 4 says of a listing, and n or k, which is r / 4. */
+enum { HEADWORDS_NONE = 0, HEADWORDS_ALL = 1, HEADWORDS_MORE = 2, HEADWORDS_REFUSED = 3 };
+
+/* All readings of a word, given as one byte a letter, in step order, each once, as rows in the lent buffer of
+ * rows_length / 116 rows.
+ *   4n + 1  all n readings are in rows 0 to n - 1
+ *   4n + 2  there are more readings than the buffer has rows; it has the first n, and n is all its rows
+ *   0       there is no reading; nothing is written
+ *   4k + 3  refused (1 to 10); nothing is written
+ * No byte past row n - 1 changes. */
+uint64_t headwords_analyse(const uint8_t *image, size_t image_length, const uint8_t *word, size_t word_length, uint8_t *rows, size_t rows_length);
+
+/* All readings with a path, given as two bytes to an entry number, the low byte first. Replies and rows as above; refused
+ * with 1 to 8, 11 or 12. */
+uint64_t headwords_generate(const uint8_t *image, size_t image_length, const uint8_t *path, size_t path_length, uint8_t *rows, size_t rows_length);
+
+/* 1 where the image is accepted, 4k + 3 where it is refused (1 to 8). */
+uint64_t headwords_check(const uint8_t *image, size_t image_length);
+
+/* Writes number and check into every block, and nothing else: 1. Refused with 1 alone; nothing is written then. */
+uint64_t headwords_seal(uint8_t *image, size_t image_length);
+
+/* 1 where the path (as for headwords_generate) and the pairing (one byte a pair number) are a reading of the word that they
+ * spell, 0 where they are not, 4k + 3 where they are refused (1 to 8, 11 to 13). */
+uint64_t headwords_judge(const uint8_t *image, size_t image_length, const uint8_t *path, size_t path_length, const uint8_t *pairing, size_t pairing_length);
+
+/* The letters of an entry's form, at most 12.
+ *   4n + 1  the form has n letters, and they are in letters[0] to letters[n - 1]; no byte past them changes
+ *   4n + 2  the form has n letters, and the lent buffer is shorter; nothing is written
+ *   4k + 3  refused (1 to 8, 12 where there is no such entry); nothing is written */
+uint64_t headwords_form(const uint8_t *image, size_t image_length, size_t entry, uint8_t *letters, size_t letters_length);
+
+#ifdef __cplusplus
+}
+#endif
+
+#endif
