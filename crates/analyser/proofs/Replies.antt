@@ -56,7 +56,7 @@ module _ (image : List ℕ) (request : Request) (before : List ℕ) where
   unfolding filled
   nothing-written = refl
 
-  refused-by : (k : ℕ) → requestVerdict image request ≡ refused k → (Reply.refused k ≡ listingReply image request (rowCount before)) × (before ≡ afterListing image request before)
+  pub refused-by : (k : ℕ) → requestVerdict image request ≡ refused k → (Reply.refused k ≡ listingReply image request (rowCount before)) × (before ≡ afterListing image request before)
   refused-by k e = let r = by-verdict (refused k) e in (r .0, sym nothing-written ∙ r .1)
 
   -- the image is refused
