@@ -1,0 +1,103 @@
+//! Lays a grammar out in blocks, and seals them.
+
+use crate::alphabet::ANY;
+use crate::grammar::Grammar;
+use crate::lexicons::{Continuation, Entry};
+use crate::limits;
+use crate::pairs::Pair;
+use crate::rules::Rule;
+
+const BLOCK: usize = 512;
+const MOST_BLOCKS: usize = 128;
+/// Where a block's first record begins.
+const RECORDS: usize = 4;
+/// Where a block's check stands.
+const CHECK: usize = 510;
+const FORM_ONE: usize = 1;
+const ENTRIES_A_BLOCK: usize = 31;
+const ENTRY: usize = 16;
+/// The continuation of an entry that ends the word.
+const END: u8 = 255;
+
+// The limits keep every image within its blocks, so that no grammar is too large to lay out.
+const _: () = {
+    let entry_blocks = limits::ENTRIES.end().div_ceil(ENTRIES_A_BLOCK);
+    assert!(4 + *limits::RULES.end() + entry_blocks <= MOST_BLOCKS);
+    let table = 2 + 2 * *limits::COLUMNS.end() + *limits::STATES.end() * (1 + *limits::COLUMNS.end());
+    assert!(table <= CHECK - RECORDS);
+    assert!(2 * *limits::PAIRS.end() <= CHECK - RECORDS);
+    assert!(ENTRIES_A_BLOCK * ENTRY <= CHECK - RECORDS);
+    assert!(*limits::LETTERS.end() < ANY as usize && *limits::LEXICONS.end() < END as usize);
+};
+
+/// The image of a grammar, sealed.
+pub fn sealed_image(grammar: &Grammar) -> Vec<u8> {
+    let letters: Vec<_> = grammar.alphabet.letters().map(|c| two_bytes(u32::from(c) as usize)).collect();
+    let pairs: Vec<_> = grammar.pairs.iter().map(|&pair| sides(pair)).collect();
+    let counts: Vec<_> = grammar.lexicons.iter().map(|lexicon| two_bytes(lexicon.entries.len())).collect();
+    let entries: Vec<_> = grammar.lexicons.iter().flat_map(|lexicon| &lexicon.entries).map(entry).collect();
+
+    let mut blocks = vec![block(1, &[header(grammar, entries.len())]), block(2, &letters), block(3, &pairs)];
+    blocks.extend(grammar.rules.iter().map(|rule| block(4, &[table(rule)])));
+    blocks.push(block(5, &counts));
+    blocks.extend(entries.chunks(ENTRIES_A_BLOCK).map(|records| block(6, records)));
+    for (number, block) in blocks.iter_mut().enumerate() {
+        seal(block, number);
+    }
+    blocks.concat()
+}
+
+fn header(grammar: &Grammar, entries: usize) -> Vec<u8> {
+    let counts =
+        [FORM_ONE, grammar.alphabet.count(), grammar.pairs.len(), grammar.rules.len(), grammar.lexicons.len(), entries];
+    counts.map(two_bytes).concat()
+}
+
+fn sides(pair: Pair) -> [u8; 2] {
+    [pair.lexical, pair.surface]
+}
+
+fn table(rule: &Rule) -> Vec<u8> {
+    let mut bytes = vec![rule.columns.len() as u8, rule.states.len() as u8];
+    bytes.extend(rule.columns.iter().flat_map(|&column| sides(column)));
+    bytes.extend(rule.states.iter().map(|state| u8::from(state.is_final)));
+    bytes.extend(rule.states.iter().flat_map(|state| &state.next));
+    bytes
+}
+
+fn entry(entry: &Entry) -> [u8; ENTRY] {
+    let mut bytes = [0; ENTRY];
+    bytes[0] = entry.form.len() as u8;
+    bytes[1..][..entry.form.len()].copy_from_slice(&entry.form);
+    bytes[13] = match entry.continuation {
+        Continuation::End => END,
+        Continuation::Lexicon(number) => number,
+    };
+    bytes[14..].copy_from_slice(&entry.gloss.to_le_bytes());
+    bytes
+}
+
+/// A number below 65,536, low byte first.
+fn two_bytes(number: usize) -> [u8; 2] {
+    (number as u16).to_le_bytes()
+}
+
+fn block(kind: u8, records: &[impl AsRef<[u8]>]) -> [u8; BLOCK] {
+    let mut block = [0; BLOCK];
+    block[2] = kind;
+    block[3] = records.len() as u8;
+    let mut at = RECORDS;
+    for record in records {
+        let record = record.as_ref();
+        block[at..][..record.len()].copy_from_slice(record);
+        at += record.len();
+    }
+    block
+}
+
+/// Writes the block's number, and then its check, which covers the number.
+fn seal(block: &mut [u8; BLOCK], number: usize) {
+    block[..2].copy_from_slice(&two_bytes(number));
+    let sum: usize = (1..).zip(&block[..CHECK]).map(|(weight, &byte)| weight * usize::from(byte)).sum();
+    block[CHECK..].copy_from_slice(&two_bytes((1 + sum) % 65_521));
+}

@@ -1,0 +1,48 @@
+//! Lists of letters, pairs and entries by number, for those who read the analyser's numbers.
+
+use crate::alphabet::{Alphabet, BOUNDARY, NULL};
+use crate::grammar::Grammar;
+use crate::lexicons::{Continuation, Entry, Lexicon};
+
+/// A line a letter: number, letter.
+pub fn list_letters(grammar: &Grammar) -> String {
+    let letters = (1..).zip(grammar.alphabet.letters());
+    letters.map(|(number, letter): (usize, char)| format!("{number}\t{letter}\n")).collect()
+}
+
+/// A line a pair: number, pair.
+pub fn list_pairs(grammar: &Grammar) -> String {
+    let pairs = grammar.pairs.iter().enumerate();
+    pairs.map(|(number, pair)| format!("{number}\t{}\n", pair.show(&grammar.alphabet))).collect()
+}
+
+/// A line an entry: number, lexicon, form, continuation, gloss number, gloss in words.
+pub fn list_entries(grammar: &Grammar) -> String {
+    let mut number = 0;
+    let mut list = String::new();
+    for lexicon in &grammar.lexicons {
+        for entry in &lexicon.entries {
+            list += &list_entry(number, lexicon, entry, grammar);
+            number += 1;
+        }
+    }
+    list
+}
+
+fn list_entry(number: usize, lexicon: &Lexicon, entry: &Entry, grammar: &Grammar) -> String {
+    let form = show_form(&entry.form, &grammar.alphabet);
+    let continuation = match entry.continuation {
+        Continuation::End => grammar.alphabet.character(BOUNDARY).to_string(),
+        Continuation::Lexicon(next) => grammar.lexicons[usize::from(next)].name.clone(),
+    };
+    let (name, gloss, gloss_text) = (&lexicon.name, entry.gloss, &entry.gloss_text);
+    format!("{number}\t{name}\t{form}\t{continuation}\t{gloss}\t{gloss_text}\n")
+}
+
+/// A form as the text writes it.
+fn show_form(form: &[u8], alphabet: &Alphabet) -> String {
+    if form.is_empty() {
+        return alphabet.character(NULL).to_string();
+    }
+    form.iter().map(|&letter| alphabet.character(letter)).collect()
+}

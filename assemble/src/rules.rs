@@ -1,0 +1,131 @@
+//! Rule tables: columns, final states, and for each state a row of next states.
+
+use crate::alphabet::Alphabet;
+use crate::columns::{self, Column};
+use crate::fault::{Fault, Faults};
+use crate::limits;
+use crate::lines::{name, number, Line, Word};
+use crate::pairs::Pair;
+use crate::sections::Section;
+
+#[derive(Debug)]
+pub struct Rule {
+    pub columns: Vec<Column>,
+    /// States 1, 2, ..
+    pub states: Vec<State>,
+}
+
+#[derive(Debug)]
+pub struct State {
+    pub is_final: bool,
+    /// The next state for each column; 0 is failure.
+    pub next: Vec<u8>,
+}
+
+/// What a rule's first line says.
+struct Heading<'a> {
+    name: &'a str,
+    states: usize,
+    columns: usize,
+}
+
+pub fn read(sections: &[Section], alphabet: &Alphabet, pairs: &[Pair], faults: &mut Faults) -> Vec<Rule> {
+    if let Some(first_over) = sections.get(*limits::RULES.end()) {
+        faults.keep(limits::within(&limits::RULES, sections.len(), "rules", first_over.line));
+    }
+    let rules = sections.iter().map(|section| read_rule(section, alphabet, pairs));
+    rules.filter_map(|rule| faults.keep(rule)).collect()
+}
+
+fn read_rule(section: &Section, alphabet: &Alphabet, pairs: &[Pair]) -> Result<Rule, Fault> {
+    let heading = read_heading(section)?;
+    let [lexical, surface, rows @ ..] = &section.body[..] else {
+        let what = "a rule has a row of lexical letters and a row of surface letters";
+        return Err(Fault::new(section.last_line(), what));
+    };
+    let columns = read_columns(lexical, surface, &heading, alphabet)?;
+    let states = read_states(rows, &heading, section.last_line())?;
+    columns::check(&columns, pairs, alphabet)
+        .map_err(|what| Fault::new(lexical.number, format!("rule \"{}\": {what}", heading.name)))?;
+    Ok(Rule { columns, states })
+}
+
+fn read_heading<'a>(section: &Section<'a>) -> Result<Heading<'a>, Fault> {
+    let line = section.line;
+    let counts = |states, columns| Some((number(states)?, number(columns)?));
+    let heading = match section.head[..] {
+        [Word::Quoted(name), Word::Bare(states), Word::Bare(columns)] => {
+            counts(states, columns).map(|(states, columns)| Heading { name, states, columns })
+        }
+        _ => None,
+    };
+    let heading = heading
+        .ok_or_else(|| Fault::new(line, "RULE takes a name in quotation marks, the count of states, and of columns"))?;
+    limits::within(&limits::STATES, heading.states, "states", line)?;
+    limits::within(&limits::COLUMNS, heading.columns, "columns", line)?;
+    Ok(heading)
+}
+
+fn read_columns(lexical: &Line, surface: &Line, heading: &Heading, alphabet: &Alphabet) -> Result<Vec<Column>, Fault> {
+    let lexical = read_sides(lexical, "lexical", heading, alphabet)?;
+    let surface = read_sides(surface, "surface", heading, alphabet)?;
+    let columns = lexical.into_iter().zip(surface);
+    Ok(columns.map(|(lexical, surface)| Column { lexical, surface }).collect())
+}
+
+fn read_sides(line: &Line, level: &str, heading: &Heading, alphabet: &Alphabet) -> Result<Vec<u8>, Fault> {
+    if line.words.len() != heading.columns {
+        let (found, said) = (line.words.len(), heading.columns);
+        let what = format!("{found} {level} letters where the rule has {said} columns");
+        return Err(Fault::new(line.number, what));
+    }
+    line.words.iter().map(|&word| read_side(word, line.number, alphabet)).collect()
+}
+
+fn read_side(word: Word, line: usize, alphabet: &Alphabet) -> Result<u8, Fault> {
+    let mut characters = word.bare().unwrap_or("").chars();
+    let (Some(character), None) = (characters.next(), characters.next()) else {
+        return Err(Fault::new(line, "a side of a column is one character"));
+    };
+    alphabet
+        .side(character)
+        .ok_or_else(|| Fault::new(line, format!("{} is no letter of the alphabet", name(character))))
+}
+
+fn read_states(rows: &[Line], heading: &Heading, last_line: usize) -> Result<Vec<State>, Fault> {
+    if let Some(extra) = rows.get(heading.states) {
+        let what = format!("a row more than the rule's {} states", heading.states);
+        return Err(Fault::new(extra.number, what));
+    }
+    if rows.len() < heading.states {
+        let what = format!("{} rows where the rule has {} states", rows.len(), heading.states);
+        return Err(Fault::new(last_line, what));
+    }
+    rows.iter().enumerate().map(|(at, row)| read_state(row, at + 1, heading)).collect()
+}
+
+/// A row: the state's number, a colon where it is final or a full stop, and the next states.
+fn read_state(row: &Line, state: usize, heading: &Heading) -> Result<State, Fault> {
+    let label = row.words[0].bare().unwrap_or("");
+    let is_final = if label == format!("{state}:") {
+        true
+    } else if label == format!("{state}.") {
+        false
+    } else {
+        let what = format!("the row of state {state} begins with {state}: if it is final, else {state}.");
+        return Err(Fault::new(row.number, what));
+    };
+    let next = &row.words[1..];
+    if next.len() != heading.columns {
+        let what = format!("{} next states where the rule has {} columns", next.len(), heading.columns);
+        return Err(Fault::new(row.number, what));
+    }
+    let next = next.iter().map(|&word| read_next(word, row.number, heading));
+    Ok(State { is_final, next: next.collect::<Result<_, _>>()? })
+}
+
+fn read_next(word: Word, line: usize, heading: &Heading) -> Result<u8, Fault> {
+    let next = word.bare().and_then(number).filter(|&next| next <= heading.states);
+    next.and_then(|next| u8::try_from(next).ok())
+        .ok_or_else(|| Fault::new(line, format!("a next state is a number from 0 to {}", heading.states)))
+}

@@ -1,0 +1,203 @@
+//! Document 01's image check, tests 1 to 8, written from its text.
+
+const BLOCK: usize = 512;
+
+/// The number of the first test that an image fails; none where it is accepted.
+pub fn refusal(image: &[u8]) -> Option<u8> {
+    type Test = fn(&[u8]) -> bool;
+    let tests: [Test; 8] = [
+        right_length,
+        right_checks,
+        right_layout,
+        right_letters,
+        right_pairs,
+        right_tables,
+        right_columns,
+        right_lexicons,
+    ];
+    (1..).zip(tests).find(|(_, test)| !test(image)).map(|(number, _)| number)
+}
+
+/// Writes number and check into every block.
+pub fn seal(image: &mut [u8]) {
+    for (number, block) in image.chunks_mut(BLOCK).enumerate() {
+        block[0] = (number % 256) as u8;
+        block[1] = (number / 256) as u8;
+        let check = check_of(block);
+        block[510] = (check % 256) as u8;
+        block[511] = (check / 256) as u8;
+    }
+}
+
+fn check_of(block: &[u8]) -> usize {
+    let sum: usize = (0..510).map(|i| (i + 1) * block[i] as usize).sum();
+    (1 + sum) % 65_521
+}
+
+fn two(bytes: &[u8], at: usize) -> usize {
+    bytes[at] as usize + 256 * bytes[at + 1] as usize
+}
+
+pub struct Counts {
+    pub form: usize,
+    pub letters: usize,
+    pub pairs: usize,
+    pub rules: usize,
+    pub lexicons: usize,
+    pub entries: usize,
+}
+
+pub fn counts(image: &[u8]) -> Counts {
+    let count = |k: usize| two(image, 4 + 2 * k);
+    Counts {
+        form: count(0),
+        letters: count(1),
+        pairs: count(2),
+        rules: count(3),
+        lexicons: count(4),
+        entries: count(5),
+    }
+}
+
+// 1: length 0, over 65,536, or no multiple of 512.
+fn right_length(image: &[u8]) -> bool {
+    !image.is_empty() && image.len() <= 65_536 && image.len().is_multiple_of(BLOCK)
+}
+
+// 2: a check or block number is wrong.
+fn right_checks(image: &[u8]) -> bool {
+    let right = |(number, block): (usize, &[u8])| two(block, 0) == number && two(block, 510) == check_of(block);
+    image.chunks(BLOCK).enumerate().all(right)
+}
+
+// 3: form, counts, block total, kinds, record counts or unused block bytes differ.
+fn right_layout(image: &[u8]) -> bool {
+    let c = counts(image);
+    let within = c.form == 1
+        && (2..=120).contains(&c.letters)
+        && (1..=250).contains(&c.pairs)
+        && c.rules <= 32
+        && (1..=64).contains(&c.lexicons)
+        && (1..=2_800).contains(&c.entries);
+    if !within {
+        return false;
+    }
+    // Kind, record count and record width of every block.
+    let mut blocks = vec![(1, 1, 12), (2, c.letters, 2), (3, c.pairs, 2)];
+    blocks.extend(vec![(4, 1, 506); c.rules]);
+    blocks.push((5, c.lexicons, 2));
+    let mut rest = c.entries;
+    while rest > 0 {
+        let here = rest.min(31);
+        blocks.push((6, here, 16));
+        rest -= here;
+    }
+    image.len() == BLOCK * blocks.len()
+        && image.chunks(BLOCK).zip(blocks).all(|(block, (kind, records, width))| {
+            block[2] as usize == kind
+                && block[3] as usize == records
+                && block[4 + records * width..510].iter().all(|&byte| byte == 0)
+        })
+}
+
+// 4: a code point is 0, 55296-57343, or repeated.
+fn right_letters(image: &[u8]) -> bool {
+    let points: Vec<usize> = (0..counts(image).letters).map(|k| two(image, BLOCK + 4 + 2 * k)).collect();
+    points
+        .iter()
+        .enumerate()
+        .all(|(k, point)| *point != 0 && !(55_296..=57_343).contains(point) && !points[..k].contains(point))
+}
+
+pub fn pairs(image: &[u8]) -> Vec<(u8, u8)> {
+    let at = |k| 2 * BLOCK + 4 + 2 * k;
+    (0..counts(image).pairs).map(|k| (image[at(k)], image[at(k) + 1])).collect()
+}
+
+// 5: a pair breaks its rule (sides 0 or 2-L, not both 0) or is repeated.
+fn right_pairs(image: &[u8]) -> bool {
+    let letters = counts(image).letters;
+    let right_side = |side: u8| side == 0 || (2..=letters).contains(&(side as usize));
+    let pairs = pairs(image);
+    pairs.iter().enumerate().all(|(k, &(lexical, surface))| {
+        right_side(lexical)
+            && right_side(surface)
+            && (lexical, surface) != (0, 0)
+            && !pairs[..k].contains(&(lexical, surface))
+    })
+}
+
+/// The 506 bytes of each table.
+fn tables(image: &[u8]) -> Vec<&[u8]> {
+    let blocks = image.chunks(BLOCK).skip(3).take(counts(image).rules);
+    blocks.map(|block| &block[4..510]).collect()
+}
+
+fn columns(table: &[u8]) -> Vec<(u8, u8)> {
+    (0..table[0] as usize).map(|k| (table[2 + 2 * k], table[3 + 2 * k])).collect()
+}
+
+// 6: C, S, a column side, mark or next state out of range, or a byte after a table's last row not 0.
+fn right_tables(image: &[u8]) -> bool {
+    let letters = counts(image).letters;
+    tables(image).into_iter().all(|table| {
+        let (c, s) = (table[0] as usize, table[1] as usize);
+        if !(1..=16).contains(&c) || !(1..=24).contains(&s) {
+            return false;
+        }
+        let (sides, rest) = table[2..].split_at(2 * c);
+        let (marks, rest) = rest.split_at(s);
+        let (rows, unused) = rest.split_at(s * c);
+        sides.iter().all(|&side| side as usize <= letters || side == 255)
+            && marks.iter().all(|&mark| mark <= 1)
+            && rows.iter().all(|&next| next as usize <= s)
+            && unused.iter().all(|&byte| byte == 0)
+    })
+}
+
+// 7: for a listed or the boundary pair a rule has no matching column, or two narrowest.
+fn right_columns(image: &[u8]) -> bool {
+    let mut fed = pairs(image);
+    fed.push((1, 1));
+    let matches = |column: (u8, u8), pair: (u8, u8)| {
+        (column.0 == 255 || column.0 == pair.0) && (column.1 == 255 || column.1 == pair.1)
+    };
+    tables(image).into_iter().all(|table| {
+        fed.iter().all(|&pair| {
+            let matching = columns(table).into_iter().filter(|&column| matches(column, pair));
+            let mut widths: Vec<usize> =
+                matching.map(|column| fed.iter().filter(|&&other| matches(column, other)).count()).collect();
+            widths.sort();
+            match widths[..] {
+                [] => false,
+                [_] => true,
+                [first, second, ..] => first < second,
+            }
+        })
+    })
+}
+
+/// The 16 bytes of each entry.
+pub fn entries(image: &[u8]) -> Vec<&[u8]> {
+    let c = counts(image);
+    let blocks = image.chunks(BLOCK).skip(4 + c.rules);
+    blocks.flat_map(|block| block[4..500].chunks(16)).take(c.entries).collect()
+}
+
+pub fn lexicon_counts(image: &[u8]) -> Vec<usize> {
+    let c = counts(image);
+    (0..c.lexicons).map(|k| two(image, (3 + c.rules) * BLOCK + 4 + 2 * k)).collect()
+}
+
+// 8: lexicon counts don't add to E, or an entry breaks its layout.
+fn right_lexicons(image: &[u8]) -> bool {
+    let c = counts(image);
+    lexicon_counts(image).iter().sum::<usize>() == c.entries
+        && entries(image).into_iter().all(|entry| {
+            let length = entry[0] as usize;
+            length <= 12
+                && entry[1..1 + length].iter().all(|&letter| (2..=c.letters).contains(&(letter as usize)))
+                && entry[1 + length..13].iter().all(|&byte| byte == 0)
+                && ((entry[13] as usize) < c.lexicons || entry[13] == 255)
+        })
+}
