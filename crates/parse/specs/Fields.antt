@@ -1,0 +1,32 @@
+-- A line as it comes in, the fields in it, and what is told of them.
+use Prim.Native.Nat.{ℕ, _≤_, _<_, min}
+use mathlib.Core.Bool.{true, false}
+use mathlib.Core.Path.{_≡_}
+use mathlib.Core.List.{List}
+use lib.ListN.{length, getD, take}
+use Rattle.model.specs.Lines as model
+use Rattle.model.specs.Lines.{isNumber, valueOf}
+use Rattle.parse.specs.declared.Line.{Line}
+use Rattle.parse.specs.declared.Line.the-variants.{Letters, Unread}
+
+-- of a line that has begun with l, the first n bytes of the buffer are all of it, or its first 256
+pub record Begun (buffer : List ℕ) (n : ℕ) (l : List ℕ) : Type 0 where
+  pub many : n ≡ min (length l) 256
+  pub bytes : take n buffer ≡ take 256 l
+
+-- the field that begins at `from` ends at `to`: there is no space in it, and after it there is one or the line's end
+pub record EndsField (line : List ℕ) (from to : ℕ) : Type 0 where
+  pub in-order : from ≤ to
+  pub inside : to ≤ length line
+  pub no-space : (i : ℕ) → from ≤ i → i < to → getD line i 0 ≡ 32 → ⊥
+  pub then-space : to < length line → getD line to 0 ≡ 32
+
+-- a value of at most 255 is that of a number, and no number has one over 255
+pub record ValueTold (field : List ℕ) (value : ℕ) : Type 0 where
+  pub number : value ≤ 255 → (isNumber field ≡ true) × (valueOf field ≡ value)
+  pub none : 255 < value → isNumber field ≡ false
+
+-- the code's line as the model's, its letters in the buffer
+abbrev pub lineWith : List ℕ → Line → model.Line
+lineWith buffer (Letters n) = model.Line.letters (take n buffer)
+lineWith buffer Unread = model.Line.unread
