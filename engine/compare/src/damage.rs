@@ -1,0 +1,694 @@
+//! An image is damaged so that one known test is the first it fails, or several tests at once, or in ways that do no harm.
+
+use crate::prng::Prng;
+use crate::tables::{with_columns, Temper};
+use other_engine::draft::{Draft, DraftEntry};
+use other_engine::grammar::{columns_taken, matches, ANY, BOUNDARY, END};
+use other_engine::image::{block_check, seal, BLOCK};
+
+/// A damaged image, and the refusal it is made for where that is certain; 0 is none.
+pub struct Damaged {
+    pub image: Vec<u8>,
+    pub refusal: Option<u8>,
+}
+
+fn certain(image: Vec<u8>, refusal: u8) -> Damaged {
+    Damaged {
+        image,
+        refusal: Some(refusal),
+    }
+}
+
+/// Where things lie in the image of a draft.
+struct Place {
+    letters: usize,
+    pairs: usize,
+    rules: usize,
+    lexicons: usize,
+    entries: usize,
+    blocks: usize,
+}
+
+impl Place {
+    fn of(draft: &Draft) -> Place {
+        let entries = draft.entries().count();
+        Place {
+            letters: draft.letters.len(),
+            pairs: draft.pairs.len(),
+            rules: draft.tables.len(),
+            lexicons: draft.lexicons.len(),
+            entries,
+            blocks: 4 + draft.tables.len() + entries.div_ceil(31),
+        }
+    }
+
+    fn letter(&self, number: usize) -> usize {
+        BLOCK + 4 + 2 * number
+    }
+
+    fn pair(&self, number: usize) -> usize {
+        2 * BLOCK + 4 + 2 * number
+    }
+
+    fn table(&self, rule: usize) -> usize {
+        (3 + rule) * BLOCK + 4
+    }
+
+    fn lexicon(&self, number: usize) -> usize {
+        (3 + self.rules) * BLOCK + 4 + 2 * number
+    }
+
+    fn entry(&self, number: usize) -> usize {
+        (4 + self.rules + number / 31) * BLOCK + 4 + 16 * (number % 31)
+    }
+
+    /// The bytes of a block before its unused ones.
+    fn used(&self, block: usize) -> usize {
+        4 + match block {
+            0 => 12,
+            1 => 2 * self.letters,
+            2 => 2 * self.pairs,
+            _ if block < 3 + self.rules => 506,
+            _ if block == 3 + self.rules => 2 * self.lexicons,
+            _ => 16 * (self.entries - 31 * (block - 4 - self.rules)).min(31),
+        }
+    }
+}
+
+fn put(image: &mut [u8], at: usize, number: usize) {
+    image[at..at + 2].copy_from_slice(&(number as u16).to_le_bytes());
+}
+
+fn get(image: &[u8], at: usize) -> usize {
+    usize::from(u16::from_le_bytes([image[at], image[at + 1]]))
+}
+
+fn resealed(mut image: Vec<u8>) -> Vec<u8> {
+    // An image too long to be sealed is refused for that alone.
+    let _ = seal(&mut image);
+    image
+}
+
+fn recheck(image: &mut [u8], block: usize) {
+    let at = block * BLOCK;
+    let check = block_check(&image[at..at + BLOCK]);
+    put(image, at + 510, usize::from(check));
+}
+
+/// A byte unlike the one there.
+fn other_byte(prng: &mut Prng, byte: u8) -> u8 {
+    byte.wrapping_add(prng.between(1, 255) as u8)
+}
+
+/// An image damaged for refusal k, or with k = 0 changed harmlessly.
+pub fn damaged(prng: &mut Prng, draft: &Draft, k: u8) -> Damaged {
+    match k {
+        0 => harmless(prng, draft),
+        1 => length(prng, draft),
+        2 => check_or_number(prng, draft),
+        3 => plan(prng, draft),
+        7 => columns(prng, draft),
+        _ => {
+            let draft = with_a_rule(draft);
+            let mut image = draft.image();
+            in_place(prng, &Place::of(&draft), &mut image, k);
+            certain(resealed(image), k)
+        }
+    }
+}
+
+/// An image damaged for several tests at once.
+pub fn damaged_often(prng: &mut Prng, draft: &Draft) -> Damaged {
+    let mut draft = with_a_rule(draft);
+    while draft.tables.len() < 3 {
+        let table = draft.tables[0].clone();
+        draft.tables.push(table);
+    }
+    let place = Place::of(&draft);
+    let mut image = draft.image();
+    // Two tests or three, the later ones first, since those read what the earlier ones spoil.
+    let mut tests = vec![3, 4, 5, 6, 7, 8];
+    prng.shuffle(&mut tests);
+    tests.truncate(if prng.percent(75) { 2 } else { 3 });
+    tests.sort_unstable();
+    for &k in tests.iter().rev() {
+        in_place(prng, &place, &mut image, k);
+    }
+    let mut image = resealed(image);
+    if prng.percent(15) {
+        let at = prng.below(image.len());
+        image[at] = other_byte(prng, image[at]);
+    }
+    if prng.percent(10) {
+        image.push(0);
+    }
+    Damaged {
+        image,
+        refusal: None,
+    }
+}
+
+/// The draft, with one plain rule where it has none.
+fn with_a_rule(draft: &Draft) -> Draft {
+    let mut draft = draft.clone();
+    if draft.tables.is_empty() {
+        draft.tables.push(other_engine::draft::DraftTable {
+            columns: vec![(ANY, ANY)],
+            finals: vec![1],
+            rows: vec![vec![1]],
+        });
+    }
+    draft
+}
+
+/// Damage for test 3 to 8 that leaves everything else where it is.
+fn in_place(prng: &mut Prng, place: &Place, image: &mut [u8], k: u8) {
+    match k {
+        3 => match prng.below(4) {
+            0 => put(image, 4, prng.one_of(&[0, 2, 256, 257, 257, 513, 65_535])),
+            1 => {
+                let at = prng.below(place.blocks) * BLOCK + 2;
+                image[at] = other_kind(prng, image[at]);
+            }
+            2 => {
+                let at = prng.below(place.blocks) * BLOCK + 3;
+                image[at] = match prng.below(3) {
+                    0 => image[at].wrapping_add(1),
+                    1 => image[at].wrapping_sub(1),
+                    _ => other_byte(prng, image[at]),
+                };
+            }
+            _ => {
+                // A block other than a rule's, whose table leaves no unused block bytes.
+                let rest = place.blocks - place.rules;
+                let drawn = prng.below(rest);
+                let block = if drawn < 3 {
+                    drawn
+                } else {
+                    drawn + place.rules
+                };
+                let first = place.used(block);
+                let at = match prng.below(3) {
+                    0 => first,
+                    1 => 509,
+                    _ => prng.between(first, 509),
+                };
+                image[block * BLOCK + at] = prng.between(1, 255) as u8;
+            }
+        },
+        4 => {
+            let number = prng.below(place.letters);
+            let point = match prng.below(5) {
+                0 => 0,
+                1 => 55_296,
+                2 => 57_343,
+                3 => prng.between(55_296, 57_343),
+                _ => {
+                    let other = (number + prng.between(1, place.letters - 1)) % place.letters;
+                    get(image, place.letter(other))
+                }
+            };
+            put(image, place.letter(number), point);
+        }
+        5 => {
+            let at = place.pair(prng.below(place.pairs));
+            let past = (place.letters + 1) as u8;
+            match prng.below(6) {
+                0 => image[at + prng.below(2)] = 1,
+                1 => image[at..at + 2].fill(0),
+                2 => image[at + prng.below(2)] = past,
+                3 => image[at + prng.below(2)] = prng.between(usize::from(past), 255) as u8,
+                4 => image[at..at + 2].fill(1),
+                _ if place.pairs > 1 => {
+                    let number = (at - place.pair(0)) / 2;
+                    let other = (number + prng.between(1, place.pairs - 1)) % place.pairs;
+                    let from = place.pair(other);
+                    image.copy_within(from..from + 2, at);
+                }
+                _ => image[at + prng.below(2)] = 255,
+            }
+        }
+        6 => table_field(prng, place, image),
+        7 => {
+            // The last column becomes like the first, or matches nothing.
+            let at = place.table(prng.below(place.rules));
+            let columns = usize::from(image[at]).max(1);
+            let last = at + 2 * columns;
+            if columns > 1 && prng.percent(60) {
+                image.copy_within(at + 2..at + 4, last);
+            } else {
+                image[last..last + 2].fill(0);
+            }
+        }
+        _ => lexicon(prng, place, image),
+    }
+}
+
+fn other_kind(prng: &mut Prng, kind: u8) -> u8 {
+    match prng.below(3) {
+        0 => kind.wrapping_add(1),
+        1 => kind.wrapping_sub(1),
+        _ => other_byte(prng, kind),
+    }
+}
+
+/// Damage to one field of one table.
+fn table_field(prng: &mut Prng, place: &Place, image: &mut [u8]) {
+    let at = place.table(prng.below(place.rules));
+    let columns = usize::from(image[at]);
+    let states = usize::from(image[at + 1]);
+    let marks = at + 2 + 2 * columns;
+    let rows = marks + states;
+    let rest = rows + states * columns;
+    let end = at + 506;
+    match prng.below(8) {
+        0 => image[at] = prng.one_of(&[0, 17, 18, 255]),
+        1 => image[at + 1] = prng.one_of(&[0, 25, 26, 255]),
+        2 => {
+            let side = prng.between(at + 2, marks - 1);
+            image[side] = match prng.below(3) {
+                0 => (place.letters + 1) as u8,
+                1 => 254,
+                _ => prng.between(place.letters + 1, 254) as u8,
+            };
+        }
+        3 => {
+            let mark = prng.between(marks, rows - 1);
+            image[mark] = if prng.percent(50) {
+                2
+            } else {
+                prng.between(2, 255) as u8
+            };
+        }
+        4 | 5 => {
+            let next = prng.between(rows, rest - 1);
+            let past = states + 1;
+            image[next] = if prng.percent(60) {
+                past as u8
+            } else {
+                prng.between(past, 255) as u8
+            };
+        }
+        _ => {
+            let after = match prng.below(3) {
+                0 => rest,
+                1 => end - 1,
+                _ => prng.between(rest, end - 1),
+            };
+            image[after] = if prng.percent(50) {
+                1
+            } else {
+                prng.between(1, 255) as u8
+            };
+        }
+    }
+}
+
+/// Damage to the lexicon counts or to one entry.
+fn lexicon(prng: &mut Prng, place: &Place, image: &mut [u8]) {
+    let at = place.entry(prng.below(place.entries));
+    let length = usize::from(image[at]).min(12);
+    match prng.below(9) {
+        0 | 1 => {
+            let at = place.lexicon(prng.below(place.lexicons));
+            let count = get(image, at);
+            let count = match prng.below(4) {
+                0 => count.wrapping_sub(1),
+                1 => count + 256,
+                2 => count + 32_768,
+                _ => count + 1,
+            };
+            put(image, at, count);
+        }
+        2 if place.lexicons > 1 => {
+            // The sum is E again when its carry is lost.
+            for number in [0, place.lexicons - 1] {
+                let at = place.lexicon(number);
+                put(image, at, get(image, at) + 32_768);
+            }
+        }
+        3 => {
+            // With twelve letters behind it a length of 13 breaks nothing but its own limit.
+            if prng.percent(60) {
+                image[at + 1..at + 13].fill(2);
+            }
+            image[at] = prng.one_of(&[13, 13, 14, 16, 255]);
+        }
+        4 if length > 0 => {
+            let letter = prng.between(at + 1, at + length);
+            let past = (place.letters + 1) as u8;
+            image[letter] = match prng.below(5) {
+                0 => 0,
+                1 => 1,
+                2 => past,
+                3 => 255,
+                _ => prng.between(usize::from(past), 255) as u8,
+            };
+        }
+        5 if length < 12 => image[at] += 1,
+        6 if length > 0 => image[at] -= 1,
+        7 if length < 12 => {
+            let letter = prng.between(at + 1 + length, at + 12);
+            image[letter] = if prng.percent(50) {
+                2
+            } else {
+                prng.between(1, 255) as u8
+            };
+        }
+        _ => {
+            image[at + 13] = match prng.below(3) {
+                0 => place.lexicons as u8,
+                1 => 254,
+                _ => prng.between(place.lexicons, 254) as u8,
+            };
+        }
+    }
+}
+
+/// Lengths that no image has.
+fn length(prng: &mut Prng, draft: &Draft) -> Damaged {
+    let mut image = draft.image();
+    let whole = image.len();
+    let length = match prng.below(12) {
+        0 => 0,
+        1 => 1,
+        2 => 511,
+        3 => 513,
+        4 => whole - 1,
+        5 => whole + 1,
+        6 => whole - 511,
+        7 => whole + 511,
+        8 => 65_536 + 512,
+        9 => 65_537,
+        10 => 65_535,
+        _ => prng.below(whole / 512) * 512 + prng.between(1, 511),
+    };
+    if prng.percent(40) {
+        // The longer image goes on with sealed blocks.
+        image.resize(128 * BLOCK, 0);
+        let _ = seal(&mut image);
+        image.resize(129 * BLOCK, 0);
+        put(&mut image, 128 * BLOCK, 128);
+        recheck(&mut image, 128);
+        if length > image.len() {
+            image.resize(length, 0);
+        }
+        image.truncate(length);
+    } else {
+        image.resize(length, 0);
+    }
+    certain(image, 1)
+}
+
+/// A wrong check, or a wrong number under a right check.
+fn check_or_number(prng: &mut Prng, draft: &Draft) -> Damaged {
+    let mut image = draft.image();
+    let blocks = image.len() / BLOCK;
+    let block = prng.below(blocks);
+    let at = block * BLOCK;
+    match prng.below(8) {
+        0 => {
+            let byte = prng.between(at, at + 511);
+            image[byte] = other_byte(prng, image[byte]);
+        }
+        1 => image[at + 7] = other_byte(prng, image[at + 7]),
+        2 => put(&mut image, at, block + prng.between(1, 255)),
+        3 => {
+            put(&mut image, at, block + 256 * prng.between(1, 255));
+            recheck(&mut image, block);
+        }
+        4 => {
+            let number = if prng.percent(50) {
+                block + 1
+            } else {
+                block.wrapping_sub(1)
+            };
+            put(&mut image, at, number);
+            recheck(&mut image, block);
+        }
+        5 => {
+            let check = get(&image, at + 510);
+            let wrong = if prng.percent(50) {
+                check + 1
+            } else {
+                check.wrapping_sub(1)
+            };
+            put(&mut image, at + 510, wrong);
+        }
+        6 => {
+            // Two blocks change places, numbers and checks with them.
+            let other = (block + prng.between(1, blocks - 1)) % blocks;
+            for byte in 0..BLOCK {
+                image.swap(at + byte, other * BLOCK + byte);
+            }
+        }
+        _ => return past_modulus(prng, draft, true),
+    }
+    certain(image, 2)
+}
+
+/// An image with a check below 15, as it should be or written 65,521 higher.
+fn past_modulus(prng: &mut Prng, draft: &Draft, higher: bool) -> Damaged {
+    let mut draft = draft.clone();
+    while draft.entries().count() < 31 {
+        let filler = DraftEntry {
+            form: vec![2],
+            continuation: END,
+            gloss: 0,
+        };
+        draft.lexicons.last_mut().expect("a lexicon").push(filler);
+    }
+    let mut image = draft.image();
+    let place = Place::of(&draft);
+    let gloss = place.entry(30) + 14;
+    let block = gloss / BLOCK;
+    let start = prng.below(65_536);
+    for step in 0..65_536 {
+        put(&mut image, gloss, (start + step) % 65_536);
+        let check = usize::from(block_check(&image[block * BLOCK..(block + 1) * BLOCK]));
+        if check < 15 {
+            put(
+                &mut image,
+                block * BLOCK + 510,
+                check + if higher { 65_521 } else { 0 },
+            );
+            return certain(image, if higher { 2 } else { 0 });
+        }
+    }
+    Damaged {
+        image,
+        refusal: None,
+    }
+}
+
+/// Counts and blocks that differ from the layout.
+fn plan(prng: &mut Prng, draft: &Draft) -> Damaged {
+    let place = Place::of(draft);
+    let mut image = draft.image();
+    match prng.below(9) {
+        0..=2 => {
+            let with_rule = with_a_rule(draft);
+            let mut image = with_rule.image();
+            in_place(prng, &Place::of(&with_rule), &mut image, 3);
+            return certain(resealed(image), 3);
+        }
+        3 => {
+            let (at, limit) =
+                prng.one_of(&[(6, 120), (8, 250), (10, 32), (12, 64), (14, 2_800usize)]);
+            let old = get(&image, at);
+            let new = match prng.below(6) {
+                0 => 0,
+                1 => limit + 1,
+                2 => old + 1,
+                3 => old.wrapping_sub(1) % 65_536,
+                4 => old + 256,
+                _ => prng.below(65_536),
+            };
+            put(&mut image, at, if new == old { old + 1 } else { new });
+        }
+        4 | 5 => return past_limit(prng, draft),
+        6 => {
+            let block = prng.below(place.blocks);
+            image.drain(block * BLOCK..(block + 1) * BLOCK);
+        }
+        7 => {
+            if place.blocks == 127 {
+                image.resize(128 * BLOCK, 0);
+            } else {
+                match prng.below(3) {
+                    0 => image.resize((place.blocks + 1) * BLOCK, 0),
+                    1 => image.resize(128 * BLOCK, 0),
+                    _ => {
+                        let block = prng.below(place.blocks);
+                        let copy = image[block * BLOCK..(block + 1) * BLOCK].to_vec();
+                        let at = prng.between(block, place.blocks) * BLOCK;
+                        image.splice(at..at, copy);
+                    }
+                }
+            }
+        }
+        _ => {
+            // Two blocks of unlike kinds change places under right numbers.
+            let block = prng.below(3);
+            let other = prng.between(block + 1, place.blocks - 1);
+            for byte in 0..BLOCK {
+                image.swap(block * BLOCK + byte, other * BLOCK + byte);
+            }
+        }
+    }
+    certain(resealed(image), 3)
+}
+
+/// A draft laid out right with one count just outside its limits.
+fn past_limit(prng: &mut Prng, draft: &Draft) -> Damaged {
+    let mut draft = draft.clone();
+    let entry = DraftEntry {
+        form: Vec::new(),
+        continuation: END,
+        gloss: 0,
+    };
+    let last = draft.lexicons.len() - 1;
+    match prng.below(10) {
+        0 => draft.letters.truncate(1),
+        1 => draft.letters = (1..=121).collect(),
+        2 => draft.pairs.clear(),
+        3 => draft.pairs = (2..=252).map(|x| (x, 2)).collect(),
+        4 => {
+            let table = with_a_rule(&draft).tables[0].clone();
+            draft.tables.resize(33, table);
+        }
+        5 => draft.lexicons.clear(),
+        6 => draft.lexicons.resize(65, Vec::new()),
+        7 => draft.lexicons.iter_mut().for_each(Vec::clear),
+        8 => {
+            let missing = 2_801usize.saturating_sub(draft.entries().count()).max(1);
+            let longer = draft.lexicons[last].len() + missing;
+            draft.lexicons[last].resize(longer, entry);
+        }
+        _ => {
+            // The block total is at its limit and E past its own.
+            let table = with_a_rule(&draft).tables[0].clone();
+            draft.tables.resize(32, table);
+            let rest = draft.entries().count() - draft.lexicons[last].len();
+            draft.lexicons[last].resize(2_822 - rest, entry);
+        }
+    }
+    certain(draft.image(), 3)
+}
+
+/// A rule without a column for some pair, or with two narrowest.
+fn columns(prng: &mut Prng, draft: &Draft) -> Damaged {
+    let mut draft = with_a_rule(draft);
+    let rule = prng.below(draft.tables.len());
+    let old = draft.tables[rule].columns.clone();
+    let pairs = draft.pairs.clone();
+    let mut certainly = true;
+    let new = match prng.below(6) {
+        0 => {
+            let victim = prng.one_of(&pairs);
+            old.into_iter()
+                .filter(|&column| !matches(column, victim))
+                .collect()
+        }
+        1 => old
+            .into_iter()
+            .filter(|&column| !matches(column, (BOUNDARY, BOUNDARY)))
+            .collect(),
+        2 => {
+            let mut new = old;
+            if new.len() == 16 {
+                let last = prng.below(16);
+                new.remove(last);
+            }
+            match columns_taken(&new, &pairs) {
+                Some(taken) => {
+                    let twin = new[prng.one_of(&taken)];
+                    new.insert(prng.below(new.len() + 1), twin);
+                }
+                // The column taken away was the only one for some pair.
+                None => certainly = true,
+            }
+            new
+        }
+        3 => {
+            let (x, y) = prng.one_of(&pairs);
+            certainly = false;
+            let mut new = vec![(x, ANY), (ANY, y), (ANY, ANY)];
+            prng.shuffle(&mut new);
+            new
+        }
+        4 => {
+            let mut new = vec![(BOUNDARY, ANY), (ANY, BOUNDARY), (ANY, ANY)];
+            if prng.percent(50) {
+                new.push((BOUNDARY, BOUNDARY));
+            }
+            prng.shuffle(&mut new);
+            new
+        }
+        _ => pairs.iter().take(16).copied().collect(),
+    };
+    let new: Vec<(u8, u8)> = if new.is_empty() { vec![(0, 0)] } else { new };
+    let states = draft.tables[rule].finals.len();
+    let temper = Temper {
+        failing: 10,
+        finals: 80,
+        staying: 30,
+    };
+    draft.tables[rule] = with_columns(prng, new, states, &temper);
+    let refusal = certainly.then_some(7);
+    Damaged {
+        image: draft.image(),
+        refusal,
+    }
+}
+
+/// Changes at the edge of what is refused, none of them over it.
+fn harmless(prng: &mut Prng, draft: &Draft) -> Damaged {
+    let mut draft = draft.clone();
+    match prng.below(6) {
+        0 => {
+            let number = prng.below(draft.letters.len());
+            let point = prng.one_of(&[1, 55_295, 57_344, 65_535]);
+            if !draft.letters.contains(&point) {
+                draft.letters[number] = point;
+            }
+        }
+        1 => {
+            let number = prng.below(draft.lexicons.len());
+            for entry in &mut draft.lexicons[number] {
+                entry.gloss = prng.one_of(&[0, 65_535, 255, 256]);
+            }
+        }
+        2 => {
+            // The same entries, dealt out among the lexicons another way.
+            let all: Vec<DraftEntry> = draft.entries().cloned().collect();
+            let count = draft.lexicons.len();
+            let mut cuts: Vec<usize> = (1..count)
+                .map(|_| prng.below(all.len() + 1))
+                .chain([0, all.len()])
+                .collect();
+            cuts.sort_unstable();
+            draft.lexicons = cuts
+                .windows(2)
+                .map(|cut| all[cut[0]..cut[1]].to_vec())
+                .collect();
+        }
+        3 => {
+            let last = draft.lexicons.len() - 1;
+            if draft.lexicons.len() < 64 {
+                let number = prng.below(draft.lexicons.len());
+                if let Some(entry) = draft.lexicons[number].first_mut() {
+                    entry.continuation = last as u8;
+                }
+            }
+        }
+        4 => {
+            let mut image = draft.image();
+            let _ = seal(&mut image);
+            return certain(image, 0);
+        }
+        _ if draft.entries().count() < 2_000 => return past_modulus(prng, &draft, false),
+        _ => {}
+    }
+    certain(draft.image(), 0)
+}

@@ -1,0 +1,615 @@
+//! Small grammars are drawn in several manners, each leaning on one part of the definition.
+
+use crate::prng::Prng;
+use crate::tables::{columns, table, temper, with_columns, Temper};
+use other_engine::draft::{Draft, DraftEntry, DraftTable};
+use other_engine::grammar::{ANY, END, NULL};
+
+/// A manner of drawing.
+type Manner = fn(&mut Prng) -> Draft;
+
+/// The manners of drawing, with their weights.
+const MANNERS: [(usize, Manner); 10] = [
+    (300, mixed),
+    (120, twins),
+    (80, cycles),
+    (150, long),
+    (100, many),
+    (70, narrow),
+    (60, luz),
+    (60, tiny),
+    (30, crowd),
+    (4, full),
+];
+
+/// A grammar in one of the manners.
+pub fn grammar(prng: &mut Prng) -> Draft {
+    let weights = MANNERS.map(|(weight, _)| weight);
+    let (_, manner) = MANNERS[prng.weighted(&weights)];
+    manner(prng)
+}
+
+/// Code points that are all unlike and none a surrogate, with those at the edges met often.
+fn code_points(prng: &mut Prng, count: usize) -> Vec<u16> {
+    let mut points: Vec<u16> = Vec::new();
+    while points.len() < count {
+        let point = match prng.below(8) {
+            0 => prng.one_of(&[1, 55_295, 57_344, 65_535]),
+            1..=5 => prng.between(33, 255) as u16,
+            _ => prng.between(1, 65_535) as u16,
+        };
+        if !(55_296..=57_343).contains(&point) && !points.contains(&point) {
+            points.push(point);
+        }
+    }
+    points
+}
+
+fn letter(prng: &mut Prng, letters: usize) -> u8 {
+    prng.between(2, letters) as u8
+}
+
+fn once_each(prng: &mut Prng, pairs: Vec<(u8, u8)>) -> Vec<(u8, u8)> {
+    let mut unlike = Vec::new();
+    for pair in pairs {
+        if !unlike.contains(&pair) {
+            unlike.push(pair);
+        }
+    }
+    prng.shuffle(&mut unlike);
+    unlike
+}
+
+/// Like pairs, a few unlike ones, and so many insertions and deletions.
+fn pairs(prng: &mut Prng, letters: usize, insertions: usize, deletions: usize) -> Vec<(u8, u8)> {
+    let mut pairs = Vec::new();
+    for x in 2..=letters as u8 {
+        if prng.percent(80) {
+            pairs.push((x, x));
+        }
+    }
+    for _ in 0..prng.below(4) {
+        pairs.push((letter(prng, letters), letter(prng, letters)));
+    }
+    for _ in 0..insertions {
+        pairs.push((NULL, letter(prng, letters)));
+    }
+    for _ in 0..deletions {
+        pairs.push((letter(prng, letters), NULL));
+    }
+    if pairs.is_empty() {
+        pairs.push((2, 2));
+    }
+    once_each(prng, pairs)
+}
+
+fn tables(prng: &mut Prng, pairs: &[(u8, u8)], letters: usize) -> Vec<DraftTable> {
+    let rules = match prng.weighted(&[15, 35, 24, 15, 10, 1]) {
+        5 => prng.between(5, 32),
+        few => few,
+    };
+    (0..rules)
+        .map(|_| {
+            let temper = temper(prng, rules);
+            table(prng, pairs, letters, &temper)
+        })
+        .collect()
+}
+
+/// A form of so many letters, mostly such as have a pair.
+fn form(prng: &mut Prng, length: usize, alphabet: &[u8], letters: usize) -> Vec<u8> {
+    (0..length)
+        .map(|_| {
+            if prng.percent(3) {
+                letter(prng, letters)
+            } else {
+                prng.one_of(alphabet)
+            }
+        })
+        .collect()
+}
+
+/// Some of the lexical letters that have a pair.
+fn alphabet(prng: &mut Prng, pairs: &[(u8, u8)], most: usize) -> Vec<u8> {
+    let mut paired: Vec<u8> = pairs.iter().map(|p| p.0).filter(|&x| x != NULL).collect();
+    paired.sort_unstable();
+    paired.dedup();
+    prng.shuffle(&mut paired);
+    paired.truncate(prng.between(1, most));
+    if paired.is_empty() {
+        paired.push(2);
+    }
+    paired
+}
+
+fn entry(prng: &mut Prng, form: Vec<u8>, continuation: u8) -> DraftEntry {
+    DraftEntry {
+        form,
+        continuation,
+        gloss: prng.below(65_536) as u16,
+    }
+}
+
+/// How the entries of drawn lexicons are spread.
+struct Spread {
+    most_lexicons: usize,
+    most_entries: usize,
+    /// Weights of the form lengths 0, 1, ..
+    lengths: &'static [usize],
+    /// Entries that end the path, in a hundred.
+    ending: usize,
+    /// Empty entries that go on, at most.
+    going_on_empty: usize,
+}
+
+fn lexicons(
+    prng: &mut Prng,
+    alphabet: &[u8],
+    letters: usize,
+    spread: &Spread,
+) -> Vec<Vec<DraftEntry>> {
+    let count = prng.between(1, spread.most_lexicons);
+    let mut empties = 0;
+    (0..count)
+        .map(|lexicon| {
+            let least = usize::from(lexicon == 0 || prng.percent(90));
+            let entries = prng.between(least, spread.most_entries);
+            (0..entries)
+                .map(|_| {
+                    let length = prng.weighted(spread.lengths);
+                    let mut continuation = if prng.percent(spread.ending) {
+                        END
+                    } else {
+                        prng.below(count) as u8
+                    };
+                    if length == 0 && continuation != END {
+                        if empties == spread.going_on_empty {
+                            continuation = END;
+                        } else {
+                            empties += 1;
+                        }
+                    }
+                    let form = form(prng, length, alphabet, letters);
+                    entry(prng, form, continuation)
+                })
+                .collect()
+        })
+        .collect()
+}
+
+/// A bit of everything.
+fn mixed(prng: &mut Prng) -> Draft {
+    let letters = prng.between(2, 12);
+    let insertions = prng.weighted(&[50, 40, 10]);
+    let deletions = prng.weighted(&[45, 38, 17]);
+    let pairs = pairs(prng, letters, insertions, deletions);
+    let alphabet = alphabet(prng, &pairs, 4);
+    let lengths: &[usize] = if insertions > 0 {
+        &[22, 42, 26, 8, 2]
+    } else {
+        &[20, 30, 25, 12, 8, 2, 1, 0, 0, 0, 0, 0, 1]
+    };
+    let spread = Spread {
+        most_lexicons: 4,
+        most_entries: 4,
+        lengths,
+        ending: 50,
+        going_on_empty: 1,
+    };
+    let lexicons = lexicons(prng, &alphabet, letters, &spread);
+    Draft {
+        letters: code_points(prng, letters),
+        tables: tables(prng, &pairs, letters),
+        pairs,
+        lexicons,
+    }
+}
+
+/// Many paths with equal forms, and many pairings of equal words.
+fn twins(prng: &mut Prng) -> Draft {
+    let letters = prng.between(3, 6);
+    let insertions = prng.weighted(&[50, 50]);
+    let deletions = prng.weighted(&[40, 60]);
+    let mut pairs = pairs(prng, letters, insertions, deletions);
+    for _ in 0..2 {
+        let pair = (letter(prng, letters), letter(prng, letters));
+        if !pairs.contains(&pair) {
+            pairs.insert(prng.below(pairs.len() + 1), pair);
+        }
+    }
+    let alphabet = alphabet(prng, &pairs, 2);
+    let spread = Spread {
+        most_lexicons: 3,
+        most_entries: 4,
+        lengths: &[30, 50, 20],
+        ending: 55,
+        going_on_empty: 2,
+    };
+    let lexicons = lexicons(prng, &alphabet, letters, &spread);
+    Draft {
+        letters: code_points(prng, letters),
+        tables: tables(prng, &pairs, letters),
+        pairs,
+        lexicons,
+    }
+}
+
+/// Paths that come round through empty entries up to the sixteenth.
+fn cycles(prng: &mut Prng) -> Draft {
+    let letters = prng.between(2, 5);
+    let insertions = prng.weighted(&[70, 30]);
+    let deletions = prng.weighted(&[60, 40]);
+    let pairs = pairs(prng, letters, insertions, deletions);
+    let alphabet = alphabet(prng, &pairs, 2);
+    let round = prng.between(1, 3);
+    let mut lexicons: Vec<Vec<DraftEntry>> = (0..round)
+        .map(|lexicon| vec![entry(prng, Vec::new(), ((lexicon + 1) % round) as u8)])
+        .collect();
+    for _ in 0..prng.between(1, 3) {
+        let length = prng.weighted(&[1, 3, 1]);
+        let form = form(prng, length, &alphabet, letters);
+        let going_on = length > 0 && prng.percent(30);
+        let continuation = if going_on {
+            prng.below(round) as u8
+        } else {
+            END
+        };
+        let entry = entry(prng, form, continuation);
+        let lexicon = prng.below(round);
+        let place = prng.below(lexicons[lexicon].len() + 1);
+        lexicons[lexicon].insert(place, entry);
+    }
+    if prng.percent(60) {
+        let form = form(prng, 1, &alphabet, letters);
+        let entry = entry(prng, form, END);
+        lexicons[round - 1].push(entry);
+    }
+    Draft {
+        letters: code_points(prng, letters),
+        tables: tables(prng, &pairs, letters),
+        pairs,
+        lexicons,
+    }
+}
+
+/// Words, paths, pairings and nulls at their limits: a chain of lexicons that splits one long form.
+fn long(prng: &mut Prng) -> Draft {
+    const STAY: u8 = 2;
+    const DROP: u8 = 3;
+    const COME: u8 = 4;
+    const ALSO: u8 = 5;
+    let mut pairs = vec![(STAY, STAY), (DROP, NULL)];
+    if prng.percent(45) {
+        pairs.push((NULL, COME));
+    }
+    if prng.percent(25) {
+        pairs.push((ALSO, STAY));
+    }
+    if prng.percent(15) {
+        pairs.push((ALSO, COME));
+    }
+    if prng.percent(8) {
+        pairs.push((STAY, NULL));
+    }
+    prng.shuffle(&mut pairs);
+    let links = prng.one_of(&[4, 5, 6, 8, 12, 15, 15, 16, 16, 16, 17]);
+    let staying = match prng.below(5) {
+        0 => prng.between(1, 8),
+        1 => prng.between(23, 26),
+        2 => prng.between(29, 33),
+        _ => prng.one_of(&[24, 31, 32, 32, 33, 33]),
+    };
+    // A word too long by one letter alone needs pairs to spare.
+    let dropping = if staying > 32 {
+        prng.one_of(&[0, 0, 1, 6, 7])
+    } else {
+        prng.one_of(&[0, 1, 7, 8, 8, 8, 9, 9])
+    };
+    let mut whole = vec![STAY; staying];
+    for place in whole.iter_mut() {
+        if prng.percent(2) {
+            *place = ALSO;
+        }
+    }
+    for _ in 0..dropping {
+        whole.insert(prng.below(whole.len() + 1), DROP);
+    }
+    let forms = split(prng, &whole, links);
+    let mut lexicons: Vec<Vec<DraftEntry>> = Vec::new();
+    for (link, form) in forms.iter().enumerate() {
+        let next = if link + 1 == links {
+            END
+        } else {
+            link as u8 + 1
+        };
+        lexicons.push(vec![entry(prng, form.clone(), next)]);
+    }
+    // A few lexicons get a second entry: the same again, one letter less, empty, or a short cut.
+    for _ in 0..prng.below(4) {
+        let link = prng.below(links);
+        let mut twin = lexicons[link][0].clone();
+        match prng.below(4) {
+            0 => {}
+            1 => drop(twin.form.pop()),
+            2 => twin.form.clear(),
+            _ if link + 2 < links => twin.continuation = link as u8 + 2,
+            _ => twin.continuation = END,
+        }
+        let place = prng.below(lexicons[link].len() + 1);
+        lexicons[link].insert(place, twin);
+    }
+    let rules = prng.weighted(&[50, 35, 15]);
+    let temper = Temper {
+        failing: 0,
+        finals: prng.one_of(&[50, 80, 100]),
+        staying: 20,
+    };
+    let tables = (0..rules)
+        .map(|_| table(prng, &pairs, 5, &temper))
+        .collect();
+    Draft {
+        letters: code_points(prng, 5),
+        pairs,
+        tables,
+        lexicons,
+    }
+}
+
+/// A form cut into so many forms of at most twelve letters.
+fn split(prng: &mut Prng, whole: &[u8], parts: usize) -> Vec<Vec<u8>> {
+    loop {
+        let mut cuts: Vec<usize> = (1..parts)
+            .map(|_| prng.below(whole.len() + 1))
+            .chain([0, whole.len()])
+            .collect();
+        cuts.sort_unstable();
+        // Long forms in few parts need cuts that lie nearly even.
+        if parts < 8 {
+            for (place, cut) in cuts.iter_mut().enumerate() {
+                *cut = place * whole.len() / parts;
+            }
+        }
+        if cuts.windows(2).all(|cut| cut[1] - cut[0] <= 12) {
+            return cuts
+                .windows(2)
+                .map(|cut| whole[cut[0]..cut[1]].to_vec())
+                .collect();
+        }
+    }
+}
+
+/// Entries over several blocks, around the last record of a block and past 255.
+fn many(prng: &mut Prng) -> Draft {
+    let letters = prng.between(4, 9);
+    let insertions = prng.weighted(&[70, 30]);
+    let deletions = prng.weighted(&[60, 40]);
+    let pairs = pairs(prng, letters, insertions, deletions);
+    let alphabet = alphabet(prng, &pairs, 4);
+    let entries = match prng.below(8) {
+        0 | 1 => prng.between(240, 400),
+        2 => prng.between(20, 100),
+        _ => prng.one_of(&[30, 31, 32, 61, 62, 63, 93, 94]),
+    };
+    let mut lexicons = vec![Vec::new(), Vec::new(), Vec::new()];
+    let stems = prng.between(entries / 2, entries - 2);
+    for number in 0..entries {
+        let length = prng.weighted(&[0, 10, 35, 35, 20]);
+        let form = form(prng, length, &alphabet, letters);
+        if number < stems {
+            let continuation = if prng.percent(30) {
+                END
+            } else {
+                prng.between(1, 2) as u8
+            };
+            let entry = entry(prng, form, continuation);
+            lexicons[0].push(entry);
+        } else {
+            let form = if prng.percent(15) { Vec::new() } else { form };
+            let entry = entry(prng, form, END);
+            lexicons[prng.between(1, 2)].push(entry);
+        }
+    }
+    Draft {
+        letters: code_points(prng, letters),
+        tables: tables(prng, &pairs, letters),
+        pairs,
+        lexicons,
+    }
+}
+
+/// Few pairs and many overlapping columns, so that breadth over the boundary pair tells.
+fn narrow(prng: &mut Prng) -> Draft {
+    let letters = prng.between(2, 4);
+    let count = prng.between(1, 4);
+    let mut drawn = Vec::new();
+    let (x, y) = (letter(prng, letters), letter(prng, letters));
+    let manner = prng.below(4);
+    while drawn.len() < count {
+        let other = letter(prng, letters);
+        drawn.push(match manner {
+            0 => (x, if prng.percent(25) { NULL } else { other }),
+            1 => (if prng.percent(25) { NULL } else { other }, y),
+            _ => (other, letter(prng, letters)),
+        });
+    }
+    let pairs = once_each(prng, drawn);
+    let alphabet = alphabet(prng, &pairs, 3);
+    let spread = Spread {
+        most_lexicons: 2,
+        most_entries: 3,
+        lengths: &[10, 40, 30, 20],
+        ending: 60,
+        going_on_empty: 1,
+    };
+    let lexicons = lexicons(prng, &alphabet, letters, &spread);
+    let rules = prng.between(1, 3);
+    let tables = (0..rules)
+        .map(|_| {
+            let wide = match manner {
+                0 => (x, ANY),
+                1 => (ANY, y),
+                _ => (ANY, ANY),
+            };
+            let temper = temper(prng, rules);
+            let mut columns = columns(prng, &pairs, letters, 4);
+            if !columns.contains(&wide) && columns.len() < 16 {
+                columns.insert(prng.below(columns.len() + 1), wide);
+            }
+            let states = prng.between(1, 3);
+            with_columns(prng, columns, states, &temper)
+        })
+        .collect();
+    Draft {
+        letters: code_points(prng, letters),
+        pairs,
+        tables,
+        lexicons,
+    }
+}
+
+/// The luz grammar, sometimes with its columns, pairs or table a little changed.
+fn luz(prng: &mut Prng) -> Draft {
+    let mut draft = Draft::luz();
+    if prng.percent(60) {
+        let mut order = [0, 1, 2, 3, 4];
+        prng.shuffle(&mut order);
+        let table = &mut draft.tables[0];
+        table.columns = order.iter().map(|&c| table.columns[c]).collect();
+        for row in &mut table.rows {
+            *row = order.iter().map(|&c| row[c]).collect();
+        }
+    }
+    if prng.percent(40) {
+        prng.shuffle(&mut draft.pairs);
+    }
+    if prng.percent(30) {
+        let row = prng.below(5);
+        let column = prng.below(5);
+        draft.tables[0].rows[row][column] = prng.below(6) as u8;
+    }
+    if prng.percent(20) {
+        let pair = prng.one_of(&[(0, 4), (0, 6), (9, 0), (4, 0), (3, 8)]);
+        let place = prng.below(draft.pairs.len() + 1);
+        draft.pairs.insert(place, pair);
+    }
+    draft
+}
+
+/// Two or three letters with every kind of pair.
+fn tiny(prng: &mut Prng) -> Draft {
+    let letters = prng.between(2, 3);
+    let mut all = Vec::new();
+    for x in 0..=letters as u8 {
+        for y in 0..=letters as u8 {
+            if x != 1 && y != 1 && (x, y) != (0, 0) {
+                all.push((x, y));
+            }
+        }
+    }
+    prng.shuffle(&mut all);
+    all.truncate(prng.between(1, 4));
+    let alphabet = alphabet(prng, &all, 2);
+    let spread = Spread {
+        most_lexicons: 2,
+        most_entries: 3,
+        lengths: &[30, 50, 20],
+        ending: 65,
+        going_on_empty: 1,
+    };
+    let lexicons = lexicons(prng, &alphabet, letters, &spread);
+    Draft {
+        letters: code_points(prng, letters),
+        tables: tables(prng, &all, letters),
+        pairs: all,
+        lexicons,
+    }
+}
+
+/// Rules up to the thirty-second, of which a late one alone is strict.
+fn crowd(prng: &mut Prng) -> Draft {
+    let mut draft = mixed(prng);
+    let letters = draft.letters.len();
+    let rules = prng.one_of(&[16, 17, 31, 32, 32, 32]);
+    let strict = if prng.percent(60) {
+        rules - 1
+    } else {
+        prng.below(rules)
+    };
+    draft.tables = (0..rules)
+        .map(|rule| {
+            let temper = if rule == strict {
+                Temper {
+                    failing: 25,
+                    finals: 60,
+                    staying: 20,
+                }
+            } else {
+                Temper {
+                    failing: 0,
+                    finals: 100,
+                    staying: 50,
+                }
+            };
+            table(prng, &draft.pairs, letters, &temper)
+        })
+        .collect();
+    draft
+}
+
+/// Counts at their limits, all or some of them.
+fn full(prng: &mut Prng) -> Draft {
+    let all = prng.percent(40);
+    let mut most = |count: usize, few: usize| if all || prng.percent(50) { count } else { few };
+    let (letters, count, rules, lexicons, entries) = (
+        most(120, 20),
+        most(250, 60),
+        most(32, 2),
+        most(64, 3),
+        most(2_800, 80),
+    );
+    let mut pairs: Vec<(u8, u8)> = (2..=letters as u8).map(|x| (x, x)).collect();
+    pairs.push((letter(prng, letters), NULL));
+    while pairs.len() < count {
+        let pair = (letter(prng, letters), letter(prng, letters));
+        if !pairs.contains(&pair) {
+            pairs.push(pair);
+        }
+    }
+    pairs.truncate(count);
+    prng.shuffle(&mut pairs);
+    let tables = (0..rules)
+        .map(|rule| {
+            let temper = Temper {
+                failing: 0,
+                finals: 98,
+                staying: 30,
+            };
+            let drawn = if rule == 0 {
+                pairs[..15].iter().copied().chain([(ANY, ANY)]).collect()
+            } else {
+                columns(prng, &pairs, letters, 16)
+            };
+            let states = if rule < 2 { 24 } else { prng.between(1, 24) };
+            with_columns(prng, drawn, states, &temper)
+        })
+        .collect();
+    let mut spread: Vec<Vec<DraftEntry>> = vec![Vec::new(); lexicons];
+    for number in 0..entries {
+        let lexicon = if number == 0 { 0 } else { prng.below(lexicons) };
+        let length = prng.between(1, 4);
+        let form = (0..length).map(|_| letter(prng, letters)).collect();
+        let continuation = if prng.percent(60) {
+            END
+        } else {
+            prng.below(lexicons) as u8
+        };
+        let entry = entry(prng, form, continuation);
+        spread[lexicon].push(entry);
+    }
+    Draft {
+        letters: code_points(prng, letters),
+        pairs,
+        tables,
+        lexicons: spread,
+    }
+}

@@ -1,0 +1,107 @@
+//! The linked library is called with lent ranges and answers with one number a call.
+
+use crate::lent::Lent;
+
+/// The type of an entry number in the C interface.
+pub type EntryNumber = usize;
+
+extern "C" {
+    fn headwords_analyse(
+        image: *const u8,
+        image_length: usize,
+        word: *const u8,
+        word_length: usize,
+        rows: *mut u8,
+        rows_length: usize,
+    ) -> u64;
+    fn headwords_generate(
+        image: *const u8,
+        image_length: usize,
+        path: *const u8,
+        path_length: usize,
+        rows: *mut u8,
+        rows_length: usize,
+    ) -> u64;
+    fn headwords_check(image: *const u8, image_length: usize) -> u64;
+    fn headwords_seal(image: *mut u8, image_length: usize) -> u64;
+    fn headwords_judge(
+        image: *const u8,
+        image_length: usize,
+        path: *const u8,
+        path_length: usize,
+        pairing: *const u8,
+        pairing_length: usize,
+    ) -> u64;
+    fn headwords_form(
+        image: *const u8,
+        image_length: usize,
+        entry: EntryNumber,
+        letters: *mut u8,
+        letters_length: usize,
+    ) -> u64;
+}
+
+// Each range is owned by a Lent of its own, so none overlaps another and all outlive the call.
+
+pub fn analyse(image: &Lent, word: &Lent, rows: &mut Lent) -> u64 {
+    let room = rows.length();
+    unsafe {
+        headwords_analyse(
+            image.start(),
+            image.length(),
+            word.start(),
+            word.length(),
+            rows.start_mut(),
+            room,
+        )
+    }
+}
+
+pub fn generate(image: &Lent, path: &Lent, rows: &mut Lent) -> u64 {
+    let room = rows.length();
+    unsafe {
+        headwords_generate(
+            image.start(),
+            image.length(),
+            path.start(),
+            path.length(),
+            rows.start_mut(),
+            room,
+        )
+    }
+}
+
+pub fn check(image: &Lent) -> u64 {
+    unsafe { headwords_check(image.start(), image.length()) }
+}
+
+pub fn seal(image: &mut Lent) -> u64 {
+    let length = image.length();
+    unsafe { headwords_seal(image.start_mut(), length) }
+}
+
+pub fn judge(image: &Lent, path: &Lent, pairing: &Lent) -> u64 {
+    unsafe {
+        headwords_judge(
+            image.start(),
+            image.length(),
+            path.start(),
+            path.length(),
+            pairing.start(),
+            pairing.length(),
+        )
+    }
+}
+
+pub fn form(image: &Lent, entry: EntryNumber, letters: &mut Lent) -> u64 {
+    let room = letters.length();
+    unsafe {
+        headwords_form(
+            image.start(),
+            image.length(),
+            entry,
+            letters.start_mut(),
+            room,
+        )
+    }
+}

@@ -1,0 +1,427 @@
+//! Every call is made to the linked library and to the second engine, and the first reply or byte that differs ends the run.
+
+mod damage;
+mod grammars;
+mod inputs;
+mod lent;
+mod library;
+mod prng;
+mod tables;
+mod tally;
+
+use damage::{damaged, damaged_often, Damaged};
+use inputs::{any_room, entry, room, Pool};
+use lent::Lent;
+use other_engine::calls::{self, Known};
+use other_engine::image::{read, BLOCK};
+use other_engine::listing::{list, refused};
+use other_engine::reading::{Reading, Stop};
+use prng::Prng;
+use std::process::exit;
+use tally::{Kind, Tally};
+
+const USAGE: &str = "usage: compare [SEED [CALLS]]";
+
+fn main() {
+    let mut arguments = std::env::args().skip(1);
+    let mut number = |otherwise: u64| match arguments.next() {
+        None => otherwise,
+        Some(text) => text.parse().unwrap_or_else(|_| {
+            eprintln!("{USAGE}");
+            exit(2);
+        }),
+    };
+    let seed = number(1);
+    let calls = number(100_000);
+    if arguments.next().is_some() {
+        eprintln!("{USAGE}");
+        exit(2);
+    }
+    let mut run = Run {
+        prng: Prng::new(seed),
+        tally: Tally::default(),
+        seed,
+        calls: 0,
+        most: calls,
+        skipped: 0,
+    };
+    while !run.over() {
+        run.grammar();
+    }
+    println!(
+        "seed {seed} calls {} skipped {}{}",
+        run.calls,
+        run.skipped,
+        run.tally.line()
+    );
+    let missing = run.tally.missing();
+    if !missing.is_empty() {
+        eprintln!("poor coverage, never met: {}", missing.join(", "));
+        exit(3);
+    }
+    if run.skipped * 20 > run.calls {
+        eprintln!("poor coverage, over 5 in 100 calls skipped");
+        exit(3);
+    }
+}
+
+/// A run: its numbers, what it has met, and how far it has come.
+struct Run {
+    prng: Prng,
+    tally: Tally,
+    seed: u64,
+    calls: u64,
+    most: u64,
+    skipped: u64,
+}
+
+/// An image that is lent to call after call, as it was and as the engine read it.
+struct Image {
+    bytes: Vec<u8>,
+    lent: Lent,
+    known: Known,
+}
+
+/// One call's outcome on both sides.
+struct Outcome<'a> {
+    kind: Kind,
+    given: &'a [(&'a str, &'a [u8])],
+    entry: Option<usize>,
+    reply: (u64, u64),
+    /// The written range before the call, as the engine leaves it, and as the library left it.
+    written: Option<(&'a str, &'a [u8], &'a [u8], &'a Lent)>,
+    kept: &'a [(&'a str, &'a [u8], &'a Lent)],
+}
+
+impl Run {
+    fn over(&self) -> bool {
+        self.calls >= self.most
+    }
+
+    fn image(&mut self, bytes: Vec<u8>) -> Image {
+        let lent = Lent::new(&mut self.prng, &bytes);
+        let known = read(&bytes);
+        Image { bytes, lent, known }
+    }
+
+    /// One grammar: calls on its image, then on damaged ones.
+    fn grammar(&mut self) {
+        let draft = grammars::grammar(&mut self.prng);
+        let base = draft.image();
+        let image = self.image(base);
+        let pool = Pool::of(&mut self.prng, &image.known);
+        let accepted = image.known.is_ok();
+        let big = image.bytes.len() > 40 * BLOCK;
+        let turns = match (accepted, big) {
+            (false, _) => 3,
+            (true, true) => 8,
+            (true, false) => 30,
+        };
+        for _ in 0..turns {
+            self.any_call(&image, &pool);
+        }
+        let damages = if big { 4 } else { 14 };
+        for _ in 0..damages {
+            let k = self.prng.weighted(&[12, 6, 10, 20, 10, 10, 14, 12, 16, 16]) as u8;
+            let Damaged {
+                image: bytes,
+                refusal,
+            } = match k {
+                9 => damaged_often(&mut self.prng, &draft),
+                _ => damaged(&mut self.prng, &draft, k),
+            };
+            let image = self.image(bytes);
+            let found = image.known.as_ref().err().copied().unwrap_or(0);
+            if accepted && refusal.is_some_and(|wanted| wanted != found) {
+                println!(
+                    "seed {}: an image made for refusal {refusal:?} gets {found}",
+                    self.seed
+                );
+                println!("image {}", hex(&image.bytes));
+                exit(4);
+            }
+            for _ in 0..self.prng.between(1, 2) {
+                self.any_call(&image, &pool);
+            }
+        }
+    }
+
+    fn any_call(&mut self, image: &Image, pool: &Pool) {
+        if self.over() {
+            return;
+        }
+        let weights = if image.known.is_ok() {
+            [44, 24, 2, 4, 20, 6]
+        } else {
+            [20, 20, 20, 5, 18, 17]
+        };
+        match self.prng.weighted(&weights) {
+            0 => self.analyse(image, pool),
+            1 => self.generate(image, pool),
+            2 => self.check(image),
+            3 => self.seal(image),
+            4 => self.judge(image, pool),
+            _ => self.form(image),
+        }
+    }
+
+    /// Calls analysis with one word and one or two buffers.
+    fn analyse(&mut self, image: &Image, pool: &Pool) {
+        let word = match &image.known {
+            Ok(grammar) => pool.word(&mut self.prng, grammar),
+            Err(_) => {
+                let length = self.prng.one_of(&[0, 1, 3, 33]);
+                self.prng.bytes(length)
+            }
+        };
+        let readings = calls::analyse(&image.known, &word);
+        self.listing(image, Kind::Analyse, "word", &word, readings);
+    }
+
+    /// Calls generation with one path and one or two buffers.
+    fn generate(&mut self, image: &Image, pool: &Pool) {
+        let path = match &image.known {
+            Ok(grammar) => pool.path_given(&mut self.prng, grammar),
+            Err(_) => {
+                let length = self.prng.one_of(&[0, 1, 2, 4, 34]);
+                vec![0; length]
+            }
+        };
+        let readings = calls::generate(&image.known, &path);
+        self.listing(image, Kind::Generate, "path", &path, readings);
+    }
+
+    fn listing(
+        &mut self,
+        image: &Image,
+        kind: Kind,
+        name: &str,
+        given: &[u8],
+        readings: Result<Vec<Reading>, Stop>,
+    ) {
+        let buffers = match &readings {
+            Err(Stop::TooBig) => {
+                self.skipped += 1;
+                return;
+            }
+            Err(Stop::Refused(_)) => 1,
+            Ok(readings) if readings.is_empty() => 1,
+            Ok(_) => self.prng.between(1, 2),
+        };
+        if let (Ok(grammar), Ok(readings)) = (&image.known, &readings) {
+            self.tally.count_limits(grammar, readings);
+        }
+        for _ in 0..buffers {
+            if self.over() {
+                return;
+            }
+            let length = match &readings {
+                Ok(readings) => room(&mut self.prng, readings.len()),
+                Err(_) => any_room(&mut self.prng),
+            };
+            let before = self.prng.bytes(length);
+            let mut expected = before.clone();
+            let reply = match &readings {
+                Ok(readings) => list(readings, &mut expected),
+                Err(Stop::Refused(k)) => refused(*k),
+                Err(Stop::TooBig) => unreachable!("skipped above"),
+            };
+            let lent = Lent::new(&mut self.prng, given);
+            let mut rows = Lent::new(&mut self.prng, &before);
+            let got = if kind == Kind::Analyse {
+                library::analyse(&image.lent, &lent, &mut rows)
+            } else {
+                library::generate(&image.lent, &lent, &mut rows)
+            };
+            self.compared(Outcome {
+                kind,
+                given: &[("image", &image.bytes), (name, given)],
+                entry: None,
+                reply: (reply, got),
+                written: Some(("rows", &before, &expected, &rows)),
+                kept: &[("image", &image.bytes, &image.lent), (name, given, &lent)],
+            });
+        }
+    }
+
+    fn check(&mut self, image: &Image) {
+        let got = library::check(&image.lent);
+        self.compared(Outcome {
+            kind: Kind::Check,
+            given: &[("image", &image.bytes)],
+            entry: None,
+            reply: (calls::check_reply(&image.known), got),
+            written: None,
+            kept: &[("image", &image.bytes, &image.lent)],
+        });
+    }
+
+    /// Calls sealing on the image, on one with wrong numbers and checks, or on any bytes.
+    fn seal(&mut self, image: &Image) {
+        let prng = &mut self.prng;
+        let mut before = image.bytes.clone();
+        match prng.below(4) {
+            0 => {}
+            1 => {
+                for block in before.chunks_exact_mut(BLOCK) {
+                    for at in [0, 1, 510, 511] {
+                        block[at] = prng.below(256) as u8;
+                    }
+                }
+            }
+            2 => {
+                let blocks = if prng.percent(5) {
+                    128
+                } else {
+                    prng.between(1, 6)
+                };
+                before = prng.bytes(blocks * BLOCK);
+            }
+            _ => {
+                let length = prng.one_of(&[0, 1, 511, 512, 513, 1_024, 66_048, 65_537]);
+                before = vec![255; length];
+            }
+        }
+        let mut expected = before.clone();
+        let reply = calls::seal_reply(&mut expected);
+        let mut lent = Lent::new(prng, &before);
+        let got = library::seal(&mut lent);
+        self.compared(Outcome {
+            kind: Kind::Seal,
+            given: &[],
+            entry: None,
+            reply: (reply, got),
+            written: Some(("image", &before, &expected, &lent)),
+            kept: &[],
+        });
+    }
+
+    fn judge(&mut self, image: &Image, pool: &Pool) {
+        let prng = &mut self.prng;
+        let (path, pairing) = match &image.known {
+            Ok(grammar) => pool.judged(prng, grammar),
+            Err(_) => {
+                let path = prng.one_of(&[0, 1, 2, 34]);
+                let pairing = prng.one_of(&[0, 1, 3, 41]);
+                (vec![0; path], vec![0; pairing])
+            }
+        };
+        let reply = calls::judge_reply(&image.known, &path, &pairing);
+        let lent_path = Lent::new(prng, &path);
+        let lent_pairing = Lent::new(prng, &pairing);
+        let got = library::judge(&image.lent, &lent_path, &lent_pairing);
+        self.compared(Outcome {
+            kind: Kind::Judge,
+            given: &[
+                ("image", &image.bytes),
+                ("path", &path),
+                ("pairing", &pairing),
+            ],
+            entry: None,
+            reply: (reply, got),
+            written: None,
+            kept: &[
+                ("image", &image.bytes, &image.lent),
+                ("path", &path, &lent_path),
+                ("pairing", &pairing, &lent_pairing),
+            ],
+        });
+    }
+
+    fn form(&mut self, image: &Image) {
+        let prng = &mut self.prng;
+        let entries = image
+            .known
+            .as_ref()
+            .map_or(3, |grammar| grammar.entries.len());
+        let number = entry(prng, entries);
+        let form = calls::form(&image.known, number).map_or(0, <[u8]>::len);
+        let length = match prng.below(5) {
+            0 => form,
+            1 => form.saturating_sub(1),
+            2 => form + 1,
+            3 => prng.below(16),
+            _ => 12,
+        };
+        let before = prng.bytes(length);
+        let mut expected = before.clone();
+        let reply = calls::form_reply(&image.known, number, &mut expected);
+        let mut letters = Lent::new(prng, &before);
+        let got = library::form(&image.lent, number as library::EntryNumber, &mut letters);
+        self.compared(Outcome {
+            kind: Kind::Form,
+            given: &[("image", &image.bytes)],
+            entry: Some(number),
+            reply: (reply, got),
+            written: Some(("letters", &before, &expected, &letters)),
+            kept: &[("image", &image.bytes, &image.lent)],
+        });
+    }
+
+    /// Counts a call whose outcome is the same on both sides, and ends the run at any other.
+    fn compared(&mut self, outcome: Outcome) {
+        self.calls += 1;
+        let mut faults = Vec::new();
+        if outcome.reply.0 != outcome.reply.1 {
+            faults.push("the replies differ".to_string());
+        }
+        if let Some((name, _, expected, lent)) = outcome.written {
+            if lent.bytes() != expected {
+                faults.push(format!("the {name} differ"));
+            }
+            if !lent.guards_kept() {
+                faults.push(format!("bytes outside the {name} are changed"));
+            }
+        }
+        for (name, bytes, lent) in outcome.kept {
+            if lent.bytes() != *bytes {
+                faults.push(format!("the {name} lent to be read is changed"));
+            }
+            if !lent.guards_kept() {
+                faults.push(format!("bytes outside the {name} are changed"));
+            }
+        }
+        if faults.is_empty() {
+            self.tally.count(outcome.kind, outcome.reply.0);
+            return;
+        }
+        println!(
+            "seed {} call {} {}: {}",
+            self.seed,
+            self.calls,
+            outcome.kind.name(),
+            faults.join("; ")
+        );
+        for (name, bytes) in outcome.given {
+            println!("{name} ({} bytes) {}", bytes.len(), hex(bytes));
+        }
+        if let Some(entry) = outcome.entry {
+            println!("entry {entry}");
+        }
+        println!(
+            "reply, engine {} library {}",
+            spoken(outcome.reply.0),
+            spoken(outcome.reply.1)
+        );
+        if let Some((name, before, expected, lent)) = outcome.written {
+            println!("{name} ({} bytes) before {}", before.len(), hex(before));
+            println!("{name}, engine  {}", hex(expected));
+            println!("{name}, library {}", hex(lent.bytes()));
+        }
+        for (name, bytes, lent) in outcome.kept {
+            if lent.bytes() != *bytes {
+                println!("{name} after, library {}", hex(lent.bytes()));
+            }
+        }
+        exit(1);
+    }
+}
+
+fn hex(bytes: &[u8]) -> String {
+    bytes.iter().map(|byte| format!("{byte:02x}")).collect()
+}
+
+/// A reply as its number, and as four times something and a rest.
+fn spoken(reply: u64) -> String {
+    format!("{reply} (4 * {} + {})", reply / 4, reply % 4)
+}

@@ -1,0 +1,157 @@
+//! Replies are counted by kind of call, so that a run shows what it has met and what it has not.
+
+use other_engine::grammar::{Grammar, NULL};
+use other_engine::Reading;
+use std::fmt::Write;
+
+/// A kind of call.
+#[derive(Clone, Copy, PartialEq, Eq, Debug)]
+pub enum Kind {
+    Analyse,
+    Generate,
+    Check,
+    Seal,
+    Judge,
+    Form,
+}
+
+const KINDS: [(Kind, &str); 6] = [
+    (Kind::Analyse, "analyse"),
+    (Kind::Generate, "generate"),
+    (Kind::Check, "check"),
+    (Kind::Seal, "seal"),
+    (Kind::Judge, "judge"),
+    (Kind::Form, "form"),
+];
+
+impl Kind {
+    /// The name of the call.
+    pub fn name(self) -> &'static str {
+        KINDS[self as usize].1
+    }
+
+    /// What the remainders 0, 1 and 2 of a reply mean, where they can occur.
+    fn replies(self) -> [Option<&'static str>; 3] {
+        match self {
+            Kind::Analyse | Kind::Generate => [Some("none"), Some("all"), Some("more")],
+            Kind::Check => [None, Some("accepted"), None],
+            Kind::Seal => [None, Some("sealed"), None],
+            Kind::Judge => [Some("fails"), Some("holds"), None],
+            Kind::Form => [None, Some("letters"), Some("short")],
+        }
+    }
+
+    /// The refusals that can occur.
+    fn refusals(self) -> Vec<usize> {
+        let own: &[usize] = match self {
+            Kind::Analyse => &[9, 10],
+            Kind::Generate => &[11, 12],
+            Kind::Judge => &[11, 12, 13],
+            Kind::Form => &[12],
+            Kind::Check => &[],
+            Kind::Seal => return vec![1],
+        };
+        (1..=8).chain(own.iter().copied()).collect()
+    }
+}
+
+/// What a listing can have at its limit.
+const LIMITS: [&str; 5] = [
+    "16 entries",
+    "40 pairs",
+    "32 letters",
+    "8 lexical nulls",
+    "8 surface nulls",
+];
+
+/// How many replies of each kind of call have been met, and how many listings with a reading at a limit.
+#[derive(Default)]
+pub struct Tally {
+    replies: [[u64; 3]; 6],
+    refusals: [[u64; 14]; 6],
+    limits: [u64; 5],
+}
+
+impl Tally {
+    /// Counts one reply.
+    pub fn count(&mut self, kind: Kind, reply: u64) {
+        match reply % 4 {
+            3 => self.refusals[kind as usize][(reply / 4) as usize] += 1,
+            other => self.replies[kind as usize][other as usize] += 1,
+        }
+    }
+
+    /// Counts the limits that the first readings of a listing reach.
+    pub fn count_limits(&mut self, grammar: &Grammar, readings: &[Reading]) {
+        let mut reached = [false; 5];
+        for reading in readings.iter().take(50) {
+            let sides = || {
+                reading
+                    .pairing
+                    .iter()
+                    .map(|&p| grammar.pairs[usize::from(p)])
+            };
+            let pairs = reading.pairing.len();
+            let surface_nulls = sides().filter(|s| s.1 == NULL).count();
+            reached[0] |= reading.path.len() == 16;
+            reached[1] |= pairs == 40;
+            reached[2] |= pairs - surface_nulls == 32;
+            reached[3] |= sides().filter(|s| s.0 == NULL).count() == 8;
+            reached[4] |= surface_nulls == 8;
+        }
+        for (count, reached) in self.limits.iter_mut().zip(reached) {
+            *count += u64::from(reached);
+        }
+    }
+
+    /// All calls of a kind.
+    fn calls(&self, kind: Kind) -> u64 {
+        let k = kind as usize;
+        self.replies[k].iter().sum::<u64>() + self.refusals[k].iter().sum::<u64>()
+    }
+
+    /// What has been met, on one line.
+    pub fn line(&self) -> String {
+        let mut line = String::new();
+        for (kind, name) in KINDS {
+            let _ = write!(line, "; {name} {}:", self.calls(kind));
+            for (place, reply) in kind.replies().iter().enumerate() {
+                if let Some(reply) = reply {
+                    let _ = write!(line, " {reply} {}", self.replies[kind as usize][place]);
+                }
+            }
+            line.push_str(" refused");
+            for k in kind.refusals() {
+                let _ = write!(line, " {k}:{}", self.refusals[kind as usize][k]);
+            }
+        }
+        line.push_str("; listings that reach");
+        for (limit, count) in LIMITS.iter().zip(self.limits) {
+            let _ = write!(line, " {limit}: {count}");
+        }
+        line
+    }
+
+    /// What should have been met and has not.
+    pub fn missing(&self) -> Vec<String> {
+        let mut missing = Vec::new();
+        for (kind, name) in KINDS {
+            for (place, reply) in kind.replies().iter().enumerate() {
+                if let (Some(reply), 0) = (reply, self.replies[kind as usize][place]) {
+                    missing.push(format!("{name} {reply}"));
+                }
+            }
+            for k in kind.refusals() {
+                if self.refusals[kind as usize][k] == 0 {
+                    missing.push(format!("{name} refused {k}"));
+                }
+            }
+        }
+        for (limit, count) in LIMITS.iter().zip(self.limits) {
+            if count == 0 {
+                missing.push(format!("a listing that reaches {limit}"));
+            }
+        }
+        missing
+    }
+}

@@ -1,0 +1,144 @@
+//! Every public call is its own tests in order and then its definition, on an image already read or refused.
+
+use crate::grammar::Grammar;
+use crate::image;
+use crate::listing::refused;
+use crate::pairings::Budget;
+use crate::reading::{Reading, Stop};
+
+/// An image as the image check left it.
+pub type Known = Result<Grammar, u8>;
+
+fn accepted(known: &Known) -> Result<&Grammar, u8> {
+    known.as_ref().map_err(|&k| k)
+}
+
+/// Tests 11 and 12, in order.
+fn complete(grammar: &Grammar, path: &[u8]) -> Result<Vec<u16>, u8> {
+    if path.is_empty() || path.len() > 32 || path.len() % 2 == 1 {
+        return Err(11);
+    }
+    let path: Vec<u16> = path
+        .chunks_exact(2)
+        .map(|two| u16::from_le_bytes([two[0], two[1]]))
+        .collect();
+    if grammar.linked(&path) {
+        Ok(path)
+    } else {
+        Err(12)
+    }
+}
+
+/// All readings of a word, in step order.
+pub fn analyse(known: &Known, word: &[u8]) -> Result<Vec<Reading>, Stop> {
+    let grammar = accepted(known).map_err(Stop::Refused)?;
+    if word.is_empty() || word.len() > 32 {
+        return Err(Stop::Refused(9));
+    }
+    if word
+        .iter()
+        .any(|&y| !(2..=grammar.letters.len()).contains(&usize::from(y)))
+    {
+        return Err(Stop::Refused(10));
+    }
+    let mut budget = Budget::default();
+    let by_form = grammar
+        .paths_for(word, &mut budget)
+        .map_err(|_| Stop::TooBig)?;
+    let mut readings = Vec::new();
+    for (joined, paths) in &by_form {
+        for pairing in grammar.pairings_against(joined, word) {
+            if grammar.reads(joined, &pairing, word) {
+                budget.take(paths.len() as u64).map_err(|_| Stop::TooBig)?;
+                for path in paths {
+                    readings.push(Reading {
+                        path: path.clone(),
+                        pairing: pairing.clone(),
+                    });
+                }
+            }
+        }
+    }
+    Ok(grammar.in_step_order(readings))
+}
+
+/// All readings of a path, in step order.
+pub fn generate(known: &Known, path: &[u8]) -> Result<Vec<Reading>, Stop> {
+    let grammar = accepted(known).map_err(Stop::Refused)?;
+    let path = complete(grammar, path).map_err(Stop::Refused)?;
+    let joined = grammar.joined(&path);
+    Budget::default()
+        .take(grammar.pairing_work(&joined))
+        .map_err(|_| Stop::TooBig)?;
+    let readings = grammar
+        .pairings_of(&joined)
+        .into_iter()
+        .filter(|pairing| grammar.reads(&joined, pairing, &grammar.spelled(pairing)))
+        .map(|pairing| Reading {
+            path: path.clone(),
+            pairing,
+        })
+        .collect();
+    Ok(grammar.in_step_order(readings))
+}
+
+/// Whether path and pairing are a reading of the word the pairing spells, or the refusal.
+pub fn judge(known: &Known, path: &[u8], pairing: &[u8]) -> Result<bool, u8> {
+    let grammar = accepted(known)?;
+    let path = complete(grammar, path)?;
+    if pairing.is_empty()
+        || pairing.len() > 40
+        || pairing
+            .iter()
+            .any(|&p| usize::from(p) >= grammar.pairs.len())
+    {
+        return Err(13);
+    }
+    Ok(grammar.reads(&grammar.joined(&path), pairing, &grammar.spelled(pairing)))
+}
+
+/// The letters of an entry's form, or the refusal.
+pub fn form(known: &Known, entry: usize) -> Result<&[u8], u8> {
+    let grammar = accepted(known)?;
+    grammar
+        .entries
+        .get(entry)
+        .map(|entry| &entry.form[..])
+        .ok_or(12)
+}
+
+/// The reply number of the image check.
+pub fn check_reply(known: &Known) -> u64 {
+    match known {
+        Ok(_) => 1,
+        Err(k) => refused(*k),
+    }
+}
+
+/// Seals an image and replies by number.
+pub fn seal_reply(bytes: &mut [u8]) -> u64 {
+    match image::seal(bytes) {
+        Ok(()) => 1,
+        Err(k) => refused(k),
+    }
+}
+
+/// The reply number of the judge.
+pub fn judge_reply(known: &Known, path: &[u8], pairing: &[u8]) -> u64 {
+    match judge(known, path, pairing) {
+        Ok(holds) => u64::from(holds),
+        Err(k) => refused(k),
+    }
+}
+
+/// Copies a form to the front of the letters lent, where it fits, and replies by number.
+pub fn form_reply(known: &Known, entry: usize, letters: &mut [u8]) -> u64 {
+    match form(known, entry) {
+        Ok(form) if form.len() <= letters.len() => {
+            letters[..form.len()].copy_from_slice(form);
+            4 * form.len() as u64 + 1
+        }
+        Ok(form) => 4 * form.len() as u64 + 2,
+        Err(k) => refused(k),
+    }
+}

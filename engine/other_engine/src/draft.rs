@@ -1,0 +1,152 @@
+//! A draft is a grammar as plain data, written out as the bytes of an image whether or not it keeps the limits.
+
+use crate::image::{seal, BLOCK};
+
+/// A rule table as plain data.
+#[derive(Clone, Debug)]
+pub struct DraftTable {
+    pub columns: Vec<(u8, u8)>,
+    pub finals: Vec<u8>,
+    pub rows: Vec<Vec<u8>>,
+}
+
+/// An entry as plain data.
+#[derive(Clone, Debug)]
+pub struct DraftEntry {
+    pub form: Vec<u8>,
+    pub continuation: u8,
+    pub gloss: u16,
+}
+
+/// A grammar as plain data.
+#[derive(Clone, Debug)]
+pub struct Draft {
+    pub letters: Vec<u16>,
+    pub pairs: Vec<(u8, u8)>,
+    pub tables: Vec<DraftTable>,
+    pub lexicons: Vec<Vec<DraftEntry>>,
+}
+
+fn push_block(image: &mut Vec<u8>, kind: u8, records: usize, bytes: &[u8]) {
+    let at = image.len();
+    image.resize(at + BLOCK, 0);
+    image[at + 2] = kind;
+    image[at + 3] = records as u8;
+    image[at + 4..at + 4 + bytes.len()].copy_from_slice(bytes);
+}
+
+fn twos(numbers: impl IntoIterator<Item = usize>) -> Vec<u8> {
+    numbers
+        .into_iter()
+        .flat_map(|n| (n as u16).to_le_bytes())
+        .collect()
+}
+
+fn sides(pairs: &[(u8, u8)]) -> Vec<u8> {
+    pairs
+        .iter()
+        .flat_map(|&(lexical, surface)| [lexical, surface])
+        .collect()
+}
+
+impl DraftTable {
+    /// The record of the table.
+    pub fn record(&self) -> Vec<u8> {
+        let mut record = vec![self.columns.len() as u8, self.finals.len() as u8];
+        record.extend(sides(&self.columns));
+        record.extend(&self.finals);
+        record.extend(self.rows.iter().flatten());
+        record
+    }
+}
+
+impl DraftEntry {
+    /// The record of the entry.
+    pub fn record(&self) -> Vec<u8> {
+        let mut record = vec![self.form.len() as u8];
+        record.extend(&self.form);
+        record.resize(13, 0);
+        record.push(self.continuation);
+        record.extend(self.gloss.to_le_bytes());
+        record
+    }
+}
+
+impl Draft {
+    /// The entries through the lexicons in order.
+    pub fn entries(&self) -> impl Iterator<Item = &DraftEntry> {
+        self.lexicons.iter().flatten()
+    }
+
+    /// The image of the draft, without numbers and checks.
+    pub fn unsealed(&self) -> Vec<u8> {
+        let mut image = Vec::new();
+        let entries: Vec<Vec<u8>> = self.entries().map(DraftEntry::record).collect();
+        let counts = [
+            1,
+            self.letters.len(),
+            self.pairs.len(),
+            self.tables.len(),
+            self.lexicons.len(),
+            entries.len(),
+        ];
+        push_block(&mut image, 1, 1, &twos(counts));
+        let letters = twos(self.letters.iter().map(|&point| usize::from(point)));
+        push_block(&mut image, 2, self.letters.len(), &letters);
+        push_block(&mut image, 3, self.pairs.len(), &sides(&self.pairs));
+        for table in &self.tables {
+            push_block(&mut image, 4, 1, &table.record());
+        }
+        let lexicons = twos(self.lexicons.iter().map(Vec::len));
+        push_block(&mut image, 5, self.lexicons.len(), &lexicons);
+        for some in entries.chunks(31) {
+            push_block(&mut image, 6, some.len(), &some.concat());
+        }
+        image
+    }
+
+    /// The image of the draft, sealed where its length allows.
+    pub fn image(&self) -> Vec<u8> {
+        let mut image = self.unsealed();
+        // A draft past 128 blocks stays unsealed and is refused for its length.
+        let _ = seal(&mut image);
+        image
+    }
+
+    /// The luz grammar.
+    pub fn luz() -> Draft {
+        let entry = |form: &[u8], continuation, gloss| DraftEntry {
+            form: form.to_vec(),
+            continuation,
+            gloss,
+        };
+        Draft {
+            letters: "#+celsuzZ".bytes().map(u16::from).collect(),
+            pairs: vec![
+                (2, 0),
+                (3, 3),
+                (4, 4),
+                (5, 5),
+                (6, 6),
+                (7, 7),
+                (9, 3),
+                (9, 8),
+            ],
+            tables: vec![DraftTable {
+                columns: vec![(9, 3), (9, 8), (2, 0), (4, 4), (255, 255)],
+                finals: vec![1, 1, 1, 1, 0],
+                rows: vec![
+                    vec![3, 2, 1, 1, 1],
+                    vec![3, 2, 4, 1, 1],
+                    vec![0, 0, 5, 0, 0],
+                    vec![3, 2, 1, 0, 1],
+                    vec![0, 0, 0, 1, 0],
+                ],
+            }],
+            lexicons: vec![
+                vec![entry(&[5, 7, 9], 1, 0), entry(&[5, 7, 3], 1, 1)],
+                vec![entry(&[], 255, 2), entry(&[2, 4, 6], 255, 3)],
+            ],
+        }
+    }
+}

@@ -1,0 +1,296 @@
+//! An image is turned down by the first of eight numbered tests it fails, each run over the whole image before the next.
+
+use crate::grammar::{columns_taken, Entry, Grammar, Table, ANY, END, NULL};
+
+/// The length of a block.
+pub const BLOCK: usize = 512;
+
+/// The check of a block, from its bytes 0 to 509.
+pub fn block_check(block: &[u8]) -> u16 {
+    let sum: u64 = (0..510u64)
+        .map(|i| (i + 1) * u64::from(block[i as usize]))
+        .sum();
+    ((1 + sum) % 65_521) as u16
+}
+
+/// Writes number and check into every block, or replies refusal 1.
+pub fn seal(image: &mut [u8]) -> Result<(), u8> {
+    if !length_fits(image) {
+        return Err(1);
+    }
+    for (number, block) in image.chunks_exact_mut(BLOCK).enumerate() {
+        block[0..2].copy_from_slice(&(number as u16).to_le_bytes());
+        let check = block_check(block);
+        block[510..512].copy_from_slice(&check.to_le_bytes());
+    }
+    Ok(())
+}
+
+/// Reads a grammar, or replies the number of the first failed test.
+pub fn read(image: &[u8]) -> Result<Grammar, u8> {
+    let tests: [fn(&[u8]) -> bool; 8] = [
+        length_fits,
+        numbers_and_checks_fit,
+        plan_fits,
+        code_points_fit,
+        pairs_fit,
+        tables_fit,
+        columns_fit,
+        lexicon_fits,
+    ];
+    match tests.iter().position(|fits| !fits(image)) {
+        Some(failed) => Err(failed as u8 + 1),
+        None => Ok(decode(image)),
+    }
+}
+
+fn two(bytes: &[u8], at: usize) -> usize {
+    usize::from(u16::from_le_bytes([bytes[at], bytes[at + 1]]))
+}
+
+fn block(image: &[u8], number: usize) -> &[u8] {
+    &image[number * BLOCK..(number + 1) * BLOCK]
+}
+
+/// The six numbers of block 0's one record.
+struct Counts {
+    form: usize,
+    letters: usize,
+    pairs: usize,
+    rules: usize,
+    lexicons: usize,
+    entries: usize,
+}
+
+fn counts(image: &[u8]) -> Counts {
+    Counts {
+        form: two(image, 4),
+        letters: two(image, 6),
+        pairs: two(image, 8),
+        rules: two(image, 10),
+        lexicons: two(image, 12),
+        entries: two(image, 14),
+    }
+}
+
+/// What one block must be: its kind, its record count, its record width.
+struct Plan {
+    kind: u8,
+    records: usize,
+    width: usize,
+}
+
+fn plan(c: &Counts) -> Vec<Plan> {
+    let mut all = vec![
+        Plan {
+            kind: 1,
+            records: 1,
+            width: 12,
+        },
+        Plan {
+            kind: 2,
+            records: c.letters,
+            width: 2,
+        },
+        Plan {
+            kind: 3,
+            records: c.pairs,
+            width: 2,
+        },
+    ];
+    all.extend((0..c.rules).map(|_| Plan {
+        kind: 4,
+        records: 1,
+        width: 506,
+    }));
+    all.push(Plan {
+        kind: 5,
+        records: c.lexicons,
+        width: 2,
+    });
+    let mut rest = c.entries;
+    while rest > 0 {
+        let records = rest.min(31);
+        all.push(Plan {
+            kind: 6,
+            records,
+            width: 16,
+        });
+        rest -= records;
+    }
+    all
+}
+
+fn length_fits(image: &[u8]) -> bool {
+    !image.is_empty() && image.len() <= 65_536 && image.len().is_multiple_of(BLOCK)
+}
+
+fn numbers_and_checks_fit(image: &[u8]) -> bool {
+    image
+        .chunks_exact(BLOCK)
+        .enumerate()
+        .all(|(number, block)| {
+            two(block, 0) == number && two(block, 510) == usize::from(block_check(block))
+        })
+}
+
+fn plan_fits(image: &[u8]) -> bool {
+    let c = counts(image);
+    if c.form != 1
+        || !(2..=120).contains(&c.letters)
+        || !(1..=250).contains(&c.pairs)
+        || c.rules > 32
+        || !(1..=64).contains(&c.lexicons)
+        || !(1..=2_800).contains(&c.entries)
+    {
+        return false;
+    }
+    let plan = plan(&c);
+    plan.len() * BLOCK == image.len()
+        && image.chunks_exact(BLOCK).zip(&plan).all(|(block, plan)| {
+            block[2] == plan.kind
+                && usize::from(block[3]) == plan.records
+                && block[4 + plan.records * plan.width..510]
+                    .iter()
+                    .all(|&b| b == 0)
+        })
+}
+
+fn code_points(image: &[u8]) -> Vec<u16> {
+    (0..counts(image).letters)
+        .map(|i| two(block(image, 1), 4 + 2 * i) as u16)
+        .collect()
+}
+
+fn code_points_fit(image: &[u8]) -> bool {
+    let points = code_points(image);
+    points.iter().enumerate().all(|(i, &point)| {
+        point != 0 && !(55_296..=57_343).contains(&point) && !points[..i].contains(&point)
+    })
+}
+
+fn pairs(image: &[u8]) -> Vec<(u8, u8)> {
+    let block = block(image, 2);
+    (0..counts(image).pairs)
+        .map(|i| (block[4 + 2 * i], block[5 + 2 * i]))
+        .collect()
+}
+
+fn pairs_fit(image: &[u8]) -> bool {
+    let last = counts(image).letters;
+    let side_fits = |side: u8| side == NULL || (2..=last).contains(&usize::from(side));
+    let pairs = pairs(image);
+    pairs.iter().enumerate().all(|(i, &pair)| {
+        side_fits(pair.0)
+            && side_fits(pair.1)
+            && pair != (NULL, NULL)
+            && !pairs[..i].contains(&pair)
+    })
+}
+
+/// The record of one rule: 506 bytes.
+fn table_record(image: &[u8], rule: usize) -> &[u8] {
+    &block(image, 3 + rule)[4..510]
+}
+
+fn tables_fit(image: &[u8]) -> bool {
+    let c = counts(image);
+    (0..c.rules).all(|rule| table_fits(table_record(image, rule), c.letters))
+}
+
+fn table_fits(record: &[u8], last_letter: usize) -> bool {
+    let columns = usize::from(record[0]);
+    let states = usize::from(record[1]);
+    if !(1..=16).contains(&columns) || !(1..=24).contains(&states) {
+        return false;
+    }
+    let marks_at = 2 + 2 * columns;
+    let rows_at = marks_at + states;
+    let rest_at = rows_at + states * columns;
+    record[2..marks_at]
+        .iter()
+        .all(|&side| side == ANY || usize::from(side) <= last_letter)
+        && record[marks_at..rows_at].iter().all(|&mark| mark <= 1)
+        && record[rows_at..rest_at]
+            .iter()
+            .all(|&next| usize::from(next) <= states)
+        && record[rest_at..].iter().all(|&b| b == 0)
+}
+
+fn table_columns(record: &[u8]) -> Vec<(u8, u8)> {
+    (0..usize::from(record[0]))
+        .map(|c| (record[2 + 2 * c], record[3 + 2 * c]))
+        .collect()
+}
+
+fn columns_fit(image: &[u8]) -> bool {
+    let pairs = pairs(image);
+    (0..counts(image).rules)
+        .all(|rule| columns_taken(&table_columns(table_record(image, rule)), &pairs).is_some())
+}
+
+fn lexicon_counts(image: &[u8]) -> Vec<usize> {
+    let c = counts(image);
+    let block = block(image, 3 + c.rules);
+    (0..c.lexicons).map(|i| two(block, 4 + 2 * i)).collect()
+}
+
+/// The record of one entry: 16 bytes.
+fn entry_record(image: &[u8], rules: usize, entry: usize) -> &[u8] {
+    let at = 4 + 16 * (entry % 31);
+    &block(image, 4 + rules + entry / 31)[at..at + 16]
+}
+
+fn lexicon_fits(image: &[u8]) -> bool {
+    let c = counts(image);
+    lexicon_counts(image).iter().sum::<usize>() == c.entries
+        && (0..c.entries).all(|entry| entry_fits(entry_record(image, c.rules, entry), &c))
+}
+
+fn entry_fits(record: &[u8], c: &Counts) -> bool {
+    let length = usize::from(record[0]);
+    length <= 12
+        && record[1..1 + length]
+            .iter()
+            .all(|&x| (2..=c.letters).contains(&usize::from(x)))
+        && record[1 + length..13].iter().all(|&x| x == 0)
+        && (record[13] == END || usize::from(record[13]) < c.lexicons)
+}
+
+fn decode(image: &[u8]) -> Grammar {
+    let c = counts(image);
+    let pairs = pairs(image);
+    let tables = (0..c.rules)
+        .map(|rule| {
+            let record = table_record(image, rule);
+            let columns = table_columns(record);
+            let states = usize::from(record[1]);
+            let marks_at = 2 + 2 * columns.len();
+            let rows_at = marks_at + states;
+            Table {
+                finals: record[marks_at..rows_at].to_vec(),
+                rows: record[rows_at..rows_at + states * columns.len()]
+                    .chunks(columns.len())
+                    .map(<[u8]>::to_vec)
+                    .collect(),
+                takes: columns_taken(&columns, &pairs).expect("test 7 has passed"),
+                columns,
+            }
+        })
+        .collect();
+    let mut starts = vec![0];
+    for count in lexicon_counts(image) {
+        starts.push(starts[starts.len() - 1] + count);
+    }
+    let entries = (0..c.entries)
+        .map(|entry| {
+            let record = entry_record(image, c.rules, entry);
+            Entry {
+                form: record[1..1 + usize::from(record[0])].to_vec(),
+                continuation: record[13],
+                gloss: two(record, 14) as u16,
+            }
+        })
+        .collect();
+    Grammar::new(code_points(image), pairs, tables, starts, entries)
+}

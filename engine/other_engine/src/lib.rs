@@ -1,0 +1,13 @@
+//! A second engine of the two-level headword analyser: it lists whole paths and whole pairings, keeps those the definition allows, and sorts them by step list.
+
+pub mod calls;
+pub mod draft;
+pub mod grammar;
+pub mod image;
+pub mod listing;
+pub mod pairings;
+pub mod paths;
+pub mod reading;
+
+pub use grammar::{Entry, Grammar, Table};
+pub use reading::{Reading, Stop};

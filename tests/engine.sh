@@ -1,0 +1,12 @@
+#!/usr/bin/env bash
+# Another engine, written from the scope document by another method: its own tests, and then every call of the C entry beside it, reply and bytes.
+# Usage: engine.sh [SEED [CALLS]]
+set -eu
+cd "$(dirname "$0")/.."
+export CARGO_TARGET_DIR=$PWD/target/cargo
+rt staticlib headwords >/dev/null
+export HEADWORDS_LIB_DIR=$PWD/target/staticlib
+cd engine
+cargo test --offline --locked --quiet -p other_engine
+cargo build --offline --locked --quiet --release -p compare
+"$CARGO_TARGET_DIR/release/compare" "$@"
