@@ -11,6 +11,25 @@ use Rattle.model.specs.Lists.{below, given, flatMap}
 use Rattle.model.proofs.Lists.{flatMap-append, flatMap-below}
 use Rattle.image.specs.Index.{only}
 
+-- a list by its places
+module _ {A B : Type 0} (f : A → List B) (d : A) where
+  -- a turn more
+  flatMap-more : (xs : List A) (k : ℕ) → k < length xs → flatMap f (take (suc k) xs) ≡ flatMap f (take k xs) ++ f (getD xs k d)
+  flatMap-more xs k h =
+      ap (flatMap f) (take-suc xs k d h)
+      ∙ flatMap-append f (take k xs) (getD xs k d ∷ [])
+      ∙ ap (λ (l : List B). flatMap f (take k xs) ++ l) (append-nil (f (getD xs k d)))
+
+  flatMap-taken : (xs : List A) (k : ℕ) → k ≤ length xs → flatMap f (take k xs) ≡ flatMap (λ i. f (getD xs i d)) (below k)
+  flatMap-taken xs zero h = refl
+  flatMap-taken xs (suc k) h =
+      flatMap-more xs k h
+      ∙ ap (λ (l : List B). l ++ f (getD xs k d)) (flatMap-taken xs k (omega arith))
+      ∙ sym (flatMap-below (λ i. f (getD xs i d)) k)
+
+  pub flatMap-places : (xs : List A) → flatMap f xs ≡ flatMap (λ i. f (getD xs i d)) (below (length xs))
+  flatMap-places xs = ap (flatMap f) (sym (take-all (length xs) xs (omega arith))) ∙ flatMap-taken xs (length xs) (omega arith)
+
 module _ {B : Type 0} (f : ℕ → List B) where
   -- nothing is found where the test fails
   pub flatMap-only : (test : ℕ → Bool) (xs : List ℕ) → ((x : ℕ) → test x ≡ false → f x ≡ []) → flatMap f xs ≡ flatMap f (only test xs)
@@ -20,24 +39,6 @@ module _ {B : Type 0} (f : ℕ → List B) where
       go : (b : Bool) → test x ≡ b → flatMap f xs ≡ flatMap f (only test xs) → f x ++ flatMap f xs ≡ flatMap f (given b (x ∷ []) ++ only test xs)
       go true t r = ap (λ (l : List B). f x ++ l) r
       go false t r = ap₂ (λ (k l : List B). k ++ l) (e x t) r
-
-  -- a turn more through a list
-  flatMap-more : (xs : List ℕ) (k : ℕ) → k < length xs → flatMap f (take (suc k) xs) ≡ flatMap f (take k xs) ++ f (getD xs k 0)
-  flatMap-more xs k h =
-      ap (flatMap f) (take-suc xs k 0 h)
-      ∙ flatMap-append f (take k xs) (getD xs k 0 ∷ [])
-      ∙ ap (λ (l : List B). flatMap f (take k xs) ++ l) (append-nil (f (getD xs k 0)))
-
-  flatMap-taken : (xs : List ℕ) (k : ℕ) → k ≤ length xs → flatMap f (take k xs) ≡ flatMap (λ i. f (getD xs i 0)) (below k)
-  flatMap-taken xs zero h = refl
-  flatMap-taken xs (suc k) h =
-      flatMap-more xs k h
-      ∙ ap (λ (l : List B). l ++ f (getD xs k 0)) (flatMap-taken xs k (omega arith))
-      ∙ sym (flatMap-below (λ i. f (getD xs i 0)) k)
-
-  -- a list by its places
-  pub flatMap-places : (xs : List ℕ) → flatMap f xs ≡ flatMap (λ i. f (getD xs i 0)) (below (length xs))
-  flatMap-places xs = ap (flatMap f) (sym (take-all (length xs) xs (omega arith))) ∙ flatMap-taken xs (length xs) (omega arith)
 
   -- nothing is found below low or from high on
   pub below-low : (low n : ℕ) → ((x : ℕ) → x < low → f x ≡ []) → n ≤ low → flatMap f (below n) ≡ []

@@ -30,3 +30,7 @@ pub record ValueTold (field : List ℕ) (value : ℕ) : Type 0 where
 abbrev pub lineWith : List ℕ → Line → model.Line
 lineWith buffer (Letters n) = model.Line.letters (take n buffer)
 lineWith buffer Unread = model.Line.unread
+
+abbrev pub letterCount : Line → ℕ
+letterCount (Letters n) = n
+letterCount Unread = 0

@@ -4,7 +4,7 @@ ghost use mathlib.Core.List.{List, _++_, _∷_, []};
 ghost use Prim.Native.Nat.{ℕ, _+_, _-_, _≤_, _<_};
 ghost use lib.ListN.{length, take, drop};
 ghost use Rattle.model.specs.Lines.{lineOf};
-ghost use Rattle.parse.specs.Fields.{Begun, EndsField, ValueTold, lineWith};
+ghost use Rattle.parse.specs.Fields.{Begun, EndsField, ValueTold, lineWith, letterCount};
 
 // The letters of a word in a lent buffer, or a line that holds none.
 pub enum Line {
@@ -71,7 +71,8 @@ fn field_value(line: &[u8], from: usize, to: usize) -> usize
 // The word that a line of at most 255 bytes holds, its letters put into the lent buffer.
 pub fn read_line(line: &[u8], word: &mut [u8]) -> Line
     requires { ⌜ (length (now line) ≤ 255) × (length (now word) ≡ 128) ⌝ }
-    ensures { λ r. ⌜ lineWith (now (word .exit)) r ≡ lineOf (now (line .entry)) ⌝ }
+    ensures word { λ r. ⌜ lineWith (now (word .exit)) r ≡ lineOf (now (line .entry)) ⌝ }
+    ensures few { λ r. ⌜ letterCount r ≤ 128 ⌝ }
 {
     let n = line.len();
     if n == 0 {

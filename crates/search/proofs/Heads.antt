@@ -90,7 +90,7 @@ module _ (image : List ℕ) (index : List ℕ) (h : Header) (q : Query) (place :
     pair-found o =
         found.pair-all image q place trail spare (opens-is image place (ready .stands) (trail .entries) (trail .pairs) ∙ o)
         ∙ ap (λ (l : List Reading). given (complete (grammarOf image) q (nodeAt image place trail)) (readingOf trail ∷ []) ++ l)
-        (ap (λ (x : ℕ). flatMap (pairOne image q place trail) (candidates image x)) (sym letter) ∙ flatMap-places (pairOne image q place trail) (candidates image a))
+        (ap (λ (x : ℕ). flatMap (pairOne image q place trail) (candidates image x)) (sym letter) ∙ flatMap-places (pairOne image q place trail) 0 (candidates image a))
 
     -- what ends here is put first, and then what the pairs find
     pub pair-put : opensAt place ≡ false → (out ended out′ : List ℕ) (n m n′ : ℕ) → length ended ≡ length out

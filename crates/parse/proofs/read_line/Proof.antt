@@ -16,7 +16,7 @@ abbrev μ-loop : tie.MeasureT-loop
 μ-loop line word₀ n letters₀ from₀ word letters from = n + 1 - from
 
 returns : tie.Need-returns Inv-loop μ-loop
-returns c = let a = c .before .before .before .args in line-none (a .line .now) (a .word .now) (c .if1 .taken)
+returns c = let a = c .before .before .before .args in (line-none (a .line .now) (a .word .now) (c .if1 .taken), omega arith)
 
 loop-holds : tie.Need-loop-holds Inv-loop μ-loop
 loop-holds c = let s = c .before .before .before in (search needs, read-none (s .args .line .now) (s .args .word .now) (s .pre .1))
@@ -35,7 +35,7 @@ returns-2 c =
     let at = c .before .before .before .before in
     let s = at .before .before .before .before in
     let a = s .args in
-    sym (line-some (a .line .now) (omega (arith, at .before .if1 .left)) (s .pre .0) ∙ rw (read-bad (a .line .now) (at .loop .word) (at .loop .from) (at .loop .letters) (c .before .before .field-end .result) (c .before .field-value .result) (s .pre .0) (at .loop .inv .1) (c .before .before .field-end .ensures) (c .before .field-value .ensures) (c .if2 .taken)) refl)
+    (sym (line-some (a .line .now) (omega (arith, at .before .if1 .left)) (s .pre .0) ∙ rw (read-bad (a .line .now) (at .loop .word) (at .loop .from) (at .loop .letters) (c .before .before .field-end .result) (c .before .field-value .result) (s .pre .0) (at .loop .inv .1) (c .before .before .field-end .ensures) (c .before .field-value .ensures) (c .if2 .taken)) refl), omega arith)
 
 cast-word : tie.Need-cast-word Inv-loop μ-loop
 cast-word c = omega (arith, c .if2 .left)
@@ -59,7 +59,7 @@ returns-3 c =
     let s = at .before .before .before .before in
     let a = s .args in
     let both = read-last (a .line .now) (at .loop .word) (at .loop .from) (at .loop .letters) (c .before .before .before .field-end .result) (c .before .before .field-value .result) (s .pre .0) (at .loop .inv .1) (c .before .before .before .field-end .ensures) (c .before .before .field-value .ensures) (c .if3 .taken) (c .before .if2 .left) in
-    sym (line-some (a .line .now) (omega (arith, at .before .if1 .left)) (s .pre .0) ∙ rw (both .0) (ap lines.Line.letters (both .1)))
+    (sym (line-some (a .line .now) (omega (arith, at .before .if1 .left)) (s .pre .0) ∙ rw (both .0) (ap lines.Line.letters (both .1))), omega (arith, at .loop .inv .1 .few, at .loop .inv .0, s .pre .0))
 
 add-from : tie.Need-add-from Inv-loop μ-loop
 add-from c = search needs

@@ -1,0 +1,3 @@
+-- Laws that the proofs of functions cite; `Text` is for the callers too.
+pub mod Numbers
+pub mod Text
