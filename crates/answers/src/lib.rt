@@ -148,7 +148,17 @@ fn read_byte(
         let n = from.kept;
         let h = run.h;
         let verdict = run.verdict;
-        let end = answer(image, index, h, verdict, &line[..n], word, rows, out, from.end);
+        let end = answer(
+            image,
+            index,
+            h,
+            verdict,
+            &line[..n],
+            word,
+            rows,
+            out,
+            from.end,
+        );
         return Reached { kept: 0, end: end };
     }
     Reached {
@@ -241,5 +251,15 @@ pub fn read_end(
     }
     let h = run.h;
     let verdict = run.verdict;
-    answer(image, index, h, verdict, &line[..n], word, rows, out, from.end)
+    answer(
+        image,
+        index,
+        h,
+        verdict,
+        &line[..n],
+        word,
+        rows,
+        out,
+        from.end,
+    )
 }

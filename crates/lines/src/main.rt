@@ -52,8 +52,7 @@ fn answer_chunk(
             kept: begun,
             end: 0,
         };
-        let read =
-            answers::read_chunk(image, index, run, chunk, at, line, word, rows, out, from);
+        let read = answers::read_chunk(image, index, run, chunk, at, line, word, rows, out, from);
         let reached = read.reached;
         let end = reached.end;
         if !io::write_all(STDOUT_FILENO, &out[..end]) {
@@ -91,7 +90,17 @@ fn answer_input(
             io::write_all(STDOUT_FILENO, &out[..end]);
             return;
         }
-        kept = answer_chunk(image, index, run, &chunk[..got], line, kept, word, rows, out);
+        kept = answer_chunk(
+            image,
+            index,
+            run,
+            &chunk[..got],
+            line,
+            kept,
+            word,
+            rows,
+            out,
+        );
         if kept > 256 {
             return;
         }

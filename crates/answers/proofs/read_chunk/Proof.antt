@@ -67,9 +67,11 @@ loop-again c =
     let p = at .loop .inv .1 .1 in
     let call = c .before .before .before .before .before .before .before .before .read-byte in (
       call .kept .1 .1 .1 .1 .1 .0 ∙ at .loop .inv .0,
-      (call .kept .1 .1 .1 .1 .1 .1 .0 ∙ at .loop .inv .1 .0,
-      progress-more (a .image .now) (a .chunk .now) (a .line .now) (a .out .now) (a .at) (a .from .kept) (a .from .end) (at .loop .line) (at .loop .out) (at .loop .i) (at .loop .kept) (at .loop .end) p (c .before .before .before .before .before .before .before .before .before .before .before .before .before .before .before .loop-test .taken)
-      _ _ (call .result .kept) (call .result .end) (call .kept .1 .1 .1 .1 .0) (call .ensures .0 .1) (call .kept .1 .1 .1 .1 .1 .1 .1 .0) (omega (arith, call .ensures .1 .1, c .before .before .before .before .before .before .before .before .before .before .before .before .before .before .if1 .left, s .pre .1 .1 .1 .1 .0)) (call .ensures .0 .0) (call .ensures .1 .0)),
+      (
+        call .kept .1 .1 .1 .1 .1 .1 .0 ∙ at .loop .inv .1 .0,
+        progress-more (a .image .now) (a .chunk .now) (a .line .now) (a .out .now) (a .at) (a .from .kept) (a .from .end) (at .loop .line) (at .loop .out) (at .loop .i) (at .loop .kept) (at .loop .end) p (c .before .before .before .before .before .before .before .before .before .before .before .before .before .before .before .loop-test .taken)
+            _ _ (call .result .kept) (call .result .end) (call .kept .1 .1 .1 .1 .0) (call .ensures .0 .1) (call .kept .1 .1 .1 .1 .1 .1 .1 .0) (omega (arith, call .ensures .1 .1, c .before .before .before .before .before .before .before .before .before .before .before .before .before .before .if1 .left, s .pre .1 .1 .1 .1 .0)) (call .ensures .0 .0) (call .ensures .1 .0),
+      ),
     )
 
 same-length-5 : tie.Need-same-length-5 Inv-loop μ-loop

@@ -1,0 +1,74 @@
+-- `main` is safe and ends: what it lends has the lengths that are asked.
+use mathlib.Core.Path.{refl}
+use borrow.Author.Needs.{needs}
+use Rattle.lines.proofs.main.Statement.{statement}
+use Rattle.lines.proofs.main.Tie as tie
+
+slice-aggregate-read-image : tie.Need-slice-aggregate-read-image
+slice-aggregate-read-image c = search needs
+
+read-image-requires : tie.Need-read-image-requires
+read-image-requires c κs = search needs
+
+array-share-prefix-image : tie.Need-array-share-prefix-image
+array-share-prefix-image c = search needs
+
+slice-aggregate-prepare : tie.Need-slice-aggregate-prepare
+slice-aggregate-prepare c = search needs
+
+slice-aggregate-prepare-2 : tie.Need-slice-aggregate-prepare-2
+slice-aggregate-prepare-2 c = search needs
+
+prepare-requires : tie.Need-prepare-requires
+prepare-requires c κs = search needs
+
+array-share-prefix-image-2 : tie.Need-array-share-prefix-image-2
+array-share-prefix-image-2 c = search needs
+
+slice-aggregate-answer-input : tie.Need-slice-aggregate-answer-input
+slice-aggregate-answer-input c = search needs
+
+slice-aggregate-answer-input-2 : tie.Need-slice-aggregate-answer-input-2
+slice-aggregate-answer-input-2 c = search needs
+
+slice-aggregate-answer-input-3 : tie.Need-slice-aggregate-answer-input-3
+slice-aggregate-answer-input-3 c = search needs
+
+slice-aggregate-answer-input-4 : tie.Need-slice-aggregate-answer-input-4
+slice-aggregate-answer-input-4 c = search needs
+
+slice-aggregate-answer-input-5 : tie.Need-slice-aggregate-answer-input-5
+slice-aggregate-answer-input-5 c = search needs
+
+slice-aggregate-answer-input-6 : tie.Need-slice-aggregate-answer-input-6
+slice-aggregate-answer-input-6 c = search needs
+
+slice-aggregate-answer-input-7 : tie.Need-slice-aggregate-answer-input-7
+slice-aggregate-answer-input-7 c = search needs
+
+answer-input-requires : tie.Need-answer-input-requires
+answer-input-requires c κs = (c .before .before .before .before .before .before .before .before .prepare .ensures, (refl, ((refl, refl), refl)))
+
+returns : tie.Need-returns
+returns c = search needs
+
+pub main-spec : {M : Type 1} → statement M
+main-spec =
+    tie.close
+    (tie.spec
+    slice-aggregate-read-image
+    read-image-requires
+    array-share-prefix-image
+    slice-aggregate-prepare
+    slice-aggregate-prepare-2
+    prepare-requires
+    array-share-prefix-image-2
+    slice-aggregate-answer-input
+    slice-aggregate-answer-input-2
+    slice-aggregate-answer-input-3
+    slice-aggregate-answer-input-4
+    slice-aggregate-answer-input-5
+    slice-aggregate-answer-input-6
+    slice-aggregate-answer-input-7
+    answer-input-requires
+    returns)
