@@ -40,6 +40,15 @@ entries-within image high h m e = omega arith
 same-none : {B : Type 0} (b : Bool) (l : List B) → b ≡ false → given b l ≡ []
 same-none b l e = rw e refl
 
+-- with 40 pairs read none may be taken
+pub full-shut : (g : Grammar) (q : Query) (n : Node) → 40 ≤ n .pairs → (x : ℕ) → mayAt g q false n x ≡ false
+unfolding mayAt
+full-shut g q n h x = rw (le-ltb (n .pairs) 40 h) (none (spells (n .rest) (g .lexical x)) _ _ _)
+  where
+    none : (a b c d : Bool) → (a && false && b && c && d) ≡ false
+    none true b c d = refl
+    none false b c d = refl
+
 module _ (image : List ℕ) (q : Query) (place : Place) (trail : Trail) where
   abbrev g : Grammar
   g = grammarOf image
@@ -65,12 +74,8 @@ module _ (image : List ℕ) (q : Query) (place : Place) (trail : Trail) where
 
   -- with none of its pairs to spare, only what ends here
   pair-shut : 40 ≤ trail .pairs → (x : ℕ) → mayAt g q false n x ≡ false
-  unfolding mayAt nodeOf
-  pair-shut h x = rw (le-ltb (trail .pairs) 40 h) (none (spells (restOf image place) (g .lexical x)) _ _ _)
-    where
-      none : (a b c d : Bool) → (a && false && b && c && d) ≡ false
-      none true b c d = refl
-      none false b c d = refl
+  unfolding nodeOf
+  pair-shut h x = full-shut g q n h x
 
   pub pair-full : opens n ≡ false → 40 ≤ trail .pairs → foundAt image q place trail ≡ given (complete g q n) (r ∷ [])
   unfolding foundAt
@@ -147,6 +152,27 @@ spells-so (y ∷ rest) (suc a) e =
     let same : suc a ≡ y = eqb-true (suc a) y (or-right (isZero (suc a)) (eqb (suc a) y) (ne-eqb (suc a) 0 (λ h. omega arith)) e) in
     of-true (eqb y (suc a)) (eq-eqb y (suc a) (sym same))
 
+-- at any node where no entry opens
+module _ (image : List ℕ) (q : Query) (n : Node) where
+  -- a pair finds nothing if its lexical side is neither the null nor the next letter
+  pair-apart : (k : ℕ) (r : Reading) (p : ℕ) → (isZero (getD (pairs image) p boundaryPair .lexical) || eqb (getD (pairs image) p boundaryPair .lexical) (headOf (n .rest))) ≡ false → branch (grammarOf image) q k n r false p ≡ []
+  unfolding mayAt grammarOf
+  pair-apart k r p e = rw (spells-not (n .rest) (getD (pairs image) p boundaryPair .lexical) e) refl
+
+  pairs-counted : grammarOf image .pairs ≡ header image .pairs
+  unfolding grammarOf
+  pairs-counted = refl
+
+  -- so the next letter's candidates find all
+  pub gather-candidates : (k : ℕ) (r : Reading) → opens n ≡ false → gather (grammarOf image) q (suc k) n r ≡ given (complete (grammarOf image) q n) (r ∷ []) ++ flatMap (branch (grammarOf image) q k n r false) (candidates image (headOf (n .rest)))
+  unfolding candidates
+  gather-candidates k r o =
+      let f = branch (grammarOf image) q k n r false in
+      gather-pair (grammarOf image) q k n r o
+      ∙ ap (λ (l : List Reading). given (complete (grammarOf image) q n) (r ∷ []) ++ l)
+      (ap (λ (m : ℕ). flatMap f (below m)) pairs-counted
+      ∙ flatMap-only f (λ p. isZero (getD (pairs image) p boundaryPair .lexical) || eqb (getD (pairs image) p boundaryPair .lexical) (headOf (n .rest))) (below (header image .pairs)) (pair-apart k r))
+
 -- what one pair finds
 abbrev pub pairOne : List ℕ → Query → Place → Trail → ℕ → List Reading
 pairOne image q place trail p = branch (grammarOf image) q (pred (room (nodeAt image place trail))) (nodeAt image place trail) (readingOf trail) false p
@@ -160,26 +186,12 @@ module _ (image : List ℕ) (q : Query) (place : Place) (trail : Trail) (spare :
   pub pair-skip : (p : ℕ) → mayAt (grammarOf image) q false (nodeAt image place trail) p ≡ false → pairOne image q place trail p ≡ []
   pair-skip p e = same-none (mayAt (grammarOf image) q false (nodeAt image place trail) p) _ e
 
-  -- nor does one whose lexical side is neither the null nor the next letter
-  pair-apart : (p : ℕ) → (isZero (getD (pairs image) p boundaryPair .lexical) || eqb (getD (pairs image) p boundaryPair .lexical) (headOf (restOf image place))) ≡ false → pairOne image q place trail p ≡ []
-  unfolding mayAt nodeOf grammarOf
-  pair-apart p e = pair-skip p (rw (spells-not (restOf image place) (getD (pairs image) p boundaryPair .lexical) e) refl)
-
-  pairs-counted : grammarOf image .pairs ≡ header image .pairs
-  unfolding grammarOf
-  pairs-counted = refl
-
   pub pair-all : opens (nodeAt image place trail) ≡ false → foundAt image q place trail ≡ given (complete (grammarOf image) q (nodeAt image place trail)) (readingOf trail ∷ []) ++ flatMap (pairOne image q place trail) (candidates image (headOf (restOf image place)))
-  unfolding foundAt candidates
+  unfolding foundAt nodeOf
   pair-all o =
-      let g = grammarOf image in
       let n = nodeAt image place trail in
-      let k = pred (room n) in
-      ap (λ (m : ℕ). gather g q m n (readingOf trail)) pair-room
-      ∙ gather-pair g q k n (readingOf trail) o
-      ∙ ap (λ (l : List Reading). given (complete g q n) (readingOf trail ∷ []) ++ l)
-      (ap (λ (m : ℕ). flatMap (pairOne image q place trail) (below m)) pairs-counted
-      ∙ flatMap-only (pairOne image q place trail) (λ p. isZero (getD (pairs image) p boundaryPair .lexical) || eqb (getD (pairs image) p boundaryPair .lexical) (headOf (restOf image place))) (below (header image .pairs)) pair-apart)
+      ap (λ (m : ℕ). gather (grammarOf image) q m n (readingOf trail)) pair-room
+      ∙ gather-candidates image q n (pred (room n)) (readingOf trail) o
 
   pairs-few : nodeAt image place trail .pairs < 40
   unfolding nodeOf

@@ -1,14 +1,21 @@
 -- The candidate pairs of a letter, as the index has them.
 use Prim.Native.Nat.{ℕ, _+_, _*_, _<_, _≤_}
 use native.Mathlib.Omega.{arith}
+use mathlib.Core.Bool.{Bool, true, _||_}
 use mathlib.Core.Path.{_≡_, sym, ap, _∙_, subst}
 use mathlib.Core.List.{List}
 use lib.ListN.{length, getD}
-use Rattle.model.specs.Lists.{byte}
+use lib.Dec.{T, eqb}
+use Rattle.model.specs.Lists.{below, byte, isZero}
 use Rattle.model.specs.Blocks.{Header, header}
+use Rattle.model.specs.RuleTables.{pairs, boundaryPair}
+use Rattle.model.specs.Tree.{spells}
 use Rattle.image.specs.Accepted.{Accepted}
 use Rattle.image.specs.Index.{candidates, indexOf}
 use Rattle.rules.proofs.Laws.{length-indexOf, candidate-count, candidate-byte, candidate-at, candidates-most}
+use Rattle.listing.specs.Search.{headOf}
+use Rattle.listing.proofs.Loops.{only-passes}
+use Rattle.listing.proofs.Searching.{spells-so}
 
 module _ (image index : List ℕ) (h : Header) (ok : Accepted image h) (indexed : index ≡ indexOf image) (a : ℕ) (letter : a ≤ h .letters) where
   here : Accepted image (header image)
@@ -41,3 +48,12 @@ module _ (image index : List ℕ) (h : Header) (ok : Accepted image h) (indexed 
 
     pub pair-below : getD (candidates image a) k 0 < h .pairs
     pair-below = omega (arith, candidate-at image a k inside, pairs-are)
+
+-- each of them spells on where its letter comes next
+pub candidate-spells : (image rest : List ℕ) (a : ℕ) → a ≡ headOf rest → (k : ℕ) → k < length (candidates image a) → (p : ℕ) → p ≡ getD (candidates image a) k 0 → T (spells rest (getD (pairs image) p boundaryPair .lexical))
+unfolding candidates
+candidate-spells image rest a letter k inside p e =
+    let test : ℕ → Bool = λ p. isZero (getD (pairs image) p boundaryPair .lexical) || eqb (getD (pairs image) p boundaryPair .lexical) a in
+    spells-so rest (getD (pairs image) p boundaryPair .lexical)
+    (subst (λ (x : ℕ). (isZero (getD (pairs image) p boundaryPair .lexical) || eqb (getD (pairs image) p boundaryPair .lexical) x) ≡ true) letter
+    (subst (λ (p : ℕ). test p ≡ true) (sym e) (only-passes test (below (header image .pairs)) k inside)))

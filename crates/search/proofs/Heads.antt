@@ -2,20 +2,19 @@
 use Prim.Native.Nat.{ℕ, suc, pred, _+_, _*_, _-_, _<_, _≤_}
 use native.Mathlib.Numerals.{add-one}
 use native.Mathlib.Omega.{arith}
-use mathlib.Core.Bool.{Bool, true, false, _||_, not, true≢false}
+use mathlib.Core.Bool.{Bool, true, false, not, true≢false}
 use mathlib.Core.Logic.{⊎-elim}
-use mathlib.Core.Path.{_≡_, refl, sym, ap, ap₂, _∙_, subst}
+use mathlib.Core.Path.{_≡_, refl, sym, ap, ap₂, _∙_}
 use mathlib.Core.List.{List, [], _∷_, _++_}
 use lib.ListN.{length, getD}
-use lib.Dec.{T, leb, eqb}
-use Rattle.model.specs.Lists.{below, given, flatMap, isZero}
+use lib.Dec.{leb, eqb}
+use Rattle.model.specs.Lists.{below, given, flatMap}
 use Rattle.model.specs.Blocks.{Header, header}
-use Rattle.model.specs.RuleTables.{pairs, boundaryPair}
 use Rattle.model.specs.GrammarOf.{grammarOf}
 use Rattle.model.specs.Readings.{Reading}
 use Rattle.model.specs.Rows.{rowCount}
 use Rattle.model.specs.Query.{Query}
-use Rattle.model.specs.Tree.{Node, spells, mayAt, goAt, complete}
+use Rattle.model.specs.Tree.{Node, mayAt, goAt, complete}
 use Rattle.image.specs.Accepted.{Accepted}
 use Rattle.image.specs.Index.{candidates}
 use Rattle.rows.specs.declared.Trail.{Trail}
@@ -26,8 +25,8 @@ use Rattle.listing.specs.declared.place.Place.{Place}
 use Rattle.listing.specs.Places.{restOf, nodeOf, Standing, Took}
 use Rattle.listing.specs.Opening.{Ranged}
 use Rattle.listing.specs.Search.{nodeAt, headOf, foundAt}
-use Rattle.listing.proofs.Loops.{flatMap-places, only-passes}
-use Rattle.listing.proofs.Searching.{openOne, pairOne, spells-so}
+use Rattle.listing.proofs.Loops.{flatMap-places}
+use Rattle.listing.proofs.Searching.{openOne, pairOne}
 use Rattle.listing.proofs.Ranges.{right-false}
 use Rattle.listing.proofs.Searching as found
 use Rattle.search.specs.Here.{opensAt, Ready}
@@ -100,14 +99,6 @@ module _ (image : List ℕ) (index : List ℕ) (h : Header) (q : Query) (place :
     pair-put o out ended out′ n m n′ w f g = rw (pair-found o, putAll-append, ← f, ← w) g
 
     module _ (k : ℕ) (inside : k < many) (p : ℕ) (e : p ≡ getD (candidates image a) k 0) where
-      pub pair-spells : T (spells (restOf image place) (getD (pairs image) p boundaryPair .lexical))
-      unfolding candidates
-      pair-spells =
-          let test : ℕ → Bool = λ p. isZero (getD (pairs image) p boundaryPair .lexical) || eqb (getD (pairs image) p boundaryPair .lexical) a in
-          spells-so (restOf image place) (getD (pairs image) p boundaryPair .lexical)
-          (subst (λ (x : ℕ). (isZero (getD (pairs image) p boundaryPair .lexical) || eqb (getD (pairs image) p boundaryPair .lexical) x) ≡ true) letter
-          (subst (λ (p : ℕ). test p ≡ true) (sym e) (only-passes test (below (header image .pairs)) k inside)))
-
       module _ (may : Bool) (next : Place) (took : Took image q place p may next) where
         may-is : may ≡ mayAt (grammarOf image) q false (nodeAt image place trail) p
         may-is = took .may-is (trail .entries) (trail .pairs) spare

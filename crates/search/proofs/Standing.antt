@@ -5,19 +5,24 @@ use native.Mathlib.Decide.{decLt, ℕ-discrete}
 use mathlib.Core.Bool.{true, false, true≢false}
 use mathlib.Core.Path.{_≡_, refl, sym, ap, _∙_, subst}
 use mathlib.Core.List.{List, [], _∷_}
-use lib.Dec.{T, leb}
-use borrow.Author.Tests.{le-leb, lt-leb, ne-eqb, leb-true}
+use lib.Dec.{T}
+use borrow.Author.Tests.{le-leb, lt-leb, ne-eqb}
 use Rattle.model.specs.Lists.{every, within, byte}
 use Rattle.model.specs.Blocks.{header}
 use Rattle.model.specs.GrammarOf.{grammarOf}
 use Rattle.model.specs.Query.{Query}
 use Rattle.model.specs.Tree.{opens, complete}
-use Rattle.model.proofs.Booleans.{and-out, true-of}
+use Rattle.model.proofs.Booleans.{and-out, within-out}
 use Rattle.listing.specs.declared.place.Place.{Place}
 use Rattle.listing.specs.Places.{restOf, nodeOf, Standing}
 use Rattle.listing.specs.Search.{headOf}
 use Rattle.listing.proofs.Taking.{part-nil, part-cons}
 use Rattle.search.specs.Here.{opensAt}
+
+-- the first of some letters, or 0
+pub head-within : (top : ℕ) (l : List ℕ) → T (every (within 2 top) l) → headOf l ≤ top
+head-within top [] t = omega arith
+head-within top (x ∷ l) t = within-out 2 top x (and-out (within 2 top x) (every (within 2 top) l) t .0) .1
 
 module _ (image : List ℕ) (place : Place) (stands : Standing image place) where
   rest-none : place .to ≤ place .from → restOf image place ≡ []
@@ -41,13 +46,7 @@ module _ (image : List ℕ) (place : Place) (stands : Standing image place) wher
   head-none h = sym (ap headOf (rest-none (omega arith)))
 
   pub head-most : headOf (restOf image place) ≤ header image .letters
-  head-most = go (restOf image place) (stands .letters-right)
-    where
-      go : (l : List ℕ) → T (every (within 2 (header image .letters)) l) → headOf l ≤ header image .letters
-      go [] t = omega arith
-      go (x ∷ l) t =
-          let w = and-out (within 2 (header image .letters) x) (every (within 2 (header image .letters)) l) t .0 in
-          leb-true x (header image .letters) (true-of (leb x (header image .letters)) (and-out (leb 2 x) (leb x (header image .letters)) w .1))
+  head-most = head-within (header image .letters) (restOf image place) (stands .letters-right)
 
   -- nothing ends while a letter is left
   pub not-ended : (q : Query) (n m : ℕ) → place .from < place .to → complete (grammarOf image) q (nodeOf image place n m) ≡ false

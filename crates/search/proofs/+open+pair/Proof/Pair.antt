@@ -10,11 +10,13 @@ use Rattle.model.specs.Query.{Query, queryOf}
 use Rattle.image.specs.Header.{headerOf}
 use Rattle.image.specs.Index.{candidates}
 use Rattle.listing.specs.Asked.{requestOf}
+use Rattle.listing.specs.Places.{restOf}
 use Rattle.listing.proofs.Searching.{pair-full}
 use Rattle.search.specs.Here.{opensAt}
+use Rattle.search.proofs.Candidates.{candidate-spells}
 use Rattle.search.proofs.Passing.{passed-none, passed-more, passed-skip, passed-stop, passed-all, passed-is}
 use Rattle.search.proofs.Standing.{opens-is}
-use Rattle.search.proofs.Heads.{letter-in, pair-put, pair-spells, pair-none, pair-ready, pair-less, pair-turn}
+use Rattle.search.proofs.Heads.{letter-in, pair-put, pair-none, pair-ready, pair-less, pair-turn}
 use Rattle.search.proofs.pair.Reads as pair
 use Rattle.search.proofs.+open+pair.Lts-pair as lts
 use Rattle.search.proofs.+open+pair.Proof.Shared.{pair-at as at, pair-claims as claims, pair-Inv-loop as Inv, pair-μ-loop as μ}
@@ -115,7 +117,7 @@ module _ (t : ℕ) where
             s .pre .1 .0 .stands,
             (
               c .candidate .ensures .1,
-              pair-spells (a .image .now) (a .index .now) (headerOf (a .h)) (query s) (a .place) (a .trail) (s .pre .1 .0) (w .before .before .if2 .left) (w .before .next-letter .result) (w .before .next-letter .ensures .0) (c .before .before .before .loop .k) (omega (arith, c .before .before .loop-test .taken, w .candidate-count .ensures)) (c .candidate .result) (c .candidate .ensures .0),
+              candidate-spells (a .image .now) (restOf (a .image .now) (a .place)) (w .before .next-letter .result) (w .before .next-letter .ensures .0) (c .before .before .before .loop .k) (omega (arith, c .before .before .loop-test .taken, w .candidate-count .ensures)) (c .candidate .result) (c .candidate .ensures .0),
             ),
           ),
         ),
