@@ -3,3 +3,4 @@ pub mod Standing
 pub mod Candidates
 pub mod Heads
 pub mod Starting
+pub mod FirstLetters

@@ -1,6 +1,7 @@
 // The search for readings, one for both directions: opening an entry and pairing its letters call each other, and each reading found is put into
 // the lent rows.
 pub mod here;
+pub mod starts;
 
 ghost use mathlib.Core.Bool.{true};
 ghost use mathlib.Core.Path.{_≡_};
@@ -21,7 +22,8 @@ use listing::level::Level;
 use listing::place::Place;
 use rows::Trail;
 
-// Each entry that may open here opens, and its letters are paired.
+// Each entry that may open here opens, and its letters are paired. Whether a pair may be taken at once is the same for all entries that begin with
+// one letter: `known` keeps what was seen of each, 0 before it is looked at, and where that is 1 an entry is passed over.
 pub fn open(
     image: &[u8],
     index: &[u8],
@@ -53,6 +55,7 @@ pub fn open(
     );
     let low = range.low;
     let count = range.high - low;
+    let mut known = [0u8; 128];
     let mut n = found;
     let mut k: usize = 0;
     while k < count {
@@ -60,9 +63,15 @@ pub fn open(
             return n;
         }
         let e = low + k;
-        let next = listing::place::enter(image, h, place, e);
-        let longer = rows::with_entry(trail, e as u16);
-        n = pair(image, index, h, d, asked, next, longer, out, capacity, n);
+        let letter = crate::starts::first_letter(image, h, e);
+        if known[letter] == 0 {
+            known[letter] = crate::starts::look(image, index, h, d, asked, place, e, letter);
+        }
+        if known[letter] != 1 {
+            let next = listing::place::enter(image, h, place, e);
+            let longer = rows::with_entry(trail, e as u16);
+            n = pair(image, index, h, d, asked, next, longer, out, capacity, n);
+        }
         k += 1;
     }
     n

@@ -2,16 +2,18 @@
 use Prim.Native.Nat.{ℕ, _<_, _≤_, _+_, _*_, _-_, _/_}
 use native.Mathlib.Omega.{arith}
 use borrow.Author.Needs.{needs}
-use mathlib.Core.Path.{_≡_, sym, ap, _∙_}
+use mathlib.Core.Logic.{⊎-elim}
+use mathlib.Core.Path.{_≡_, sym, ap, _∙_, subst}
 use lib.ListN.{length}
 use Rattle.model.specs.Query.{Query, queryOf}
 use Rattle.image.specs.Header.{headerOf}
 use Rattle.rows.proofs.Fill.{putAll-none}
 use Rattle.listing.specs.Asked.{requestOf}
 use Rattle.listing.proofs.Searching.{open-full}
-use Rattle.search.proofs.Passing.{passed-none, passed-more, passed-stop, passed-all}
+use Rattle.search.proofs.Passing.{passed-none, passed-more, passed-skip, passed-stop, passed-all, passed-is}
 use Rattle.search.proofs.Standing.{opens-is}
 use Rattle.search.proofs.Heads.{onward-in, range-end, entry-few, open-found, open-ready, open-less, open-turn}
+use Rattle.search.proofs.FirstLetters.{Known, seen-barren, known-none, known-more}
 use Rattle.search.proofs.open.Reads as «open»
 use Rattle.search.proofs.+open+pair.Lts-open as lts
 use Rattle.search.proofs.+open+pair.Proof.Shared.{open-at as at, open-claims as claims, open-Inv-loop as Inv, open-μ-loop as μ}
@@ -44,7 +46,7 @@ module _ (t : ℕ) where
   sub-count c = c .before .open-range .ensures .in-order
 
   pub loop-holds : lts.Need-loop-holds (claims t) (at t) open.Post Inv μ
-  loop-holds c = (search needs, passed-none)
+  loop-holds c = let a = start c .args in (search needs, (passed-none, known-none (a .image .now) (query (start c)) (a .place) (a .trail)))
 
   pub same-length : lts.Need-same-length (claims t) (at t) open.Post Inv μ
   same-length c = search needs
@@ -62,7 +64,7 @@ module _ (t : ℕ) where
       let s = start w in
       let a = s .args in
       rw (open-found (a .image .now) (a .index .now) (headerOf (a .h)) (query s) (a .place) (a .trail) (s .pre .1 .0) (w .before .before .if1 .left) (low w) (high w) (w .before .open-range .ensures) (s .pre .1 .1 .0))
-      (passed-stop (high w - low w) (c .before .before .loop .inv .1) (c .before .before .loop .inv .0) (omega (arith, c .if2 .taken, s .pre .1 .1 .1 .0)))
+      (passed-stop (high w - low w) (c .before .before .loop .inv .1 .0) (c .before .before .loop .inv .0) (omega (arith, c .if2 .taken, s .pre .1 .1 .1 .0)))
 
   pub add-e : lts.Need-add-e (claims t) (at t) open.Post Inv μ
   add-e c =
@@ -71,27 +73,71 @@ module _ (t : ℕ) where
       let a = s .args in
       omega (arith, entry-few (a .image .now) (a .index .now) (headerOf (a .h)) (query s) (a .place) (a .trail) (s .pre .1 .0) (w .before .before .if1 .left) (low w) (high w) (w .before .open-range .ensures) (c .before .before .loop .k) (c .before .loop-test .taken))
 
-  pub enter-requires : lts.Need-enter-requires (claims t) (at t) open.Post Inv μ
-  enter-requires c κs =
+  -- entry low + k is there
+  inside : (c : lts.Else2 (claims t) (at t) open.Post Inv μ) → low (c .before .before .before) + c .before .before .loop .k < start (c .before .before .before) .args .h .entries
+  inside c =
       let w = c .before .before .before in
       let s = start w in
       let a = s .args in
-      let ready = s .pre .1 .0 in
-      (ready .accepted, (ready .stands, omega (arith, c .before .loop-test .taken, range-end (a .image .now) (a .index .now) (headerOf (a .h)) (query s) (a .place) (a .trail) ready (w .before .before .if1 .left) (low w) (high w) (w .before .open-range .ensures))))
+      omega (arith, c .before .loop-test .taken, range-end (a .image .now) (a .index .now) (headerOf (a .h)) (query s) (a .place) (a .trail) (s .pre .1 .0) (w .before .before .if1 .left) (low w) (high w) (w .before .open-range .ensures))
+
+  pub first-letter-requires : lts.Need-first-letter-requires (claims t) (at t) open.Post Inv μ
+  first-letter-requires c κs = (start (c .before .before .before) .pre .1 .0 .accepted, inside c)
+
+  -- where the first letter of an entry is known
+  abbrev First : Type 0
+  First = lts.After-first-letter (claims t) (at t) open.Post Inv μ
+
+  letter-few : (c : First) → c .first-letter .result < 128
+  letter-few c = omega (arith, c .first-letter .ensures .1, start (c .before .before .before .before) .pre .1 .0 .accepted .laid .limits .letters-most)
+
+  pub array-read-if3 : lts.Need-array-read-if3 (claims t) (at t) open.Post Inv μ
+  array-read-if3 c = letter-few c
+
+  pub look-requires : lts.Need-look-requires (claims t) (at t) open.Post Inv μ
+  look-requires c κs =
+      let ready = start (c .before .before .before .before .before) .pre .1 .0 in
+      (ready .accepted, (ready .indexed, (ready .stands, (inside (c .before .before), c .before .first-letter .ensures))))
+
+  pub array-write-known : lts.Need-array-write-known (claims t) (at t) open.Post Inv μ
+  array-write-known c = letter-few (c .before .before)
+
+  -- what is known of its first letter after it is looked at
+  looked : (c : lts.Joined3 (claims t) (at t) open.Post Inv μ) → let s = start (c .before .before .before .before .before) in Known (s .args .image .now) (query s) (s .args .place) (s .args .trail) (c .if3 .known)
+  looked c =
+      let first = c .before in
+      let at = first .before .before .before in
+      let w = at .before in
+      let s = start w in
+      let a = s .args in
+      let letter = first .first-letter .result in
+      ⊎-elim
+      (λ v. subst (Known (a .image .now) (query s) (a .place) (a .trail)) (sym (v .2)) (known-more (a .image .now) (query s) (a .place) (a .trail) (at .loop .known) letter (v .1 .result) (at .loop .inv .1 .1) (letter-few first) (seen-barren (a .image .now) (query s) (a .place) (a .trail) (low w + at .loop .k) letter (v .1 .result) (first .first-letter .ensures .0) (v .1 .ensures))))
+      (λ v. subst (Known (a .image .now) (query s) (a .place) (a .trail)) (sym (v .1)) (at .loop .inv .1 .1))
+      (c .if3 .came)
+
+  pub array-read-if4 : lts.Need-array-read-if4 (claims t) (at t) open.Post Inv μ
+  array-read-if4 c = letter-few (c .before)
+
+  pub enter-requires : lts.Need-enter-requires (claims t) (at t) open.Post Inv μ
+  enter-requires c κs =
+      let ready = start (c .before .before .before .before .before .before) .pre .1 .0 in
+      (ready .accepted, (ready .stands, inside (c .before .before .before)))
 
   pub cast-with-entry : lts.Need-cast-with-entry (claims t) (at t) open.Post Inv μ
   cast-with-entry c =
-      let w = c .before .before .before .before in
+      let at = c .before .before .before .before .before .before in
+      let w = at .before in
       let s = start w in
       let a = s .args in
-      omega (arith, entry-few (a .image .now) (a .index .now) (headerOf (a .h)) (query s) (a .place) (a .trail) (s .pre .1 .0) (w .before .before .if1 .left) (low w) (high w) (w .before .open-range .ensures) (c .before .before .before .loop .k) (c .before .before .loop-test .taken))
+      omega (arith, entry-few (a .image .now) (a .index .now) (headerOf (a .h)) (query s) (a .place) (a .trail) (s .pre .1 .0) (w .before .before .if1 .left) (low w) (high w) (w .before .open-range .ensures) (at .loop .k) (c .before .before .before .before .before .loop-test .taken))
 
   pub with-entry-requires : lts.Need-with-entry-requires (claims t) (at t) open.Post Inv μ
-  with-entry-requires c κs = let w = c .before .before .before .before in (start w .pre .1 .0 .short, w .before .before .if1 .left)
+  with-entry-requires c κs = let w = c .before .before .before .before .before .before .before in (start w .pre .1 .0 .short, w .before .before .if1 .left)
 
   pub pair-requires : lts.Need-pair-requires (claims t) (at t) open.Post Inv μ
   pair-requires c κs =
-      let at = c .before .before .before .before .before in
+      let at = c .before .before .before .before .before .before .before .before in
       let w = at .before in
       let s = start w in
       let a = s .args in
@@ -100,7 +146,7 @@ module _ (t : ℕ) where
       let longer = c .before .with-entry in
       let ready = open-ready (a .image .now) (a .index .now) (headerOf (a .h)) (query s) (a .place) (a .trail) (s .pre .1 .0) (w .before .before .if1 .left) (low w) (high w) (w .before .open-range .ensures) k (next .result) (longer .result) (longer .ensures) (next .ensures .1) in
       let less = open-less (a .image .now) (a .index .now) (headerOf (a .h)) (query s) (a .place) (a .trail) (s .pre .1 .0) (w .before .before .if1 .left) (low w) (high w) (w .before .open-range .ensures) k (next .result) (longer .result) (longer .ensures) in
-      (omega (arith, s .pre .0, less), (ready, (s .pre .1 .1 .1 .0 ∙ ap (λ (n : ℕ). n / 116) (sym (at .loop .inv .1 .long)), c .before .before .before .if2 .left)))
+      (omega (arith, s .pre .0, less), (ready, (s .pre .1 .1 .1 .0 ∙ ap (λ (n : ℕ). n / 116) (sym (at .loop .inv .1 .0 .long)), c .before .before .before .before .before .before .if2 .left)))
 
   pub add-k : lts.Need-add-k (claims t) (at t) open.Post Inv μ
   add-k c = search needs
@@ -110,16 +156,21 @@ module _ (t : ℕ) where
 
   pub loop-again : lts.Need-loop-again (claims t) (at t) open.Post Inv μ
   loop-again c =
-      let at = c .before .before .before .before .before .before .before .before in
+      let joined = c .before in
+      let first = joined .before in
+      let at = first .before .before .before in
       let w = at .before in
       let s = start w in
       let a = s .args in
-      let next = c .before .before .before .before .before .enter in
-      let longer = c .before .before .before .before .with-entry in
-      let more : at .loop .k + 1 ≤ high w - low w = omega (arith, c .before .before .before .before .before .before .before .loop-test .taken) in (
+      let more : at .loop .k + 1 ≤ high w - low w = omega (arith, first .before .before .loop-test .taken) in (
         more,
-        passed-more _ (at .loop .inv .1) (c .before .before .pair .kept .1 .1 .1 .1 .1 .1 .1 .0) (c .before .before .pair .ensures)
-            (open-turn (a .image .now) (a .index .now) (headerOf (a .h)) (query s) (a .place) (a .trail) (s .pre .1 .0) (w .before .before .if1 .left) (low w) (high w) (w .before .open-range .ensures) (at .loop .k) (next .result) (longer .result) (longer .ensures) (next .ensures .0)),
+        (
+          ⊎-elim
+              (λ v. passed-is (passed-more _ (at .loop .inv .1 .0) (v .4 .kept .1 .1 .1 .1 .1 .1 .1 .0) (v .4 .ensures) (open-turn (a .image .now) (a .index .now) (headerOf (a .h)) (query s) (a .place) (a .trail) (s .pre .1 .0) (w .before .before .if1 .left) (low w) (high w) (w .before .open-range .ensures) (at .loop .k) (v .1 .result) (v .2 .result) (v .2 .ensures) (v .1 .ensures .0))) (v .7) (v .8))
+              (λ v. passed-is (passed-skip (at .loop .inv .1 .0) (looked joined .barren (first .first-letter .result) (v .0 .left) (low w) (at .loop .k) (sym (first .first-letter .ensures .0)))) (v .1) (v .2))
+              (c .if4 .came),
+          looked joined,
+        ),
       )
 
   pub same-length-2 : lts.Need-same-length-2 (claims t) (at t) open.Post Inv μ
@@ -131,4 +182,4 @@ module _ (t : ℕ) where
       let s = start w in
       let a = s .args in
       rw (open-found (a .image .now) (a .index .now) (headerOf (a .h)) (query s) (a .place) (a .trail) (s .pre .1 .0) (w .before .before .if1 .left) (low w) (high w) (w .before .open-range .ensures) (s .pre .1 .1 .0))
-      (passed-all (high w - low w) (c .before .loop .inv .1) (omega (arith, c .loop-test .left, c .before .loop .inv .0)))
+      (passed-all (high w - low w) (c .before .loop .inv .1 .0) (omega (arith, c .loop-test .left, c .before .loop .inv .0)))

@@ -12,6 +12,7 @@ use Rattle.rows.proofs.with_entry.Reads as with-entry-reads
 use Rattle.rows.proofs.with_pair.Reads as with-pair-reads
 use Rattle.search.proofs.Passing.{Passed}
 use Rattle.search.proofs.Heads.{room, pairAt}
+use Rattle.search.proofs.FirstLetters.{Known}
 use Rattle.search.proofs.open.Reads as «open»
 use Rattle.search.proofs.open.Kinds as open-kinds
 use Rattle.search.proofs.+open+pair.Lts-open as open-lts
@@ -23,6 +24,8 @@ use Rattle.search.proofs.here.candidate_count.Reads as candidate-count-
 use Rattle.search.proofs.here.finish.Reads as finish-reads
 use Rattle.search.proofs.here.next_letter.Reads as next-letter-reads
 use Rattle.search.proofs.here.opens.Reads as opens-reads
+use Rattle.search.proofs.starts.first_letter.Reads as first-letter-reads
+use Rattle.search.proofs.starts.look.Reads as look-reads
 
 abbrev pub μ-open : Measures 4 open-kinds.ps ℕ
 μ-open κs a = 2 * room (a .1 .1 .1 .1 .1 .1 .0)
@@ -43,7 +46,20 @@ abbrev pub pair-below : ℕ → In 4 pair-kinds.ps
 pair-below t = and 4 pair-kinds.ps (falls 4 pair-kinds.ps _<_ μ-pair t) pair.Pre
 
 abbrev pub open-claims : ℕ → open-lts.Claims
-open-claims t = (open-range-reads.Asked, open-range-reads.Learnt, enter-reads.Asked, enter-reads.Learnt, with-entry-reads.Asked, with-entry-reads.Learnt, pair-below t, pair.Post)
+open-claims t = (
+  open-range-reads.Asked,
+  open-range-reads.Learnt,
+  first-letter-reads.Asked,
+  first-letter-reads.Learnt,
+  look-reads.Asked,
+  look-reads.Learnt,
+  enter-reads.Asked,
+  enter-reads.Learnt,
+  with-entry-reads.Asked,
+  with-entry-reads.Learnt,
+  pair-below t,
+  pair.Post,
+)
 
 abbrev pub pair-claims : ℕ → pair-lts.Claims
 pair-claims t = (
@@ -68,11 +84,11 @@ pair-claims t = (
 )
 
 abbrev pub open-Inv-loop : open-lts.InvT-loop
-open-Inv-loop image index h d asked place trail out₀ capacity found low count n₀ k₀ out n k =
-    (k ≤ count) × Passed (openOne image (queryOf (requestOf d asked)) place trail low) out₀ found out n k
+open-Inv-loop image index h d asked place trail out₀ capacity found low count known₀ n₀ k₀ out known n k =
+    (k ≤ count) × (Passed (openOne image (queryOf (requestOf d asked)) place trail low) out₀ found out n k × Known image (queryOf (requestOf d asked)) place trail known)
 
 abbrev pub open-μ-loop : open-lts.MeasureT-loop
-open-μ-loop image index h d asked place trail out₀ capacity found low count n₀ k₀ out n k = count - k
+open-μ-loop image index h d asked place trail out₀ capacity found low count known₀ n₀ k₀ out known n k = count - k
 
 abbrev pub pair-Inv-loop : pair-lts.InvT-loop
 pair-Inv-loop image index h d asked place trail out₀ capacity found ended letter many n₀ k₀ out n k =

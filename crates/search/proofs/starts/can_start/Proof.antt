@@ -1,0 +1,94 @@
+-- `can_start` meets its contract: at the loop's head what is left of the candidate pairs decides.
+use borrow.Author.Needs.{needs}
+use native.Mathlib.Omega.{arith}
+use Prim.Native.Nat.{_-_, _<_, _≤_}
+use lib.ListN.{length}
+use Rattle.model.specs.Query.{queryOf}
+use Rattle.image.specs.Index.{candidates}
+use Rattle.listing.specs.Asked.{requestOf}
+use Rattle.listing.specs.Places.{restOf}
+use Rattle.search.proofs.Candidates.{candidate-spells}
+use Rattle.search.proofs.FirstLetters.{Left, left-none, left-more, left-found, left-all}
+use Rattle.search.proofs.starts.can_start.Statement.{statement}
+use Rattle.search.proofs.starts.can_start.Tie as tie
+
+abbrev Inv-loop : tie.InvT-loop
+Inv-loop image index h d asked place letter many k₀ k = (k ≤ many) × Left image (queryOf (requestOf d asked)) place letter k
+
+abbrev μ-loop : tie.MeasureT-loop
+μ-loop image index h d asked place letter many k₀ k = many - k
+
+-- where the loop begins
+abbrev Head : Type 0
+Head = tie.After-candidate-count Inv-loop μ-loop
+
+abbrev start : Head → tie.Start Inv-loop μ-loop
+start w = w .before .before .before .before
+
+candidate-count-requires : tie.Need-candidate-count-requires Inv-loop μ-loop
+candidate-count-requires c κs = let s = c .before .before .before in (s .pre .0, (s .pre .1 .0, s .pre .1 .1 .1 .1))
+
+loop-holds : tie.Need-loop-holds Inv-loop μ-loop
+loop-holds c = let a = start c .args in (search needs, left-none (a .image .now) (queryOf (requestOf (a .d) (a .asked .now))) (a .place) (a .letter))
+
+candidate-requires : tie.Need-candidate-requires Inv-loop μ-loop
+candidate-requires c κs =
+    let w = c .before .before in
+    let s = start w in
+    (s .pre .0, (s .pre .1 .0, (s .pre .1 .1 .1 .1, omega (arith, c .loop-test .taken, w .candidate-count .ensures))))
+
+take-requires : tie.Need-take-requires Inv-loop μ-loop
+take-requires c κs =
+    let w = c .before .before .before in
+    let s = start w in
+    let a = s .args in
+    let inside : c .before .before .loop .k < length (candidates (a .image .now) (a .letter)) = omega (arith, c .before .loop-test .taken, w .candidate-count .ensures) in
+    (s .pre .0, (s .pre .1 .0, (s .pre .1 .1 .0, (c .candidate .ensures .1, candidate-spells (a .image .now) (restOf (a .image .now) (a .place)) (a .letter) (s .pre .1 .1 .1 .0) (c .before .before .loop .k) inside (c .candidate .result) (c .candidate .ensures .0)))))
+
+returns : tie.Need-returns Inv-loop μ-loop
+returns c =
+    let at = c .before .before .before .before in
+    let w = at .before in
+    let a = start w .args in
+    let candidate = c .before .before .candidate in
+    let taken = c .before .take in
+    let inside : at .loop .k < length (candidates (a .image .now) (a .letter)) = omega (arith, c .before .before .before .loop-test .taken, w .candidate-count .ensures) in
+    left-found (a .image .now) (queryOf (requestOf (a .d) (a .asked .now))) (a .place) (a .letter) (at .loop .k) inside (candidate .result) (candidate .ensures .0) (taken .result .may) (taken .result .place) (taken .ensures) (at .loop .inv .1) (c .if1 .taken)
+
+add-k : tie.Need-add-k Inv-loop μ-loop
+add-k c = search needs
+
+loop-less : tie.Need-loop-less Inv-loop μ-loop
+loop-less c = search needs
+
+loop-again : tie.Need-loop-again Inv-loop μ-loop
+loop-again c =
+    let at = c .before .before .before .before in
+    let w = at .before in
+    let a = start w .args in
+    let candidate = c .before .before .candidate in
+    let taken = c .before .take in
+    let inside : at .loop .k < length (candidates (a .image .now) (a .letter)) = omega (arith, c .before .before .before .loop-test .taken, w .candidate-count .ensures) in
+    (search needs, left-more (a .image .now) (queryOf (requestOf (a .d) (a .asked .now))) (a .place) (a .letter) (at .loop .k) inside (candidate .result) (candidate .ensures .0) (taken .result .may) (taken .result .place) (taken .ensures) (at .loop .inv .1) (c .if1 .left))
+
+returns-2 : tie.Need-returns-2 Inv-loop μ-loop
+returns-2 c =
+    let w = c .before .before in
+    let a = start w .args in
+    left-all (a .image .now) (queryOf (requestOf (a .d) (a .asked .now))) (a .place) (a .letter) (c .before .loop .k) (omega (arith, c .loop-test .left, w .candidate-count .ensures)) (c .before .loop .inv .1)
+
+pub can-start-spec : {M : Type 1} → statement M
+can-start-spec =
+    tie.close
+    (tie.spec
+    Inv-loop
+    μ-loop
+    candidate-count-requires
+    loop-holds
+    candidate-requires
+    take-requires
+    returns
+    add-k
+    loop-less
+    loop-again
+    returns-2)

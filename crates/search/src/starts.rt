@@ -1,0 +1,80 @@
+// Which entries can start where one opens: whether a pair may be taken there at once depends on the first letter of the form alone.
+ghost use mathlib.Core.Path.{_≡_};
+ghost use Prim.Native.Nat.{ℕ, _≤_, _<_};
+ghost use Rattle.model.specs.GrammarOf.{grammarOf};
+ghost use Rattle.model.specs.Query.{queryOf};
+ghost use Rattle.image.specs.Header.{headerOf};
+ghost use Rattle.image.specs.Accepted.{Accepted};
+ghost use Rattle.image.specs.Index.{indexOf};
+ghost use Rattle.listing.specs.Asked.{requestOf};
+ghost use Rattle.listing.specs.Places.{restOf, nodeOf, Standing};
+ghost use Rattle.listing.specs.Search.{headOf};
+ghost use Rattle.search.specs.FirstLetters.{startsAt, seenAt};
+use image::Header;
+use listing::asked::Direction;
+use listing::place::Place;
+
+// The first letter of the form of entry e, 0 where it has none: the bytes after a form are 0.
+pub fn first_letter(image: &[u8], h: Header, e: usize) -> usize
+    requires { ⌜ Accepted (now image) (headerOf h) ⌝ }
+    requires { ⌜ e < h .entries ⌝ }
+    ensures { λ r. ⌜ (r ≡ headOf (grammarOf (now (image .entry)) .form e)) × (r ≤ h .letters) ⌝ }
+{
+    image::byte_at(image, lexicon::entry_start(h, e) + 1)
+}
+
+// Whether some candidate pair of the next letter may be taken here.
+fn can_start(
+    image: &[u8],
+    index: &[u8],
+    h: Header,
+    d: Direction,
+    asked: &[u8],
+    place: Place,
+    letter: usize,
+) -> bool
+    requires { ⌜ Accepted (now image) (headerOf h) ⌝ }
+    requires { ⌜ now index ≡ indexOf (now image) ⌝ }
+    requires { ⌜ Standing (now image) place ⌝ }
+    requires { ⌜ (letter ≡ headOf (restOf (now image) place)) × (letter ≤ h .letters) ⌝ }
+    ensures { λ r. ⌜ ((n m : ℕ) → m < 40 → r ≡ startsAt (now (image .entry)) (queryOf (requestOf d (now (asked .entry)))) (nodeOf (now (image .entry)) place n m) letter) ⌝ }
+{
+    let many = crate::here::candidate_count(image, index, h, letter);
+    let mut k: usize = 0;
+    while k < many {
+        let p = crate::here::candidate(image, index, h, letter, k);
+        let taken = listing::pairing::take(image, index, h, d, asked, place, p);
+        if taken.may {
+            return true;
+        }
+        k += 1;
+    }
+    false
+}
+
+// What is seen where entry e, which begins with this letter, opens: 1 where no pair may be taken, 2 where one may, or the form is empty.
+pub fn look(
+    image: &[u8],
+    index: &[u8],
+    h: Header,
+    d: Direction,
+    asked: &[u8],
+    place: Place,
+    e: usize,
+    letter: usize,
+) -> u8
+    requires { ⌜ Accepted (now image) (headerOf h) ⌝ }
+    requires { ⌜ now index ≡ indexOf (now image) ⌝ }
+    requires { ⌜ Standing (now image) place ⌝ }
+    requires { ⌜ (e < h .entries) × ((letter ≡ headOf (grammarOf (now image) .form e)) × (letter ≤ h .letters)) ⌝ }
+    ensures { λ r. ⌜ ((n m : ℕ) → m < 40 → r ≡ seenAt (now (image .entry)) (queryOf (requestOf d (now (asked .entry)))) (nodeOf (now (image .entry)) place n m) e letter) ⌝ }
+{
+    if letter == 0 {
+        return 2;
+    }
+    let next = listing::place::enter(image, h, place, e);
+    if can_start(image, index, h, d, asked, next, letter) {
+        return 2;
+    }
+    1
+}
