@@ -1,0 +1,44 @@
+#!/usr/bin/env bash
+# The line program: the trials in tests/trials (a grammar, its input and what has to be printed; `lines` has the luz grammar), no image and one that
+# is too long, a line without end at constant memory, and a standard output that closes.
+set -eu
+cd "$(dirname "$0")/.."
+root=$PWD
+export CARGO_TARGET_DIR=$root/target/cargo
+(cd assemble && cargo build --offline --locked --quiet --release)
+rt check lines >/dev/null
+work=$(mktemp -d)
+trap 'rm -rf "$work"' EXIT
+cd "$work"
+
+for input in "$root"/tests/trials/*.in; do
+    trial=${input%.in}
+    grammar=$trial.txt
+    [ -e "$grammar" ] || grammar=$root/grammars/luz.txt
+    "$CARGO_TARGET_DIR/release/assemble" "$grammar" grammar.img
+    "$root/target/bin/lines" <"$input" | diff - "$trial.out"
+    echo "$(basename "$trial"): as stored"
+done
+
+# an image that is too long, by a byte and by far, and none at all
+head -c 65537 /dev/zero >grammar.img
+[ "$(echo 2 | "$root/target/bin/lines")" = "refused 1" ]
+head -c 1000000 /dev/zero >grammar.img
+[ "$(echo 2 | "$root/target/bin/lines")" = "refused 1" ]
+rm grammar.img
+[ "$(printf '2\n?\n' | "$root/target/bin/lines" | tr '\n' ' ')" = "refused 1 unread " ]
+[ -z "$("$root/target/bin/lines" </dev/null)" ]
+echo "images that are not there or too long: refused"
+
+# 200 MB in one line, in 16 MB of memory
+"$CARGO_TARGET_DIR/release/assemble" "$root/grammars/luz.txt" grammar.img
+got=$( (ulimit -v 16384; { head -c 200000000 /dev/zero; printf '\n5 7 8\n'; } | "$root/target/bin/lines") | tr '\n' ' ')
+[ "$got" = "unread all 1 0 2 | 3 5 7 " ]
+echo "a line of 200 MB: unread, and the next is read"
+
+# a reader that goes away: the program ends by itself, whether the signal is taken or not
+yes '5 7 3 4 6' | "$root/target/bin/lines" 2>errors | head -n 1 >first || true
+[ "$(cat first)" = "all 2" ] && [ ! -s errors ]
+(trap '' PIPE; yes '5 7 3 4 6' 2>/dev/null | { "$root/target/bin/lines"; echo "ended with $?" >ended; } | head -n 1 >first) || true
+[ "$(cat ended)" = "ended with 0" ]
+echo "a standard output that closes: ends"
