@@ -8,7 +8,7 @@
  *   - each pointer is to at least as many bytes as the length after it says, and is not NULL, even where the length is 0;
  *   - the ranges lent to one call do not overlap, save that two ranges that are only read may;
  *   - no other thread writes to a lent range during the call, and none reads one that the call may write;
- *   - about 100 kilobytes of stack.
+ *   - 128 kilobytes of stack are free.
  *
  * Every reply is one number r. r % 4 == 3 is a refusal, numbered r / 4:
  *    1  image length 0, over 65,536, or no multiple of 512
