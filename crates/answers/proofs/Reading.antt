@@ -2,19 +2,18 @@
 use Prim.Native.Nat.{ℕ, suc, _+_, _-_, _<_, _≤_, min}
 use native.Mathlib.Omega.{arith}
 use native.Mathlib.Decide.{ℕ-discrete}
-use mathlib.Core.Bool.{Bool, true, false, _&&_, not, cond}
-use mathlib.Core.Path.{_≡_, refl, sym, ap, ap₂, _∙_, subst}
+use mathlib.Core.Bool.{Bool, true, false, cond}
+use mathlib.Core.Path.{_≡_, refl, sym, ap, _∙_, subst}
 use mathlib.Core.List.{List, [], _∷_, _++_, append-assoc, append-nil}
 use lib.ListN.{length, getD, take, drop, length-take, length-drop}
 use lib.Seq.{take-all, take-suc, getD-drop}
-use lib.Dec.{leb, eqb}
+use lib.Dec.{eqb}
 use borrow.Author.Tests.{lt-leb, eq-eqb, ne-eqb}
-use Rattle.model.specs.Lists.{every, given, flatMap}
+use Rattle.model.specs.Lists.{flatMap}
 use Rattle.model.specs.Query.{analysis}
-use Rattle.model.specs.Refusals.{Verdict, accepted, refused, imageTests, imageVerdict, ownTests, requestTests}
+use Rattle.model.specs.Refusals.{accepted, refused, imageTests, imageVerdict, ownTests, requestTests}
 use Rattle.model.specs.Rows.{Reply}
 use Rattle.model.specs.Calls.{requestVerdict, listingReply, listingRows}
-use Rattle.model.specs.Tree.{isNil}
 use Rattle.model.specs.Lines as lines
 use Rattle.model.specs.Lines.{lineOf, linesFrom, linesOf, printedReply, printedLine, printed}
 use Rattle.grammar.proofs.Verdicts.{tests-refused}

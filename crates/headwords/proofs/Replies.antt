@@ -2,11 +2,10 @@
 use Prim.Native.Nat.{ℕ, suc, _+_, _<_, _≤_}
 use native.Mathlib.Numerals.{add-one}
 use native.Mathlib.Omega.{arith}
-use mathlib.Core.Bool.{cond}
 use mathlib.Core.Path.{_≡_, refl, sym, ap, ap₂, _∙_}
-use mathlib.Core.List.{List, [], _∷_, _++_, append-nil}
+use mathlib.Core.List.{List, _++_}
 use lib.ListN.{length, getD, set, take, drop, length-take}
-use lib.Seq.{take-suc, take-all, drop-cons, set-at, append-snoc}
+use lib.Seq.{take-suc, drop-cons, set-at, append-snoc}
 use lib.Dec.{leb}
 use borrow.Author.Tests.{le-leb, lt-leb}
 use Rattle.model.specs.Query.{Request}
@@ -16,7 +15,7 @@ use Rattle.model.specs.Beside.{formReply, viewed}
 use Rattle.model.specs.Beside as beside
 use Rattle.rows.proofs.Fill.{replyAfter-rows}
 use Rattle.grammar.proofs.Verdicts.{view-agrees}
-use Rattle.headwords.specs.Numbers.{formNumber, afterForm}
+use Rattle.headwords.specs.Numbers.{afterForm}
 
 pub listing-rows : (image : List ℕ) (request : Request) (rows : ℕ) → replyRows (listingReply image request rows) ≤ rows
 unfolding listingReply

@@ -1,5 +1,5 @@
 -- What is known at the heads of the search's two loops, and what each turn takes from it.
-use Prim.Native.Nat.{ℕ, suc, pred, _+_, _*_, _-_, _<_, _≤_}
+use Prim.Native.Nat.{ℕ, suc, _+_, _-_, _<_, _≤_}
 use native.Mathlib.Numerals.{add-one}
 use native.Mathlib.Omega.{arith}
 use mathlib.Core.Bool.{Bool, true, false, not, true≢false}
@@ -14,11 +14,10 @@ use Rattle.model.specs.GrammarOf.{grammarOf}
 use Rattle.model.specs.Readings.{Reading}
 use Rattle.model.specs.Rows.{rowCount}
 use Rattle.model.specs.Query.{Query}
-use Rattle.model.specs.Tree.{Node, mayAt, goAt, complete}
-use Rattle.image.specs.Accepted.{Accepted}
+use Rattle.model.specs.Tree.{mayAt, goAt, complete}
 use Rattle.image.specs.Index.{candidates}
 use Rattle.rows.specs.declared.Trail.{Trail}
-use Rattle.rows.specs.Trail.{readingOf, withEntry, withPair, Short, Holds}
+use Rattle.rows.specs.Trail.{readingOf, withEntry, withPair, Holds}
 use Rattle.rows.specs.Fill.{putAll}
 use Rattle.rows.proofs.Fill.{putAll-append}
 use Rattle.listing.specs.declared.place.Place.{Place}

@@ -1,5 +1,5 @@
 -- The search begins at the root of the model's tree, with nothing read.
-use Prim.Native.Nat.{ℕ, _<_, _≤_}
+use Prim.Native.Nat.{ℕ}
 use native.Mathlib.Omega.{arith}
 use mathlib.Core.Bool.{false}
 use mathlib.Core.Logic.{inl}

@@ -1,8 +1,6 @@
 -- `prepare` meets its contract.
 use borrow.Author.Needs.{needs}
-use mathlib.Core.Path.{_≡_, refl, sym, ap, _∙_, subst}
-use native.Mathlib.Omega.{arith}
-use Prim.Native.Nat.{ℕ}
+use mathlib.Core.Path.{_≡_, sym, ap, _∙_, subst}
 use Rattle.model.specs.Blocks.{header}
 use Rattle.model.specs.Refusals.{accepted, imageVerdict}
 use Rattle.image.specs.Accepted.{Accepted}

@@ -2,8 +2,6 @@
 use borrow.Author.Needs.{needs}
 use native.Mathlib.Omega.{arith}
 use mathlib.Core.Path.{sym, subst}
-use Prim.Native.Nat.{_+_, _≤_}
-use lib.ListN.{length}
 use lib.Seq.{length-take-le}
 use Rattle.print.proofs.Text.{put-same, put-none}
 use Rattle.parse.specs.Fields.{Begun}

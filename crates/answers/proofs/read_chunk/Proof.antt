@@ -1,9 +1,9 @@
 -- `read_chunk` meets its contract: byte after byte, while there is room for an answer.
 use borrow.Author.Needs.{needs}
 use native.Mathlib.Omega.{arith}
-use mathlib.Core.Path.{_≡_, sym, ap, _∙_}
-use Prim.Native.Nat.{ℕ, _+_, _-_, _<_, _≤_}
-use lib.ListN.{length, getD}
+use mathlib.Core.Path.{_≡_, sym, _∙_}
+use Prim.Native.Nat.{_-_}
+use lib.ListN.{length}
 use Rattle.answers.proofs.Reading.{Progress, progress-none, progress-more, moved}
 use Rattle.answers.proofs.read_chunk.Statement.{statement}
 use Rattle.answers.proofs.read_chunk.Tie as tie

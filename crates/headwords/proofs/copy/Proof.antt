@@ -1,10 +1,10 @@
 -- `copy` meets its contract: after i turns the first i letters stand in the buffer.
 use borrow.Author.Needs.{needs}
 use native.Mathlib.Omega.{arith}
-use mathlib.Core.Path.{_≡_, refl, sym, ap, ap₂, _∙_}
+use mathlib.Core.Path.{_≡_, refl, ap, ap₂, _∙_}
 use mathlib.Core.List.{List, _++_}
-use Prim.Native.Nat.{ℕ, _+_, _-_, _<_, _≤_}
-use lib.ListN.{length, getD, set, take, drop, length-set, length-append, length-take, length-drop}
+use Prim.Native.Nat.{ℕ, _+_, _-_, _≤_}
+use lib.ListN.{length, getD, set, take, drop, length-set}
 use lib.Seq.{take-all}
 use Rattle.headwords.proofs.Replies.{copied-more}
 use Rattle.headwords.proofs.copy.Statement.{statement}

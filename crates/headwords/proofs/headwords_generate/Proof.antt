@@ -1,8 +1,7 @@
 -- `headwords_generate` meets its contract: the reply's number is in range, since a reply has at most as many rows as the buffer.
 use borrow.Author.Needs.{needs}
 use native.Mathlib.Omega.{arith}
-use mathlib.Core.Path.{_≡_, ap, _∙_}
-use Prim.Native.Nat.{ℕ, _<_, _≤_, _/_, _^_}
+use mathlib.Core.Path.{ap, _∙_}
 use Rattle.model.specs.Query.{generation}
 use Rattle.model.specs.Rows.{rowCount, replyNumber}
 use Rattle.model.specs.Demand.{replyRows}

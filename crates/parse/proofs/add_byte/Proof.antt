@@ -1,8 +1,6 @@
 -- `add_byte` meets its contract.
 use borrow.Author.Needs.{needs}
 use native.Mathlib.Omega.{arith}
-use Prim.Native.Nat.{_<_, _≤_}
-use lib.ListN.{length}
 use Rattle.parse.proofs.Begun.{begun-more, begun-full}
 use Rattle.parse.proofs.add_byte.Statement.{statement}
 use Rattle.parse.proofs.add_byte.Tie as tie

@@ -2,11 +2,10 @@
 use borrow.Author.Needs.{needs}
 use native.Mathlib.Omega.{arith}
 use native.Mathlib.Decide.{ℕ-discrete}
-use mathlib.Core.Path.{_≡_, ap, _∙_, subst}
+use mathlib.Core.Path.{_≡_, subst}
 use mathlib.Core.List.{List}
 use Prim.Native.Nat.{ℕ, _+_, _-_, _<_, _≤_}
-use lib.ListN.{length, getD}
-use Rattle.parse.specs.Fields.{EndsField}
+use lib.ListN.{getD}
 use Rattle.parse.proofs.field_end.Statement.{statement}
 use Rattle.parse.proofs.field_end.Tie as tie
 

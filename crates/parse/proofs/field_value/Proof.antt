@@ -3,11 +3,11 @@ use borrow.Author.Needs.{needs}
 use native.Mathlib.Omega.{arith}
 use mathlib.Core.Bool.{false}
 use mathlib.Core.Path.{_≡_, refl, ap, _∙_}
-use Prim.Native.Nat.{ℕ, _+_, _*_, _-_, _<_, _≤_}
+use Prim.Native.Nat.{_-_, _<_, _≤_}
 use lib.ListN.{length, getD, take, drop}
 use borrow.Author.Tests.{lt-leb, le-leb}
 use Rattle.model.specs.Lists.{within}
-use Rattle.parse.proofs.Fields.{Digits, limit, limit-most, digits-none, digits-more, part-length, part-at, told-empty, told-long, told-other, told-value}
+use Rattle.parse.proofs.Fields.{Digits, limit-most, digits-none, digits-more, part-length, part-at, told-empty, told-long, told-other, told-value}
 use Rattle.parse.proofs.field_value.Statement.{statement}
 use Rattle.parse.proofs.field_value.Tie as tie
 

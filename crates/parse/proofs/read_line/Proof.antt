@@ -1,8 +1,8 @@
 -- `read_line` meets its contract: field after field, each a number whose value is a letter more.
 use borrow.Author.Needs.{needs}
 use native.Mathlib.Omega.{arith}
-use mathlib.Core.Path.{_≡_, refl, sym, ap, _∙_}
-use Prim.Native.Nat.{ℕ, _+_, _*_, _-_, _<_, _≤_}
+use mathlib.Core.Path.{refl, sym, ap, _∙_}
+use Prim.Native.Nat.{_+_, _-_, _<_, _≤_}
 use lib.ListN.{length, length-set}
 use Rattle.model.specs.Lines as lines
 use Rattle.parse.proofs.Fields.{Read, read-none, letter-room, read-bad, read-last, read-more, line-none, line-some}
