@@ -1,6 +1,6 @@
 //! A lent range lies between guard bytes, so that a write past either end is seen.
 
-use crate::prng::Prng;
+use draw::prng::Prng;
 
 const GUARD: usize = 48;
 

@@ -1,22 +1,18 @@
 //! Every call is made to the linked library and to the second engine, and the first reply or byte that differs ends the run.
 
-mod damage;
-mod grammars;
-mod inputs;
 mod lent;
 mod library;
-mod prng;
-mod tables;
 mod tally;
 
-use damage::{damaged, damaged_often, Damaged};
-use inputs::{any_room, entry, room, Pool};
+use draw::damage::{damaged, damaged_often, Damaged};
+use draw::grammars;
+use draw::inputs::{any_room, entry, room, Pool};
+use draw::prng::Prng;
 use lent::Lent;
 use other_engine::calls::{self, Known};
 use other_engine::image::{read, BLOCK};
 use other_engine::listing::{list, refused};
 use other_engine::reading::{Reading, Stop};
-use prng::Prng;
 use std::process::exit;
 use tally::{Kind, Tally};
 

@@ -4,6 +4,7 @@ pub mod calls;
 pub mod draft;
 pub mod grammar;
 pub mod image;
+pub mod lines;
 pub mod listing;
 pub mod pairings;
 pub mod paths;

@@ -6,7 +6,7 @@ use crate::grammar::{Grammar, NULL};
 pub struct Budget(u64);
 
 /// The budget is spent.
-#[derive(Debug)]
+#[derive(Clone, Copy, Debug, PartialEq, Eq)]
 pub struct TooBig;
 
 /// The units of one call.
