@@ -7,6 +7,6 @@ export CARGO_TARGET_DIR=$PWD/target/cargo
 rt staticlib headwords >/dev/null
 export HEADWORDS_LIB_DIR=$PWD/target/staticlib
 cd engine
-cargo test --offline --locked --quiet -p other_engine
+cargo test --offline --locked --quiet
 cargo build --offline --locked --quiet --release -p compare
 "$CARGO_TARGET_DIR/release/compare" "$@"
