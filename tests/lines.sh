@@ -30,9 +30,9 @@ rm grammar.img
 [ -z "$("$root/target/bin/lines" </dev/null)" ]
 echo "images that are not there or too long: refused"
 
-# 200 MB in one line, in 16 MB of memory
+# 200 MB in one line, in 64 MB of memory
 "$CARGO_TARGET_DIR/release/assemble" "$root/grammars/luz.txt" grammar.img
-got=$( (ulimit -v 16384; { head -c 200000000 /dev/zero; printf '\n5 7 8\n'; } | "$root/target/bin/lines") | tr '\n' ' ')
+got=$( (ulimit -v 65536; { head -c 200000000 /dev/zero; printf '\n5 7 8\n'; } | "$root/target/bin/lines") | tr '\n' ' ')
 [ "$got" = "unread all 1 0 2 | 3 5 7 " ]
 echo "a line of 200 MB: unread, and the next is read"
 
