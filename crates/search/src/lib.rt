@@ -59,7 +59,7 @@ pub fn open(
     let mut n = found;
     let mut k: usize = 0;
     while k < count {
-        if n > capacity {
+        if capacity < n {
             return n;
         }
         let e = low + k;
