@@ -42,10 +42,6 @@ module _ (first l : List ℕ) (same : first ≡ take 256 l) where
   pub first-whole : length first ≤ 255 → first ≡ l
   first-whole h = same ∙ take-all 256 l (omega (arith, first-length))
 
--- a line begun, as its first 256 bytes
-pub begun-first : (buffer : List ℕ) (n : ℕ) (l : List ℕ) → Begun buffer n l → take n buffer ≡ take 256 l
-begun-first buffer n l b = b .bytes
-
 -- on a refused image every word gets the refusal
 pub refused-line : (image word : List ℕ) (k : ℕ) → imageVerdict image ≡ refused k → printedReply (Reply.refused k) ≡ printedLine image (lines.letters word)
 unfolding printedLine listingReply listingRows requestVerdict requestTests imageVerdict
