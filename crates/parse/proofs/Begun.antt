@@ -2,11 +2,20 @@
 use Prim.Native.Nat.{ℕ, _+_, _<_, _≤_}
 use native.Mathlib.Numerals.{add-one}
 use native.Mathlib.Omega.{arith}
-use mathlib.Core.Path.{_≡_, sym, ap, _∙_}
+use mathlib.Core.Path.{_≡_, refl, sym, ap, _∙_}
 use mathlib.Core.List.{List, [], _∷_, _++_}
 use lib.ListN.{length, set, take, length-append}
 use lib.Seq.{take-all, take-suc-set, take-append-le}
-use Rattle.parse.specs.Fields.{Begun}
+use borrow.Author.Tests.{lt-ltb, le-ltb}
+use Rattle.parse.specs.Fields.{Begun, lineAfter}
+
+pub line-room : (buffer : List ℕ) (n b : ℕ) → n < 256 → set buffer n b ≡ lineAfter buffer n b
+unfolding lineAfter
+line-room buffer n b h = rw (lt-ltb n 256 h) refl
+
+pub line-full : (buffer : List ℕ) (n b : ℕ) → 256 ≤ n → buffer ≡ lineAfter buffer n b
+unfolding lineAfter
+line-full buffer n b h = rw (le-ltb n 256 h) refl
 
 module _ (buffer : List ℕ) (n b : ℕ) (l : List ℕ) (begun : Begun buffer n l) where
   longer : length (l ++ (b ∷ [])) ≡ length l + 1

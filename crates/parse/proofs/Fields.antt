@@ -6,15 +6,15 @@ use native.Mathlib.Decide.{decLt}
 use mathlib.Core.Bool.{Bool, true, false, _&&_, cond, true≢false}
 use mathlib.Core.Path.{_≡_, refl, sym, ap, ap₂, _∙_}
 use mathlib.Core.List.{List, [], _∷_, _++_, map, append-assoc, append-nil}
-use lib.ListN.{length, getD, set, take, drop, length-set, length-take, length-drop}
-use lib.Seq.{take-suc, take-suc-set, drop-cons, drop-length, getD-take, getD-drop}
+use lib.ListN.{length, getD, set, take, drop, length-set, length-take, length-drop, take-append-drop}
+use lib.Seq.{take-suc, take-suc-set, drop-set-lt, drop-drop, drop-cons, drop-length, getD-take, getD-drop, length-take-le}
 use lib.Dec.{leb}
 use borrow.Author.Tests.{le-leb, lt-leb, ne-eqb}
 use Rattle.model.specs.Lists.{every, within}
 use Rattle.model.specs.Lines as lines
 use Rattle.model.specs.Lines.{fieldsFrom, fieldsOf, valueFrom, valueOf, isNumber, lineOf}
 use Rattle.model.proofs.Lists.{every-append}
-use Rattle.parse.specs.Fields.{EndsField, ValueTold}
+use Rattle.parse.specs.Fields.{EndsField, ValueTold, firstValues, wordAfter}
 
 -- the field that ends at `to`
 module _ (line : List ℕ) where
@@ -168,17 +168,30 @@ unfolding lineOf
 line-some [] h k = absurd (omega arith)
 line-some (b ∷ bs) h k = rw (le-leb (length (b ∷ bs)) 255 k) refl
 
--- what has been read of a line: the fields before `from` are numbers, and so many letters in the buffer
-pub record Read (line word : List ℕ) (from letters : ℕ) : Type 0 where
+-- no field of an empty line is a number
+pub word-none : (line word : List ℕ) → length line ≡ 0 → word ≡ wordAfter line word
+unfolding fieldsOf fieldsFrom firstValues isNumber
+word-none [] word h = refl
+word-none (b ∷ bs) word h = absurd (omega arith)
+
+-- what has been read of a line: the fields before `from` are numbers, and so many letters in the buffer, which held others before
+pub record Read (line word₀ word : List ℕ) (from letters : ℕ) : Type 0 where
   pub numbers : every isNumber (fieldsOf line) ≡ every isNumber (fieldsOf (drop from line))
   pub values : map valueOf (fieldsOf line) ≡ take letters word ++ map valueOf (fieldsOf (drop from line))
+  pub first : firstValues (fieldsOf line) ≡ take letters word ++ firstValues (fieldsOf (drop from line))
+  pub kept : drop letters word ≡ drop letters word₀
   pub few : 2 * letters ≤ from
   pub long : length word ≡ 128
 
-pub read-none : (line word : List ℕ) → length word ≡ 128 → Read line word 0 0
-read-none line word w = record { numbers = refl; values = refl; few = omega arith; long = w }
+pub read-none : (line word : List ℕ) → length word ≡ 128 → Read line word word 0 0
+read-none line word w = record { numbers = refl; values = refl; first = refl; kept = refl; few = omega arith; long = w }
 
-module _ (line word : List ℕ) (from letters to value : ℕ) (short : length line ≤ 255) (done : Read line word from letters) (ends : EndsField line from to) (told : ValueTold (take (to - from) (drop from line)) value) where
+-- the buffer is these letters and what it held before
+word-is : (line word₀ word : List ℕ) (letters : ℕ) → letters ≤ length word → firstValues (fieldsOf line) ≡ take letters word → drop letters word ≡ drop letters word₀ → word ≡ wordAfter line word₀
+word-is line word₀ word letters h e k =
+    sym (take-append-drop letters word) ∙ rw (e, length-take-le letters word h) (ap (λ (l : List ℕ). take letters word ++ l) k)
+
+module _ (line word₀ word : List ℕ) (from letters to value : ℕ) (short : length line ≤ 255) (done : Read line word₀ word from letters) (ends : EndsField line from to) (told : ValueTold (take (to - from) (drop from line)) value) where
   -- the letters come first
   pub letter-room : letters < length word
   letter-room = omega (arith, done .few, done .long, ends .in-order, ends .inside, short)
@@ -190,6 +203,18 @@ module _ (line word : List ℕ) (from letters to value : ℕ) (short : length li
       go (yes k) = rw (more-fields line from to ends k, told .none h) refl
       go (no k) = rw (last-field line from to ends (omega (arith, ends .inside)), told .none h) refl
 
+  pub word-bad : 255 < value → word ≡ wordAfter line word₀
+  unfolding firstValues
+  word-bad h = word-is line word₀ word letters (omega (arith, letter-room)) (done .first ∙ go (decLt to (length line)) ∙ append-nil (take letters word)) (done .kept)
+    where
+      go : Dec (to < length line) → take letters word ++ firstValues (fieldsOf (drop from line)) ≡ take letters word ++ []
+      go (yes k) = rw (more-fields line from to ends k, told .none h) refl
+      go (no k) = rw (last-field line from to ends (omega (arith, ends .inside)), told .none h) refl
+
+  kept-more : drop (letters + 1) (set word letters value) ≡ drop (letters + 1) word₀
+  kept-more =
+      drop-set-lt (letters + 1) word letters value (omega arith) ∙ sym (drop-drop 1 letters word) ∙ ap (drop 1) (done .kept) ∙ drop-drop 1 letters word₀
+
   put : value ≤ 255 → take (letters + 1) (set word letters value) ≡ take letters word ++ (valueOf (take (to - from) (drop from line)) ∷ [])
   put h = ap (λ (n : ℕ). take n (set word letters value)) (add-one letters) ∙ take-suc-set word letters value letter-room ∙ ap (λ (v : ℕ). take letters word ++ (v ∷ [])) (sym (told .number h .1))
 
@@ -199,10 +224,19 @@ module _ (line word : List ℕ) (from letters to value : ℕ) (short : length li
     done .values ∙ rw (last-field line from to ends e) (sym (put h)),
   )
 
-  pub read-more : to < length line → value ≤ 255 → Read line (set word letters value) (to + 1) (letters + 1)
+  pub word-last : to ≡ length line → value ≤ 255 → set word letters value ≡ wordAfter line word₀
+  unfolding firstValues
+  word-last e h =
+      word-is line word₀ (set word letters value) (letters + 1) (omega (arith, letter-room, length-set word letters value))
+      (done .first ∙ rw (last-field line from to ends e, told .number h .0) (sym (put h))) kept-more
+
+  pub read-more : to < length line → value ≤ 255 → Read line word₀ (set word letters value) (to + 1) (letters + 1)
+  unfolding firstValues
   read-more k h = record {
     numbers = done .numbers ∙ rw (more-fields line from to ends k, told .number h .0) refl;
     values = done .values ∙ rw (more-fields line from to ends k, put h) (sym (append-assoc (take letters word) (valueOf (take (to - from) (drop from line)) ∷ []) (map valueOf (fieldsOf (drop (to + 1) line)))));
+    first = done .first ∙ rw (more-fields line from to ends k, told .number h .0, put h) (sym (append-assoc (take letters word) (valueOf (take (to - from) (drop from line)) ∷ []) (firstValues (fieldsOf (drop (to + 1) line)))));
+    kept = kept-more;
     few = omega (arith, done .few, part-length line from to (ends .in-order) (ends .inside), number-some (take (to - from) (drop from line)) (told .number h .0));
     long = length-set word letters value ∙ done .long;
   }

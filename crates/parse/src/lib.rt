@@ -4,7 +4,7 @@ ghost use mathlib.Core.List.{List, _++_, _∷_, []};
 ghost use Prim.Native.Nat.{ℕ, _+_, _-_, _≤_, _<_};
 ghost use lib.ListN.{length, take, drop};
 ghost use Rattle.model.specs.Lines.{lineOf};
-ghost use Rattle.parse.specs.Fields.{Begun, EndsField, ValueTold, lineWith, letterCount};
+ghost use Rattle.parse.specs.Fields.{Begun, EndsField, ValueTold, lineAfter, wordAfter, lineWith, letterCount};
 
 // The letters of a word in a lent buffer, or a line that holds none.
 pub enum Line {
@@ -17,6 +17,7 @@ pub fn add_byte(line: &mut [u8], n: usize, b: u8) -> usize
     requires { ⌜ (length (now line) ≡ 256) × (n ≤ 256) ⌝ }
     ensures grows { λ r. ⌜ ((l : List ℕ) → Begun (now (line .entry)) n l → Begun (now (line .exit)) r (l ++ (b ∷ []))) ⌝ }
     ensures few { λ r. ⌜ r ≤ 256 ⌝ }
+    ensures bytes { λ _. ⌜ now (line .exit) ≡ lineAfter (now (line .entry)) n b ⌝ }
 {
     if n < 256 {
         line[n] = b;
@@ -73,6 +74,7 @@ pub fn read_line(line: &[u8], word: &mut [u8]) -> Line
     requires { ⌜ (length (now line) ≤ 255) × (length (now word) ≡ 128) ⌝ }
     ensures word { λ r. ⌜ lineWith (now (word .exit)) r ≡ lineOf (now (line .entry)) ⌝ }
     ensures few { λ r. ⌜ letterCount r ≤ 128 ⌝ }
+    ensures bytes { λ _. ⌜ now (word .exit) ≡ wordAfter (now (line .entry)) (now (word .entry)) ⌝ }
 {
     let n = line.len();
     if n == 0 {

@@ -5,7 +5,7 @@ use native.Mathlib.Omega.{arith}
 use mathlib.Core.Path.{_≡_, refl, sym, ap, _∙_}
 use mathlib.Core.List.{List, [], _∷_, _++_, append-assoc, append-nil, List·Memᴰ, List·Memᴰ·head, List·Memᴰ·tail}
 use lib.ListN.{length, getD, set, take, drop, length-append, length-set}
-use lib.Seq.{take-suc-set, take-all, ext-getD}
+use lib.Seq.{take-suc-set, drop-set-lt, drop-drop, take-all, ext-getD}
 use Rattle.model.specs.Lists.{flatMap, number, numberBytes}
 use Rattle.model.specs.Readings.{Reading}
 use Rattle.model.specs.Rows.{padded, rowNumbers, rowBytes, rowAt}
@@ -22,18 +22,26 @@ module _ {before after : List ℕ} {at end : ℕ} where
 
   -- text after text
   pub put-then : {last : List ℕ} {stop : ℕ} {text more : List ℕ} → Put before after at end text → Put after last end stop more → Put before last at stop (text ++ more)
-  put-then {text = text} {more = more} p q = record {
-    same-length = q .same-length ∙ p .same-length;
-    written = q .written ∙ ap (λ (l : List ℕ). l ++ more) (p .written) ∙ append-assoc (take at before) text more;
-    ends = omega (arith, length-append text more);
-  }
+  put-then {last} {stop} {text} {more} p q =
+      let later : end + (stop - end) ≡ stop = omega (arith, q .ends) in
+      record {
+        same-length = q .same-length ∙ p .same-length;
+        written = q .written ∙ ap (λ (l : List ℕ). l ++ more) (p .written) ∙ append-assoc (take at before) text more;
+        ends = omega (arith, length-append text more);
+        kept = q .kept
+            ∙ sym (ap (λ (n : ℕ). drop n after) later)
+            ∙ sym (drop-drop (stop - end) end after)
+            ∙ ap (drop (stop - end)) (p .kept)
+            ∙ drop-drop (stop - end) end before
+            ∙ ap (λ (n : ℕ). drop n before) later;
+      }
 
 module _ (buffer : List ℕ) (at : ℕ) where
   pub put-none : Put buffer buffer at at []
-  put-none = record { same-length = refl; written = sym (append-nil (take at buffer)); ends = omega arith }
+  put-none = record { same-length = refl; written = sym (append-nil (take at buffer)); ends = omega arith; kept = refl }
 
   pub put-one : (b : ℕ) → at < length buffer → Put buffer (set buffer at b) at (at + 1) (b ∷ [])
-  put-one b h = record { same-length = length-set buffer at b; written = rw add-one (take-suc-set buffer at b h); ends = refl }
+  put-one b h = record { same-length = length-set buffer at b; written = rw add-one (take-suc-set buffer at b h); ends = refl; kept = drop-set-lt (at + 1) buffer at b (omega arith) }
 
 -- a row's line, where e and p are its counts
 pub row-text : (row : List ℕ) {e p : ℕ} → e ≡ number row 0 → p ≡ number row 34

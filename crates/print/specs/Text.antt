@@ -2,17 +2,18 @@
 use Prim.Native.Nat.{ℕ, zero, suc, _+_, _*_, _<_, _≤_}
 use mathlib.Core.Path.{_≡_}
 use mathlib.Core.List.{List, _∷_, _++_, map}
-use lib.ListN.{length, take}
+use lib.ListN.{length, take, drop}
 use Rattle.model.specs.Lists.{below, flatMap, number}
 use Rattle.model.specs.Readings.{Reading}
 use Rattle.model.specs.Rows.{rowAt}
 use Rattle.model.specs.Lines.{decimal, printedRow}
 
--- text that begins at one place of a buffer and ends at another; what stands before it is kept
+-- text that begins at one place of a buffer and ends at another; what stands before it and after it is kept
 pub record Put (before after : List ℕ) (at end : ℕ) (text : List ℕ) : Type 0 where
   pub same-length : length after ≡ length before
   pub written : take end after ≡ take at before ++ text
   pub ends : end ≡ at + length text
+  pub kept : drop end after ≡ drop end before
 
 -- n two-byte numbers, the first at this byte
 abbrev pub numbersFrom : List ℕ → ℕ → ℕ → List ℕ
