@@ -1,70 +1,186 @@
 // The line program: words from standard input, a line of letter numbers each, by the grammar in grammar.img; the readings on standard output.
-// What is read and printed is proved in `answers`; here bytes are moved.
+mod answers;
+mod input;
+
 ghost use mathlib.Core.Path.{_≡_};
-ghost use Prim.Native.Nat.{_≤_};
+ghost use mathlib.Core.List.{List};
+ghost use Prim.Native.Nat.{ℕ};
 ghost use lib.ListN.{length};
-ghost use Rattle.io.specs.Counts.{Counts};
 ghost use Rattle.image.specs.Header.{headerOf};
 ghost use Rattle.grammar.specs.Answers.{verdictOf};
-ghost use Rattle.answers.specs.Ready.{Ready};
+ghost use Rattle.lines.specs.OnceARun.{OnceARun};
+ghost use Rattle.lines.specs.Sofar.{Rooms, Within, Stepped, Ended};
 use answers::Prepared;
-use answers::Reached;
-use libc::STDIN_FILENO;
-use libc::STDOUT_FILENO;
+use input::Reached;
+use moving::Count;
+use moving::Given;
+use moving::Taken;
 
-// Puts the image into the buffer and answers its length: 0 where it can't be read. The buffer has one byte more than an image may have, so that a
-// longer file is refused.
-fn read_image(image: &mut [u8]) -> usize
-    ensures { λ r. ⌜ Counts r (now (image .exit)) ⌝ }
-{
-    let file = os::open_read(b"grammar.img");
-    if file < 0 {
-        return 0;
-    }
-    let n = io::read_full(file, image);
-    libc::close(file);
-    n
+// Where the program stands: how many bytes are kept of the line begun; the bytes of the chunk, from `at` to `n`, that are not answered yet; how many
+// bytes have come in and gone out.
+pub struct Stand {
+    pub kept: usize,
+    pub at: usize,
+    pub n: usize,
+    pub taken: Count,
+    pub handed: Count,
 }
 
-// Answers the lines that end in a chunk, and writes the answers. It gives back how many bytes of the line begun are kept, or 257 where standard
-// output takes no more.
-fn answer_chunk(
+// After a step: go on, all is answered, or a call failed.
+pub enum Step {
+    On(Stand),
+    Over(Count),
+    Stopped,
+}
+
+// Answers bytes of the chunk that wait, as many as `out` has room for, and hands the answers over.
+fn answer_part(
     image: &[u8],
     index: &[u8],
     run: Prepared,
     chunk: &[u8],
     line: &mut [u8],
-    kept: usize,
     word: &mut [u8],
     rows: &mut [u8],
     out: &mut [u8],
-) -> usize
-    requires { ⌜ Ready (now image) (now index) (headerOf (run .h)) (verdictOf (run .verdict)) ⌝ }
-    requires { ⌜ (length (now line) ≡ 256) × (kept ≤ 256) ⌝ }
-    requires { ⌜ (length (now word) ≡ 128) × (length (now rows) ≡ 7424) ⌝ }
-    requires { ⌜ length (now out) ≡ 65536 ⌝ }
+    s: Stand,
+) -> Step
+    requires { ⌜ OnceARun (now image) (now index) (headerOf (run .h)) (verdictOf (run .verdict)) ⌝ }
+    requires { ⌜ (length (now chunk) ≡ 65536) × Rooms (now line) (now word) (now rows) (now out) ⌝ }
+    requires { ⌜ Within s ⌝ }
+    ensures { λ r. ⌜ Stepped (now (image .entry)) (now (chunk .entry)) (now (chunk .entry)) (now (line .entry)) (now (line .exit)) (now (out .exit)) s r ⌝ }
 {
-    let n = chunk.len();
-    let mut at: usize = 0;
-    let mut begun = kept;
-    while at < n {
-        let from = Reached {
-            kept: begun,
-            end: 0,
-        };
-        let read = answers::read_chunk(image, index, run, chunk, at, line, word, rows, out, from);
-        let reached = read.reached;
-        let end = reached.end;
-        if !io::write_all(STDOUT_FILENO, &out[..end]) {
-            return 257;
-        }
-        begun = reached.kept;
-        at = read.at;
+    let at = s.at;
+    let n = s.n;
+    let from = Reached {
+        kept: s.kept,
+        end: 0,
+    };
+    let read = input::read_chunk(
+        image,
+        index,
+        run,
+        &chunk[..n],
+        at,
+        line,
+        word,
+        rows,
+        out,
+        from,
+    );
+    let reached = read.reached;
+    let end = reached.end;
+    let taken = s.taken;
+    let handed = s.handed;
+    let given = moving::give(&out[..end], handed);
+    match given {
+        Given::Failed => Step::Stopped,
+        Given::All(count) => Step::On(Stand {
+            kept: reached.kept,
+            at: read.at,
+            n: n,
+            taken: taken,
+            handed: count,
+        }),
     }
-    begun
 }
 
-// Chunk after chunk, until the input ends or standard output takes no more. The count of reads is bounded so that the program ends on every input.
+// Answers a last line without its end, where there is one.
+fn answer_last(
+    image: &[u8],
+    index: &[u8],
+    run: Prepared,
+    line: &[u8],
+    word: &mut [u8],
+    rows: &mut [u8],
+    out: &mut [u8],
+    s: Stand,
+) -> Step
+    requires { ⌜ OnceARun (now image) (now index) (headerOf (run .h)) (verdictOf (run .verdict)) ⌝ }
+    requires { ⌜ Rooms (now line) (now word) (now rows) (now out) ⌝ }
+    requires { ⌜ Within s × (s .at ≡ s .n) ⌝ }
+    ensures { λ r. ⌜ ((chunk chunk′ : List ℕ) → Stepped (now (image .entry)) chunk chunk′ (now (line .entry)) (now (line .entry)) (now (out .exit)) s r) ⌝ }
+{
+    let from = Reached {
+        kept: s.kept,
+        end: 0,
+    };
+    let end = input::read_end(image, index, run, line, word, rows, out, from);
+    let handed = s.handed;
+    let gone = moving::give(&out[..end], handed);
+    match gone {
+        Given::Failed => Step::Stopped,
+        Given::All(count) => Step::Over(count),
+    }
+}
+
+// Where nothing waits: a chunk more, or at the end of the input the last line.
+fn take_chunk(
+    image: &[u8],
+    index: &[u8],
+    run: Prepared,
+    chunk: &mut [u8],
+    line: &[u8],
+    word: &mut [u8],
+    rows: &mut [u8],
+    out: &mut [u8],
+    s: Stand,
+) -> Step
+    requires { ⌜ OnceARun (now image) (now index) (headerOf (run .h)) (verdictOf (run .verdict)) ⌝ }
+    requires { ⌜ (length (now chunk) ≡ 65536) × Rooms (now line) (now word) (now rows) (now out) ⌝ }
+    requires { ⌜ Within s × (s .at ≡ s .n) ⌝ }
+    ensures { λ r. ⌜ Stepped (now (image .entry)) (now (chunk .entry)) (now (chunk .exit)) (now (line .entry)) (now (line .entry)) (now (out .exit)) s r ⌝ }
+{
+    let before = s.taken;
+    let came = moving::take_in(chunk, before);
+    match came {
+        Taken::Failed => Step::Stopped,
+        Taken::Nothing => Step::On(s),
+        Taken::End => answer_last(image, index, run, line, word, rows, out, s),
+        Taken::Bytes(n, count) => {
+            let handed = s.handed;
+            Step::On(Stand {
+                kept: s.kept,
+                at: 0,
+                n: n,
+                taken: count,
+                handed: handed,
+            })
+        }
+    }
+}
+
+fn turn(
+    image: &[u8],
+    index: &[u8],
+    run: Prepared,
+    chunk: &mut [u8],
+    line: &mut [u8],
+    word: &mut [u8],
+    rows: &mut [u8],
+    out: &mut [u8],
+    s: Stand,
+) -> Step
+    requires { ⌜ OnceARun (now image) (now index) (headerOf (run .h)) (verdictOf (run .verdict)) ⌝ }
+    requires { ⌜ (length (now chunk) ≡ 65536) × Rooms (now line) (now word) (now rows) (now out) ⌝ }
+    requires { ⌜ Within s ⌝ }
+    ensures { λ r. ⌜ Stepped (now (image .entry)) (now (chunk .entry)) (now (chunk .exit)) (now (line .entry)) (now (line .exit)) (now (out .exit)) s r ⌝ }
+{
+    let at = s.at;
+    let n = s.n;
+    if at < n {
+        return answer_part(image, index, run, chunk, line, word, rows, out, s);
+    }
+    take_chunk(image, index, run, chunk, line, word, rows, out, s)
+}
+
+// How it ended: the whole input is answered, with the counts of what came in and went out, or a call failed.
+pub enum Ending {
+    Whole(Count, Count),
+    Cut,
+}
+
+// Step after step. Their number is bounded so that the program ends on every input, and so that no count of bytes passes 64 bits.
 fn answer_input(
     image: &[u8],
     index: &[u8],
@@ -74,43 +190,41 @@ fn answer_input(
     word: &mut [u8],
     rows: &mut [u8],
     out: &mut [u8],
-)
-    requires { ⌜ Ready (now image) (now index) (headerOf (run .h)) (verdictOf (run .verdict)) ⌝ }
-    requires { ⌜ length (now line) ≡ 256 ⌝ }
-    requires { ⌜ (length (now word) ≡ 128) × (length (now rows) ≡ 7424) ⌝ }
-    requires { ⌜ length (now out) ≡ 65536 ⌝ }
+) -> Ending
+    requires { ⌜ OnceARun (now image) (now index) (headerOf (run .h)) (verdictOf (run .verdict)) ⌝ }
+    requires { ⌜ (length (now chunk) ≡ 65536) × Rooms (now line) (now word) (now rows) (now out) ⌝ }
+    ensures { λ r. ⌜ Ended (now (image .entry)) r ⌝ }
 {
-    let mut kept: usize = 0;
-    let mut left: u64 = 18446744073709551615;
+    let mut s = Stand {
+        kept: 0,
+        at: 0,
+        n: 0,
+        taken: moving::none(),
+        handed: moving::none(),
+    };
+    let mut left: u64 = 140737488355328;
     while left > 0 {
-        let got = io::count(libc::read(STDIN_FILENO, chunk), chunk);
-        if got == 0 {
-            let from = Reached { kept: kept, end: 0 };
-            let end = answers::read_end(image, index, run, line, word, rows, out, from);
-            io::write_all(STDOUT_FILENO, &out[..end]);
-            return;
-        }
-        kept = answer_chunk(
-            image,
-            index,
-            run,
-            &chunk[..got],
-            line,
-            kept,
-            word,
-            rows,
-            out,
-        );
-        if kept > 256 {
-            return;
+        let step = turn(image, index, run, chunk, line, word, rows, out, s);
+        match step {
+            Step::On(next) => {
+                s = next;
+            }
+            Step::Over(handed) => {
+                let taken = s.taken;
+                return Ending::Whole(taken, handed);
+            }
+            Step::Stopped => {
+                return Ending::Cut;
+            }
         }
         left -= 1;
     }
+    Ending::Cut
 }
 
 fn main() {
     let mut image = [0u8; 65537];
-    let n = read_image(&mut image);
+    let n = moving::load_image(&mut image);
     let mut index = [0u8; 39424];
     let run = answers::prepare(&image[..n], &mut index);
     let mut chunk = [0u8; 65536];

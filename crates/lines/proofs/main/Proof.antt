@@ -4,11 +4,11 @@ use borrow.Author.Needs.{needs}
 use Rattle.lines.proofs.main.Statement.{statement}
 use Rattle.lines.proofs.main.Tie as tie
 
-slice-aggregate-read-image : tie.Need-slice-aggregate-read-image
-slice-aggregate-read-image c = search needs
+slice-aggregate-load-image : tie.Need-slice-aggregate-load-image
+slice-aggregate-load-image c = search needs
 
-read-image-requires : tie.Need-read-image-requires
-read-image-requires c κs = search needs
+load-image-requires : tie.Need-load-image-requires
+load-image-requires c κs = search needs
 
 array-share-prefix-image : tie.Need-array-share-prefix-image
 array-share-prefix-image c = search needs
@@ -47,7 +47,7 @@ slice-aggregate-answer-input-7 : tie.Need-slice-aggregate-answer-input-7
 slice-aggregate-answer-input-7 c = search needs
 
 answer-input-requires : tie.Need-answer-input-requires
-answer-input-requires c κs = (c .before .before .before .before .before .before .before .before .prepare .ensures, (refl, ((refl, refl), refl)))
+answer-input-requires c κs = (c .before .before .before .before .before .before .before .before .prepare .ensures, (refl, record { line-long = refl; word-long = refl; rows-long = refl; out-long = refl }))
 
 returns : tie.Need-returns
 returns c = search needs
@@ -56,8 +56,8 @@ pub main-spec : {M : Type 1} → statement M
 main-spec =
     tie.close
     (tie.spec
-    slice-aggregate-read-image
-    read-image-requires
+    slice-aggregate-load-image
+    load-image-requires
     array-share-prefix-image
     slice-aggregate-prepare
     slice-aggregate-prepare-2

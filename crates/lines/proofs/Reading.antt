@@ -1,0 +1,172 @@
+-- A line as it comes in: what its first bytes tell of it, and the input in parts.
+use Prim.Native.Nat.{ℕ, suc, _+_, _-_, _<_, _≤_, min}
+use native.Mathlib.Omega.{arith}
+use native.Mathlib.Decide.{ℕ-discrete}
+use mathlib.Core.Bool.{Bool, true, false, cond}
+use mathlib.Core.Path.{_≡_, refl, sym, ap, _∙_, subst}
+use mathlib.Core.List.{List, [], _∷_, _++_, append-assoc, append-nil}
+use lib.ListN.{length, getD, take, drop, length-take, length-drop}
+use lib.Seq.{take-all, take-suc, getD-drop}
+use lib.Dec.{eqb}
+use borrow.Author.Tests.{lt-leb, eq-eqb, ne-eqb}
+use Rattle.model.specs.Lists.{flatMap}
+use Rattle.model.specs.Query.{analysis}
+use Rattle.model.specs.Refusals.{accepted, refused, imageTests, imageVerdict, ownTests, requestTests}
+use Rattle.model.specs.Rows.{Reply}
+use Rattle.model.specs.Calls.{requestVerdict, listingReply, listingRows}
+use Rattle.model.specs.Lines as lines
+use Rattle.model.specs.Lines.{lineOf, linesFrom, linesOf, printedReply, printedLine, printed}
+use Rattle.grammar.proofs.Verdicts.{tests-refused}
+use Rattle.print.specs.Text.{Put}
+use Rattle.print.proofs.Text.{put-none, put-same, put-then}
+use Rattle.parse.specs.Fields.{Begun}
+use Rattle.lines.specs.Input.{begunAfter, textAfter, lastText}
+
+pub refused-not : (k : ℕ) → refused k ≡ accepted → ⊥
+refused-not k e = let z : _≡_ {A = ℕ} 0 1 = cc in omega arith
+
+-- a line over 255 bytes holds no word
+long-unread : (l : List ℕ) → 255 < length l → lineOf l ≡ lines.unread
+unfolding lineOf
+long-unread [] h = absurd (omega arith)
+long-unread (b ∷ bs) h = rw (lt-leb (length (b ∷ bs)) 255 h) refl
+
+-- the first 256 bytes of a line tell whether it is over 255 bytes, and all of it where it is not
+module _ (first l : List ℕ) (same : first ≡ take 256 l) where
+  first-length : length first ≡ min 256 (length l)
+  first-length = ap length same ∙ length-take 256 l
+
+  pub first-long : 255 < length first → lineOf l ≡ lines.unread
+  first-long h = long-unread l (omega (arith, first-length))
+
+  pub first-whole : length first ≤ 255 → first ≡ l
+  first-whole h = same ∙ take-all 256 l (omega (arith, first-length))
+
+-- on a refused image every word gets the refusal
+pub refused-line : (image word : List ℕ) (k : ℕ) → imageVerdict image ≡ refused k → printedReply (Reply.refused k) ≡ printedLine image (lines.letters word)
+unfolding printedLine listingReply listingRows requestVerdict requestTests imageVerdict
+refused-line image word k e = rw (tests-refused (imageTests image) (ownTests image (analysis word)) k e) (sym (append-nil (printedReply (Reply.refused k))))
+
+-- one byte
+module _ (image line : List ℕ) (b : ℕ) where
+  pub end-begun : b ≡ 10 → begunAfter line (b ∷ []) ≡ []
+  end-begun e = rw (eq-eqb b 10 e) refl
+
+  pub end-text : b ≡ 10 → printedLine image (lineOf line) ≡ textAfter image line (b ∷ [])
+  end-text e = rw (eq-eqb b 10 e) (sym (append-nil (printedLine image (lineOf line))))
+
+  pub byte-begun : (b ≡ 10 → ⊥) → line ++ (b ∷ []) ≡ begunAfter line (b ∷ [])
+  byte-begun e = rw (ne-eqb b 10 e) refl
+
+  pub byte-text : (b ≡ 10 → ⊥) → [] ≡ textAfter image line (b ∷ [])
+  byte-text e = rw (ne-eqb b 10 e) refl
+
+pub begun-nothing : (buffer : List ℕ) → Begun buffer 0 []
+begun-nothing buffer = record { many = refl; bytes = refl }
+
+-- the last line
+pub last-none : (image buffer : List ℕ) (n : ℕ) (l : List ℕ) → Begun buffer n l → n ≡ 0 → [] ≡ lastText image l
+last-none image buffer n [] b e = refl
+last-none image buffer n (x ∷ l) b e = absurd (omega (arith, b .many))
+
+pub last-some : (image buffer : List ℕ) (n : ℕ) (l : List ℕ) → Begun buffer n l → (n ≡ 0 → ⊥) → printedLine image (lineOf l) ≡ lastText image l
+last-some image buffer n [] b e = absurd (e (b .many))
+last-some image buffer n (x ∷ l) b e = refl
+
+-- the input in parts
+pub begun-parts : (line xs ys : List ℕ) → begunAfter line (xs ++ ys) ≡ begunAfter (begunAfter line xs) ys
+begun-parts line [] ys = refl
+begun-parts line (b ∷ xs) ys = go (eqb b 10) (begun-parts [] xs ys) (begun-parts (line ++ (b ∷ [])) xs ys)
+  where
+    go : (t : Bool) → begunAfter [] (xs ++ ys) ≡ begunAfter (begunAfter [] xs) ys → begunAfter (line ++ (b ∷ [])) (xs ++ ys) ≡ begunAfter (begunAfter (line ++ (b ∷ [])) xs) ys
+        → cond t (begunAfter [] (xs ++ ys)) (begunAfter (line ++ (b ∷ [])) (xs ++ ys)) ≡ begunAfter (cond t (begunAfter [] xs) (begunAfter (line ++ (b ∷ [])) xs)) ys
+    go true p q = p
+    go false p q = q
+
+module _ (image : List ℕ) where
+  pub text-parts : (line xs ys : List ℕ) → textAfter image line (xs ++ ys) ≡ textAfter image line xs ++ textAfter image (begunAfter line xs) ys
+  text-parts line [] ys = refl
+  text-parts line (b ∷ xs) ys = go (eqb b 10) (text-parts [] xs ys) (text-parts (line ++ (b ∷ [])) xs ys)
+    where
+      go : (t : Bool) → textAfter image [] (xs ++ ys) ≡ textAfter image [] xs ++ textAfter image (begunAfter [] xs) ys
+          → textAfter image (line ++ (b ∷ [])) (xs ++ ys) ≡ textAfter image (line ++ (b ∷ [])) xs ++ textAfter image (begunAfter (line ++ (b ∷ [])) xs) ys
+          → cond t (printedLine image (lineOf line) ++ textAfter image [] (xs ++ ys)) (textAfter image (line ++ (b ∷ [])) (xs ++ ys))
+          ≡ cond t (printedLine image (lineOf line) ++ textAfter image [] xs) (textAfter image (line ++ (b ∷ [])) xs) ++ textAfter image (cond t (begunAfter [] xs) (begunAfter (line ++ (b ∷ [])) xs)) ys
+      go true p q = ap (λ (l : List ℕ). printedLine image (lineOf line) ++ l) p ∙ sym (append-assoc (printedLine image (lineOf line)) (textAfter image [] xs) (textAfter image (begunAfter [] xs) ys))
+      go false p q = q
+
+  abbrev allText : List (List ℕ) → List ℕ
+  allText = flatMap (λ line. printedLine image (lineOf line))
+
+  -- what the line program prints for a whole input is the text of the lines that end in it and of the last one
+  printed-from : (line input : List ℕ) → flatMap (λ line. printedLine image (lineOf line)) (linesFrom line input) ≡ textAfter image line input ++ lastText image (begunAfter line input)
+  unfolding linesFrom
+  printed-from [] [] = refl
+  printed-from (x ∷ line) [] = append-nil (printedLine image (lineOf (x ∷ line)))
+  printed-from line (b ∷ input) = go (eqb b 10) (printed-from [] input) (printed-from (line ++ (b ∷ [])) input)
+    where
+      go : (t : Bool) → allText (linesFrom [] input) ≡ textAfter image [] input ++ lastText image (begunAfter [] input)
+          → allText (linesFrom (line ++ (b ∷ [])) input) ≡ textAfter image (line ++ (b ∷ [])) input ++ lastText image (begunAfter (line ++ (b ∷ [])) input)
+          → allText (cond t (line ∷ linesFrom [] input) (linesFrom (line ++ (b ∷ [])) input))
+          ≡ cond t (printedLine image (lineOf line) ++ textAfter image [] input) (textAfter image (line ++ (b ∷ [])) input) ++ lastText image (cond t (begunAfter [] input) (begunAfter (line ++ (b ∷ [])) input))
+      go true p q = ap (λ (l : List ℕ). printedLine image (lineOf line) ++ l) p ∙ sym (append-assoc (printedLine image (lineOf line)) (textAfter image [] input) (lastText image (begunAfter [] input)))
+      go false p q = q
+
+  pub printed-is : (input : List ℕ) → printed image input ≡ textAfter image [] input ++ lastText image (begunAfter [] input)
+  unfolding printed linesOf
+  printed-is input = printed-from [] input
+
+-- how far a chunk is read: the line begun, and the text put
+pub record Progress (image chunk line₀ out₀ : List ℕ) (at kept₀ end₀ : ℕ) (line out : List ℕ) (i kept end : ℕ) : Type 0 where
+  pub in-order : at ≤ i
+  pub inside : i ≤ length chunk
+  pub line-long : length line ≡ 256
+  pub kept-few : kept ≤ 256
+  pub out-same : length out ≡ length out₀
+  pub end-in : end ≤ length out₀
+  pub begun : (l : List ℕ) → Begun line₀ kept₀ l → Begun line kept (begunAfter l (take (i - at) (drop at chunk)))
+  pub text : (l : List ℕ) → Begun line₀ kept₀ l → Put out₀ out end₀ end (textAfter image l (take (i - at) (drop at chunk)))
+  pub start : i ≡ at → end ≡ end₀
+
+module _ (image chunk line₀ out₀ : List ℕ) (at kept₀ end₀ : ℕ) where
+  pub progress-none : at ≤ length chunk → length line₀ ≡ 256 → kept₀ ≤ 256 → end₀ ≤ length out₀ → Progress image chunk line₀ out₀ at kept₀ end₀ line₀ out₀ at kept₀ end₀
+  progress-none h w k e =
+      let z : at - at ≡ 0 = omega arith in
+      record { in-order = omega arith; inside = h; line-long = w; kept-few = k; out-same = refl; end-in = e; begun = λ l b. rw z b; text = λ l b. rw z (put-none out₀ end₀); start = λ f. refl }
+
+  module _ (line out : List ℕ) (i kept end : ℕ) (done : Progress image chunk line₀ out₀ at kept₀ end₀ line out i kept end) (inside : i < length chunk) where
+    more-bytes : take (i + 1 - at) (drop at chunk) ≡ take (i - at) (drop at chunk) ++ (getD chunk i 0 ∷ [])
+    more-bytes =
+        let w : i + 1 - at ≡ suc (i - at) = omega (arith, done .in-order) in
+        let k : i - at < length (drop at chunk) = omega (arith, length-drop at chunk, done .in-order) in
+        let v : at + (i - at) ≡ i = omega (arith, done .in-order) in
+        ap (λ (n : ℕ). take n (drop at chunk)) w
+        ∙ take-suc (drop at chunk) (i - at) 0 k
+        ∙ ap (λ (x : ℕ). take (i - at) (drop at chunk) ++ (x ∷ [])) (getD-drop at chunk (i - at) 0 ∙ ap (λ (n : ℕ). getD chunk n 0) v)
+
+    -- a byte more
+    pub progress-more : (line′ out′ : List ℕ) (kept′ end′ : ℕ) → length line′ ≡ length line → kept′ ≤ 256 → length out′ ≡ length out → end′ ≤ length out₀
+        → ((l : List ℕ) → Begun line kept l → Begun line′ kept′ (begunAfter l (getD chunk i 0 ∷ [])))
+        → ((l : List ℕ) → Begun line kept l → Put out out′ end end′ (textAfter image l (getD chunk i 0 ∷ [])))
+        → Progress image chunk line₀ out₀ at kept₀ end₀ line′ out′ (i + 1) kept′ end′
+    progress-more line′ out′ kept′ end′ w k v e f g =
+        let xs = take (i - at) (drop at chunk) in
+        record {
+          in-order = omega (arith, done .in-order);
+          inside = omega arith;
+          line-long = w ∙ done .line-long;
+          kept-few = k;
+          out-same = v ∙ done .out-same;
+          end-in = e;
+          begun = λ l b. subst (Begun line′ kept′) (sym (ap (begunAfter l) more-bytes ∙ begun-parts l xs (getD chunk i 0 ∷ []))) (f (begunAfter l xs) (done .begun l b));
+          text = λ l b. put-same (sym (ap (textAfter image l) more-bytes ∙ text-parts image l xs (getD chunk i 0 ∷ []))) (put-then (done .text l b) (g (begunAfter l xs) (done .begun l b)));
+          start = λ z. absurd (omega (arith, done .in-order));
+        }
+
+-- where there was room at first and is none now, something was read
+pub moved : (image chunk line₀ out₀ : List ℕ) (at kept₀ end₀ : ℕ) (line out : List ℕ) (i kept end most : ℕ) → Progress image chunk line₀ out₀ at kept₀ end₀ line out i kept end → end₀ ≤ most → most < end → at < i
+moved image chunk line₀ out₀ at kept₀ end₀ line out i kept end most done h k = go (ℕ-discrete i at)
+  where
+    go : Dec (i ≡ at) → at < i
+    go (yes e) = absurd (omega (arith, done .start e))
+    go (no e) = omega (arith, done .in-order)

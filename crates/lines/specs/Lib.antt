@@ -1,0 +1,3 @@
+pub mod OnceARun
+pub mod Input
+pub mod Sofar

@@ -1,0 +1,118 @@
+// The answer to a line, over an image that was checked, and where accepted indexed, once a run.
+ghost use mathlib.Core.Path.{_≡_};
+ghost use mathlib.Core.List.{List};
+ghost use Prim.Native.Nat.{ℕ, _+_, _≤_};
+ghost use lib.ListN.{length, take, replicate};
+ghost use Rattle.model.specs.Blocks.{header};
+ghost use Rattle.model.specs.Refusals.{accepted, imageVerdict};
+ghost use Rattle.model.specs.Lines.{lineOf, letters, printedLine};
+ghost use Rattle.model.specs.Demand.{replyRows};
+ghost use Rattle.image.specs.Header.{headerOf};
+ghost use Rattle.image.specs.Index.{indexOf};
+ghost use Rattle.grammar.specs.Answers.{verdictOf};
+ghost use Rattle.rows.specs.Fill.{replyOf};
+ghost use Rattle.print.specs.Text.{Put};
+ghost use Rattle.lines.specs.OnceARun.{OnceARun};
+use grammar::Verdict;
+use image::Header;
+use parse::Line;
+use rows::Reply;
+
+// How many rows a reply tells of.
+fn told_rows(r: Reply) -> usize
+    ensures { λ n. ⌜ n ≡ replyRows (replyOf r) ⌝ }
+{
+    match r {
+        Reply::All(n) => n,
+        Reply::More(n) => n,
+        Reply::None => 0,
+        Reply::Refused(_) => 0,
+    }
+}
+
+// The reply to a word of an accepted image, and its rows.
+fn answer_word(
+    image: &[u8],
+    index: &[u8],
+    h: Header,
+    word: &[u8],
+    rows: &mut [u8],
+    out: &mut [u8],
+    at: usize,
+) -> usize
+    requires { ⌜ imageVerdict (now image) ≡ accepted ⌝ }
+    requires { ⌜ headerOf h ≡ header (now image) ⌝ }
+    requires { ⌜ now index ≡ indexOf (now image) ⌝ }
+    requires { ⌜ (length (now rows) ≡ 7424) × (at + 22032 ≤ length (now out)) ⌝ }
+    ensures { λ r. ⌜ Put (now (out .entry)) (now (out .exit)) at r (printedLine (now (image .entry)) (letters (now (word .entry)))) × (r ≤ at + 22032) ⌝ }
+{
+    let reply = analyser::indexed::analyse(image, index, h, word, rows);
+    let n = told_rows(reply);
+    let reply_end = print::put_reply(out, at, reply);
+    print::put_rows(out, reply_end, rows, n)
+}
+
+// The answer to a line, given as its first 256 bytes, put into `out` from `at` on. `word` and `rows` are room to work in.
+pub fn answer(
+    image: &[u8],
+    index: &[u8],
+    h: Header,
+    verdict: Verdict,
+    line: &[u8],
+    word: &mut [u8],
+    rows: &mut [u8],
+    out: &mut [u8],
+    at: usize,
+) -> usize
+    requires { ⌜ OnceARun (now image) (now index) (headerOf h) (verdictOf verdict) ⌝ }
+    requires { ⌜ (length (now word) ≡ 128) × (length (now rows) ≡ 7424) ⌝ }
+    requires { ⌜ at + 22032 ≤ length (now out) ⌝ }
+    ensures { λ r. ⌜ ((l : List ℕ) → now (line .entry) ≡ take 256 l → Put (now (out .entry)) (now (out .exit)) at r (printedLine (now (image .entry)) (lineOf l))) × (r ≤ at + 22032) ⌝ }
+{
+    if line.len() > 255 {
+        return print::put_unread(out, at);
+    }
+    let read = parse::read_line(line, word);
+    match read {
+        Line::Unread => print::put_unread(out, at),
+        Line::Letters(n) => match verdict {
+            Verdict::Refused(k) => print::put_reply(out, at, Reply::Refused(k)),
+            Verdict::Accepted => answer_word(image, index, h, &word[..n], rows, out, at),
+        },
+    }
+}
+
+// What is had once a run.
+pub struct Prepared {
+    pub verdict: Verdict,
+    pub h: Header,
+}
+
+// The image check, and of an accepted image the header and the index. `index` is all 0 before.
+pub fn prepare(image: &[u8], index: &mut [u8]) -> Prepared
+    requires { ⌜ now index ≡ replicate 39424 0 ⌝ }
+    ensures { λ r. ⌜ OnceARun (now (image .entry)) (now (index .exit)) (headerOf (r .h)) (verdictOf (r .verdict)) ⌝ }
+{
+    let verdict = grammar::check(image);
+    match verdict {
+        Verdict::Refused(k) => Prepared {
+            verdict: Verdict::Refused(k),
+            h: Header {
+                form: 0,
+                letters: 0,
+                pairs: 0,
+                rules: 0,
+                lexicons: 0,
+                entries: 0,
+            },
+        },
+        Verdict::Accepted => {
+            let h = image::read_header(image);
+            rules::index::fill_index(image, h, index);
+            Prepared {
+                verdict: Verdict::Accepted,
+                h: h,
+            }
+        }
+    }
+}
