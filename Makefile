@@ -2,12 +2,15 @@
 .PHONY: run test bench
 
 run:
-	rt check lines >/dev/null
-	examples/read grammars/spanish.txt luz luces luzes rey reyes
+	@tools/need rt cargo cc
+	@tools/prove lines check_image
+	@examples/read grammars/spanish.txt luz luces luzes rey reyes
 
 test:
-	.ci/run
+	@tools/need rt cargo cc
+	@.ci/run
 
 bench:
-	bench/listings
-	bench/growth
+	@tools/need rt cargo cc valgrind python3
+	@bench/listings
+	@bench/growth

@@ -11,13 +11,9 @@ fail() {
     exit 1
 }
 
-# need TOOL...: ends where some are missing, and names them all
+# need TOOL...: ends where some are missing
 need() {
-    local tool missing=()
-    for tool; do
-        command -v "$tool" >/dev/null || missing+=("$tool")
-    done
-    [ ${#missing[@]} -eq 0 ] || fail "not found: ${missing[*]} (needed: $*)"
+    tools/need "$@" || exit
 }
 
 # quietly COMMAND...: what it prints is shown only if it fails
@@ -29,15 +25,16 @@ quietly() {
 }
 
 build() {
-    echo "building; the first time every crate is proved, which takes minutes" >&2
+    tools/prove headwords
+    echo "building the library" >&2
     quietly rt staticlib headwords
-    quietly cargo --offline build --release --manifest-path assemble/Cargo.toml --target-dir assemble/target
+    quietly cargo build --offline --locked --release --manifest-path assemble/Cargo.toml --target-dir target/cargo
     quietly cc -std=c99 -O2 -Wall -Wextra -Werror -Iinclude -o "$work/listings" bench/listings.c target/staticlib/libheadwords.a
 }
 
 # assemble GRAMMAR IMAGE
 assemble() {
-    quietly assemble/target/release/assemble "$1" "$2"
+    quietly target/cargo/release/assemble "$1" "$2"
 }
 
 # count MODE IMAGE WORDS REPEATS: instructions of a whole run of listings.c

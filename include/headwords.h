@@ -1,8 +1,11 @@
 /* The two-level headword analyser for C.
  *
- * A grammar is an image: 1 to 128 blocks of 512 bytes. Every call below checks the image it is given, whole, before
- * anything else. Nothing is kept between calls: no allocation, no global state, no locale, so any number of threads may
- * call at once on images that none of them writes.
+ * A grammar is an image: 1 to 128 blocks of 512 bytes. Every call below but headwords_seal, which looks at the length
+ * alone, checks the image it is given, whole, before anything else. Nothing is kept between calls: no allocation, no
+ * global state, no locale, so any number of threads may call at once on images that none of them writes.
+ *
+ * Letters, pairs and entries are numbers of the grammar: letters from 1, the boundary, so that a word has letters from 2
+ * on; pairs and entries from 0. The assembler lists them: assemble --letters, --pairs, --entries.
  *
  * What the caller owes, and no call can test:
  *   - each pointer is to at least as many bytes as the length after it says, and is not NULL, even where the length is 0;
@@ -56,10 +59,11 @@ uint64_t headwords_analyse(const uint8_t *image, size_t image_length, const uint
  * with 1 to 8, 11 or 12. */
 uint64_t headwords_generate(const uint8_t *image, size_t image_length, const uint8_t *path, size_t path_length, uint8_t *rows, size_t rows_length);
 
-/* 1 where the image is accepted, 4k + 3 where it is refused (1 to 8). */
+/* 1 where the image is accepted, 4k + 3 where it is refused (1 to 8). Nothing is written. */
 uint64_t headwords_check(const uint8_t *image, size_t image_length);
 
-/* Writes number and check into every block, and nothing else: 1. Refused with 1 alone; nothing is written then. */
+/* Writes number and check into every block, and nothing else: replies 1. Refused for its length alone: replies 7 (k is
+ * 1), and nothing is written. Whether the sealed image is accepted, headwords_check says. */
 uint64_t headwords_seal(uint8_t *image, size_t image_length);
 
 /* 1 where the path (as for headwords_generate) and the pairing (one byte a pair number) are a reading of the word that they

@@ -30,12 +30,12 @@ refusal-2 : map (λ i. imageVerdict (set luzImage i 1)) (7 ∷ 513 ∷ 3071 ∷ 
 unfolding computed
 refusal-2 = refl
 
--- form; L = 1; P; R; X; E; a kind; a record count; an unused byte; a block too many
+-- form, by either byte; L = 1; P; R; X; E; a kind; a record count; an unused byte; a block too many
 refusal-3 : (changed 4 2 ∷ changed 5 1 ∷ changed 6 1 ∷ changed 8 9 ∷ changed 10 2 ∷ changed 12 1 ∷ changed 14 5 ∷ changed 514 3 ∷ changed 1027 9 ∷ changed 3069 1 ∷ imageVerdict (sealedImage (luzImage ++ replicate 512 0)) ∷ []) ≡ replicate 11 (Verdict.refused 3)
 unfolding computed
 refusal-3 = refl
 
--- letters 2 and 3 both 99; a code point 0; 55296
+-- letters 2 and 3 both 99; a code point 0; 55339, which is within 55296-57343
 refusal-4 : (changed 518 99 ∷ changed 518 0 ∷ changed 519 216 ∷ []) ≡ replicate 3 (Verdict.refused 4)
 unfolding computed
 refusal-4 = refl
@@ -79,12 +79,12 @@ analysed word = listingReply luzImage (analysis word) 64
 abbrev generated : List ℕ → Reply
 generated path = listingReply luzImage (generation (flatMap numberBytes path)) 64
 
--- the empty word, 33 letters, 33 letters and a bad one; 32 letters are read
+-- the empty word, 33 letters, 33 bad ones; 32 letters are read
 refusal-9 : map analysed ([] ∷ replicate 33 5 ∷ replicate 33 1 ∷ replicate 32 5 ∷ []) ≡ Reply.refused 9 ∷ Reply.refused 9 ∷ Reply.refused 9 ∷ Reply.none ∷ []
 unfolding computed
 refusal-9 = refl
 
--- letter 1, letter 0, a letter above L
+-- letter 1, letter 0, a letter above L; letters L and 2 are read
 refusal-10 : map analysed ((1 ∷ []) ∷ (5 ∷ 0 ∷ []) ∷ (10 ∷ []) ∷ (9 ∷ []) ∷ (2 ∷ []) ∷ []) ≡ Reply.refused 10 ∷ Reply.refused 10 ∷ Reply.refused 10 ∷ Reply.none ∷ Reply.none ∷ []
 unfolding computed
 refusal-10 = refl
@@ -108,7 +108,7 @@ refusal-13 : (judgedLuz (0 ∷ 2 ∷ []) [] ∷ judgedLuz (0 ∷ 2 ∷ []) (repl
 unfolding computed
 refusal-13 = refl
 
--- luz, luces of luZ, luces with Z:z, luc by luZ, 40 pairs, a part of luz
+-- luz, luces of luZ, luzes of luZ, luc by luZ, 40 pairs, a part of luz
 judgements : (judgedLuz (0 ∷ 2 ∷ []) (3 ∷ 5 ∷ 7 ∷ []) ∷ judgedLuz (0 ∷ 3 ∷ []) (3 ∷ 5 ∷ 6 ∷ 0 ∷ 2 ∷ 4 ∷ []) ∷ judgedLuz (0 ∷ 3 ∷ []) (3 ∷ 5 ∷ 7 ∷ 0 ∷ 2 ∷ 4 ∷ []) ∷ judgedLuz (0 ∷ 2 ∷ []) (3 ∷ 5 ∷ 6 ∷ []) ∷ judgedLuz (0 ∷ 2 ∷ []) (replicate 40 3) ∷ judgedLuz (0 ∷ 2 ∷ []) (3 ∷ 5 ∷ []) ∷ [])
     ≡ Judgement.holds ∷ Judgement.holds ∷ Judgement.fails ∷ Judgement.fails ∷ Judgement.fails ∷ Judgement.fails ∷ []
 unfolding computed
@@ -137,7 +137,7 @@ insertions : (inserting 8 ≡ reading (0 ∷ []) (0 ∷ replicate 8 1) ∷ []) �
 unfolding computed
 insertions = (refl, refl)
 
--- "Words of 32 and 33 letters, paths of 16 and 17": entries ll that go on and that end, and an empty one
+-- "Words of 32 and 33 letters, paths of 16 and 17": an entry ll that goes on, and two that end, ll and lll
 abbrev long : List ℕ
 long = imageOf luzLetters luzPairs luzTable ((entryBytes (5 ∷ 5 ∷ []) 0 0 ∷ entryBytes (5 ∷ 5 ∷ []) 255 0 ∷ entryBytes (5 ∷ 5 ∷ 5 ∷ []) 255 0 ∷ []) ∷ [])
 
@@ -155,7 +155,7 @@ manies : (imageVerdict (many 65) ≡ Verdict.accepted) × (length (allReadings (
 unfolding computed
 manies = (refl, refl, refl, refl, refl)
 
--- a boundary insertion stands once, after the entry that opens: +:0, 0:s, e:e over luZ and +e
+-- a boundary insertion stands once, after the entry that opens: l:l, 0:s, e:e over l and e
 inserted : allReadings (imageOf luzLetters (5 ∷ 5 ∷ 0 ∷ 6 ∷ 4 ∷ 4 ∷ []) (1 ∷ 1 ∷ 255 ∷ 255 ∷ 1 ∷ 1 ∷ []) ((entryBytes (5 ∷ []) 1 0 ∷ []) ∷ (entryBytes (4 ∷ []) 255 0 ∷ []) ∷ [])) (analysis (5 ∷ 6 ∷ 4 ∷ []))
     ≡ reading (0 ∷ 1 ∷ []) (0 ∷ 1 ∷ 2 ∷ []) ∷ []
 unfolding computed
@@ -175,7 +175,7 @@ more-printed : printedReply (Reply.more 3) ≡ 109 ∷ 111 ∷ 114 ∷ 101 ∷ 3
 unfolding computed
 more-printed = refl
 
--- "" "0" "005" "255" "7 12"; "256" "0005" "1  2" " 1" "1 " "1\t2" "a"
+-- "" "0" "005" "255" "7 12"; "256" "0005" "1  2" " 1" "1 " "1\t2" "a" "/" ":"
 lines-read : map lineOf ([] ∷ (48 ∷ []) ∷ (48 ∷ 48 ∷ 53 ∷ []) ∷ (50 ∷ 53 ∷ 53 ∷ []) ∷ (55 ∷ 32 ∷ 49 ∷ 50 ∷ []) ∷ []) ≡ Line.letters [] ∷ Line.letters (0 ∷ []) ∷ Line.letters (5 ∷ []) ∷ Line.letters (255 ∷ []) ∷ Line.letters (7 ∷ 12 ∷ []) ∷ []
 unfolding computed
 lines-read = refl
@@ -192,7 +192,7 @@ lines-long : (lineOf (ones 127 ++ (49 ∷ [])) ≡ Line.letters (replicate 128 1
 unfolding computed
 lines-long = (refl, refl)
 
--- no line, one without its end, one with it, an empty one between
+-- no line, one without its end, one with it, an empty one between, an empty one alone
 lines-split : map linesOf ([] ∷ (49 ∷ []) ∷ (49 ∷ 10 ∷ []) ∷ (49 ∷ 10 ∷ 10 ∷ 50 ∷ []) ∷ (10 ∷ []) ∷ [])
     ≡ [] ∷ ((49 ∷ []) ∷ []) ∷ ((49 ∷ []) ∷ []) ∷ ((49 ∷ []) ∷ [] ∷ (50 ∷ []) ∷ []) ∷ ([] ∷ []) ∷ []
 unfolding computed
