@@ -135,7 +135,8 @@ fn input(prng: &mut Prng, place: &Place, known: &Known) -> Vec<u8> {
         return Vec::new();
     }
     let pool = Pool::of(prng, known);
-    let count = prng.between(1, 40);
+    let big = place.bytes().len() > 40 * BLOCK;
+    let count = prng.between(1, if big { 12 } else { 40 });
     let mut lines: Vec<Vec<u8>> = (0..count).map(|_| line(prng, known, &pool)).collect();
     // The program may well check its image at each line, so a long input gets a small one.
     if place.bytes().len() < 20 * BLOCK && prng.percent(8) {
