@@ -11,6 +11,7 @@ use draw::inputs::{any_room, entry, room, Pool};
 use draw::prng::Prng;
 use lent::Lent;
 use other_engine::calls::{self, Known};
+use other_engine::draft::Draft;
 use other_engine::image::{read, BLOCK};
 use other_engine::listing::{list, refused, ROW};
 use other_engine::pairings::Budget;
@@ -46,8 +47,10 @@ fn main() {
     };
     touched::watch();
     run.many_readings();
+    let mut draft = grammars::largest(&mut run.prng);
     while !run.over() {
-        run.grammar();
+        run.grammar(&draft);
+        draft = grammars::grammar(&mut run.prng);
     }
     println!(
         "seed {seed} calls {} skipped {}{}",
@@ -143,10 +146,8 @@ impl Run {
     }
 
     /// One grammar: calls on its image, then on damaged ones.
-    fn grammar(&mut self) {
-        let draft = grammars::grammar(&mut self.prng);
-        let base = draft.image();
-        let image = self.image(base);
+    fn grammar(&mut self, draft: &Draft) {
+        let image = self.image(draft.image());
         let pool = Pool::of(&mut self.prng, &image.known);
         let accepted = image.known.is_ok();
         let big = image.bytes.len() > 40 * BLOCK;
@@ -165,8 +166,8 @@ impl Run {
                 image: bytes,
                 refusal,
             } = match k {
-                9 => damaged_often(&mut self.prng, &draft),
-                _ => damaged(&mut self.prng, &draft, k),
+                9 => damaged_often(&mut self.prng, draft),
+                _ => damaged(&mut self.prng, draft, k),
             };
             let image = self.image(bytes);
             let found = image.known.as_ref().err().copied().unwrap_or(0);

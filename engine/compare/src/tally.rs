@@ -63,12 +63,12 @@ const LIMITS: [&str; 9] = [
     "8 lexical nulls",
     "8 surface nulls",
     "pair 249",
+    "the largest image",
     "entry 2048 in row 0",
     "65536 rows",
-    "the largest image",
 ];
 /// The first of the limits that analysis and generation should each have reached.
-const OF_EACH: usize = 6;
+const OF_EACH: usize = 7;
 
 /// How many replies of each kind of call have been met, and how many listings by each with a row at a limit.
 #[derive(Default)]
@@ -106,10 +106,6 @@ impl Tally {
             reached[4] |= surface_nulls == 8;
             reached[5] |= reading.pairing.contains(&249);
         }
-        reached[6] = rows
-            .first()
-            .is_some_and(|row| row.path.iter().any(|&entry| entry >= 2_048));
-        reached[7] = rows.len() >= 65_536;
         let counts = [
             grammar.letters.len(),
             grammar.pairs.len(),
@@ -117,7 +113,11 @@ impl Tally {
             grammar.starts.len() - 1,
             grammar.entries.len(),
         ];
-        reached[8] = !rows.is_empty() && counts == [120, 250, 32, 64, 2_800];
+        reached[6] = !rows.is_empty() && counts == [120, 250, 32, 64, 2_800];
+        reached[7] = rows
+            .first()
+            .is_some_and(|row| row.path.iter().any(|&entry| entry >= 2_048));
+        reached[8] = rows.len() >= 65_536;
         for (count, reached) in self.limits[kind as usize].iter_mut().zip(reached) {
             *count += u64::from(reached);
         }

@@ -557,9 +557,19 @@ fn crowd(prng: &mut Prng) -> Draft {
     draft
 }
 
-/// Counts at their limits, all or some of them, with the entries spread over all lexicons or most of them in the first or last.
+/// Counts at their limits, all or some of them.
 fn full(prng: &mut Prng) -> Draft {
     let all = prng.percent(60);
+    at_limits(prng, all)
+}
+
+/// All counts at their limits.
+pub fn largest(prng: &mut Prng) -> Draft {
+    at_limits(prng, true)
+}
+
+/// Counts at their limits, with the entries spread over all lexicons or most of them in the first or last.
+fn at_limits(prng: &mut Prng, all: bool) -> Draft {
     let mut most = |count: usize, few: usize| if all || prng.percent(50) { count } else { few };
     let (letters, count, rules, lexicons, entries) = (
         most(120, 20),
