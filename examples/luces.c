@@ -24,7 +24,7 @@ static int print_form(unsigned entry)
     if (reply % 4 != HEADWORDS_ALL)
         return 0;
     for (uint64_t i = 0; i < reply / 4; i++)
-        putchar(alphabet[letters[i] - 1]);
+        putchar(letters[i] < sizeof alphabet ? alphabet[letters[i] - 1] : '?'); /* another grammar may have more letters */
     return 1;
 }
 

@@ -1,172 +1,186 @@
-/* The C entry on the luz grammar: each call's replies, and every lent byte, with guard bytes on both sides of each lent buffer.
+/* The C entry on the luz grammar: each call's replies, every refusal of every call, and after each call every lent byte and those around it.
  * Usage: replies IMAGE */
-#include <stdio.h>
-#include <string.h>
+#define _DEFAULT_SOURCE
+#include "calls.h"
 
-#include "headwords.h"
+static struct bytes luz;
 
-static uint8_t image[65537];
-static size_t length;
-static int failed;
-
-static void expect(const char *what, uint64_t got, uint64_t want)
-{
-    if (got != want) {
-        printf("%s: %llu, not %llu\n", what, (unsigned long long)got, (unsigned long long)want);
-        failed = 1;
-    }
-}
-
-enum { GUARD = 64, MOST = 8 * HEADWORDS_ROW_BYTES + 3 };
-static uint8_t lent[GUARD + MOST + GUARD];
-
-static uint8_t held(size_t i)
-{
-    return (uint8_t)(7 * i + 11);
-}
-
-static uint8_t *lend(void)
-{
-    for (size_t i = 0; i < sizeof lent; i++)
-        lent[i] = held(i);
-    return lent + GUARD;
-}
-
-/* Every byte but the first n of what was lent is as it was. */
-static void kept(const char *what, size_t n)
-{
-    for (size_t i = 0; i < sizeof lent; i++)
-        if ((i < GUARD || i >= GUARD + n) && lent[i] != held(i)) {
-            printf("%s: byte %ld changed\n", what, (long)i - GUARD);
-            failed = 1;
-            return;
-        }
-}
-
-static void row(const char *what, unsigned k, const char *path, const char *pairs)
-{
-    char text[256] = "", *end = text;
-    const uint8_t *at = lent + GUARD + HEADWORDS_ROW_BYTES * k;
-    unsigned entries = at[0] + 256u * at[1], pairing = at[34] + 256u * at[35];
-    for (unsigned i = 0; i < 16; i++) {
-        unsigned n = at[2 + 2 * i] + 256u * at[3 + 2 * i];
-        if (i < entries)
-            end += sprintf(end, "%u ", n);
-        else if (n != 65535)
-            end += sprintf(end, "unused %u ", n);
-    }
-    end += sprintf(end, "|");
-    for (unsigned i = 0; i < 40; i++) {
-        unsigned n = at[36 + 2 * i] + 256u * at[37 + 2 * i];
-        if (i < pairing)
-            end += sprintf(end, " %u", n);
-        else if (n != 65535)
-            end += sprintf(end, " unused %u", n);
-    }
-    char want[256];
-    sprintf(want, "%s | %s", path, pairs);
-    if (strcmp(text, want) != 0) {
-        printf("%s: row %u is %s, not %s\n", what, k, text, want);
-        failed = 1;
-    }
-}
+enum { MOST = 8 * HEADWORDS_ROW_BYTES + 3 };
 
 static void words(void)
 {
-    static const uint8_t luces[] = {5, 7, 3, 4, 6}, luzes[] = {5, 7, 8, 4, 6}, luz[] = {5, 7, 8}, luc[] = {5, 7, 3}, long_word[33] = {5}, low[] = {1}, high[] = {10};
-    for (size_t rows = 0; rows <= MOST; rows++) {
-        size_t room = rows / HEADWORDS_ROW_BYTES;
-        expect("luces", headwords_analyse(image, length, luces, sizeof luces, lend(), rows), room >= 2 ? 9 : 4 * room + 2);
-        kept("luces", HEADWORDS_ROW_BYTES * (room < 2 ? room : 2));
-        if (room >= 1)
-            row("luces", 0, "0 3", "3 5 6 0 2 4");
-        if (room >= 2)
-            row("luces", 1, "1 3", "3 5 1 0 2 4");
+    uint8_t row[2 * HEADWORDS_ROW_BYTES], *second = row + HEADWORDS_ROW_BYTES;
+    struct bytes rows = {row, sizeof row};
+    put_row(row, BYTES(0, 0, 3, 0), BYTES(3, 5, 6, 0, 2, 4));
+    put_row(second, BYTES(1, 0, 3, 0), BYTES(3, 5, 1, 0, 2, 4));
+    for (size_t room = 0; room <= MOST; room++) {
+        size_t n = room / HEADWORDS_ROW_BYTES;
+        analyse("luces", luz, BYTES(5, 7, 3, 4, 6), room, n >= 2 ? 9 : 4 * n + 2, first(HEADWORDS_ROW_BYTES * (n < 2 ? n : 2), rows));
     }
-    expect("luzes", headwords_analyse(image, length, luzes, sizeof luzes, lend(), MOST), 0);
-    kept("luzes", 0);
-    expect("luz", headwords_analyse(image, length, luz, sizeof luz, lend(), MOST), 5);
-    row("luz", 0, "0 2", "3 5 7");
-    kept("luz", HEADWORDS_ROW_BYTES);
-    expect("luc", headwords_analyse(image, length, luc, sizeof luc, lend(), MOST), 5);
-    row("luc", 0, "1 2", "3 5 1");
-    expect("empty word", headwords_analyse(image, length, luz, 0, lend(), MOST), 4 * 9 + 3);
-    expect("33 letters", headwords_analyse(image, length, long_word, 33, lend(), MOST), 4 * 9 + 3);
-    expect("letter 1", headwords_analyse(image, length, low, 1, lend(), MOST), 4 * 10 + 3);
-    expect("letter 10", headwords_analyse(image, length, high, 1, lend(), MOST), 4 * 10 + 3);
-    expect("image of 511 bytes", headwords_analyse(image, 511, luz, sizeof luz, lend(), MOST), 4 * 1 + 3);
-    kept("a refused word", 0);
+    analyse("luzes", luz, BYTES(5, 7, 8, 4, 6), MOST, 0, nothing);
+    put_row(row, BYTES(0, 0, 2, 0), BYTES(3, 5, 7));
+    analyse("luz", luz, BYTES(5, 7, 8), MOST, 5, first(HEADWORDS_ROW_BYTES, rows));
+    put_row(row, BYTES(1, 0, 2, 0), BYTES(3, 5, 1));
+    analyse("luc", luz, BYTES(5, 7, 3), MOST, 5, first(HEADWORDS_ROW_BYTES, rows));
+
+    uint8_t letters[300];
+    memset(letters, 5, sizeof letters);
+    struct bytes long_word = {letters, sizeof letters};
+    analyse("32 letters", luz, first(32, long_word), MOST, 0, nothing);
+    analyse("empty word", luz, nothing, MOST, refused(9), nothing);
+    analyse("33 letters", luz, first(33, long_word), MOST, refused(9), nothing);
+    analyse("300 letters", luz, long_word, MOST, refused(9), nothing);
+    analyse("letter 0", luz, BYTES(5, 7, 0), MOST, refused(10), nothing);
+    analyse("letter 1", luz, BYTES(1), MOST, refused(10), nothing);
+    analyse("letter 10", luz, BYTES(5, 10), MOST, refused(10), nothing);
+    analyse("letter 255", luz, BYTES(255, 7, 3), MOST, refused(10), nothing);
+    analyse("letter 10 and no row", luz, BYTES(10), 0, refused(10), nothing);
 }
+
+/* Paths that are refused, by generation and by the judge alike. */
+static const struct {
+    const char *what;
+    uint8_t bytes[36];
+    size_t length;
+    unsigned k;
+} wrong_paths[] = {
+    {"empty path", {0}, 0, 11},
+    {"1 byte", {0}, 1, 11},
+    {"3 bytes", {0, 0, 3}, 3, 11},
+    {"33 bytes", {0}, 33, 11},
+    {"17 entries", {0}, 34, 11},
+    {"path that goes on", {0, 0}, 2, 12},
+    {"inner end", {0, 0, 3, 0, 3, 0}, 6, 12},
+    {"first from lexicon 1", {3, 0}, 2, 12},
+    {"next from lexicon 0", {0, 0, 1, 0, 3, 0}, 6, 12},
+    {"no entry 4", {4, 0}, 2, 12},
+    {"no entry 259", {0, 0, 3, 1}, 4, 12},
+    {"16 entries of 65535", {255, 255, 255, 255, 255, 255, 255, 255, 255, 255, 255, 255, 255, 255, 255, 255, 255, 255, 255, 255, 255, 255, 255, 255, 255, 255, 255, 255, 255, 255, 255, 255}, 32, 12},
+};
 
 static void paths(void)
 {
-    static const uint8_t plural[] = {0, 0, 3, 0}, open_end[] = {0, 0}, inner_end[] = {0, 0, 3, 0, 3, 0}, missing[] = {4, 0}, long_path[34] = {0};
-    expect("path 0 3", headwords_generate(image, length, plural, sizeof plural, lend(), MOST), 5);
-    row("path 0 3", 0, "0 3", "3 5 6 0 2 4");
-    kept("path 0 3", HEADWORDS_ROW_BYTES);
-    expect("no row", headwords_generate(image, length, plural, sizeof plural, lend(), 115), 2);
-    expect("empty path", headwords_generate(image, length, plural, 0, lend(), MOST), 4 * 11 + 3);
-    expect("odd bytes", headwords_generate(image, length, plural, 3, lend(), MOST), 4 * 11 + 3);
-    expect("17 entries", headwords_generate(image, length, long_path, sizeof long_path, lend(), MOST), 4 * 11 + 3);
-    expect("path that goes on", headwords_generate(image, length, open_end, sizeof open_end, lend(), MOST), 4 * 12 + 3);
-    expect("inner end", headwords_generate(image, length, inner_end, sizeof inner_end, lend(), MOST), 4 * 12 + 3);
-    expect("no entry 4", headwords_generate(image, length, missing, sizeof missing, lend(), MOST), 4 * 12 + 3);
-    kept("a refused path", 0);
+    uint8_t row[HEADWORDS_ROW_BYTES];
+    struct bytes plural = BYTES(0, 0, 3, 0), rows = {row, sizeof row};
+    put_row(row, BYTES(0, 0, 3, 0), BYTES(3, 5, 6, 0, 2, 4));
+    for (size_t room = 0; room <= 2 * HEADWORDS_ROW_BYTES; room++)
+        generate("path 0 3", luz, plural, room, room < HEADWORDS_ROW_BYTES ? 2 : 5, room < HEADWORDS_ROW_BYTES ? nothing : rows);
+    for (size_t i = 0; i < sizeof wrong_paths / sizeof *wrong_paths; i++) {
+        struct bytes path = {wrong_paths[i].bytes, wrong_paths[i].length};
+        generate(wrong_paths[i].what, luz, path, MOST, refused(wrong_paths[i].k), nothing);
+        generate(wrong_paths[i].what, luz, path, 0, refused(wrong_paths[i].k), nothing);
+        judge(wrong_paths[i].what, luz, path, BYTES(3, 5, 6, 0, 2, 4), refused(wrong_paths[i].k));
+        judge(wrong_paths[i].what, luz, path, nothing, refused(wrong_paths[i].k));
+    }
 }
 
 static void judgements(void)
 {
-    static const uint8_t path[] = {0, 0, 3, 0}, right[] = {3, 5, 6, 0, 2, 4}, wrong[] = {3, 5, 7, 0, 2, 4}, no_pair[] = {8};
-    expect("reading", headwords_judge(image, length, path, sizeof path, right, sizeof right), 1);
-    expect("no reading", headwords_judge(image, length, path, sizeof path, wrong, sizeof wrong), 0);
-    expect("no pairs", headwords_judge(image, length, path, sizeof path, right, 0), 4 * 13 + 3);
-    expect("pair 8", headwords_judge(image, length, path, sizeof path, no_pair, 1), 4 * 13 + 3);
-    expect("odd path", headwords_judge(image, length, path, 1, right, sizeof right), 4 * 11 + 3);
+    struct bytes path = BYTES(0, 0, 3, 0);
+    uint8_t pairs[300];
+    memset(pairs, 3, sizeof pairs);
+    struct bytes long_pairing = {pairs, sizeof pairs};
+    judge("reading", luz, path, BYTES(3, 5, 6, 0, 2, 4), 1);
+    judge("no reading", luz, path, BYTES(3, 5, 7, 0, 2, 4), 0);
+    judge("40 pairs", luz, path, first(40, long_pairing), 0);
+    judge("no pairs", luz, path, nothing, refused(13));
+    judge("41 pairs", luz, path, first(41, long_pairing), refused(13));
+    judge("300 pairs", luz, path, long_pairing, refused(13));
+    judge("pair 8", luz, path, BYTES(8), refused(13));
+    judge("pair 8 at the end", luz, path, BYTES(3, 5, 6, 0, 2, 8), refused(13));
+    judge("pair 255", luz, path, BYTES(255, 5), refused(13));
 }
 
 static void forms(void)
 {
-    static const uint8_t luZ[] = {5, 7, 9};
-    expect("form 0", headwords_form(image, length, 0, lend(), 12), 4 * 3 + 1);
-    expect("its letters", memcmp(lent + GUARD, luZ, 3), 0);
-    kept("form 0", 3);
-    expect("just room", headwords_form(image, length, 0, lend(), 3), 4 * 3 + 1);
-    expect("no room", headwords_form(image, length, 0, lend(), 2), 4 * 3 + 2);
-    kept("no room", 0);
-    expect("empty form", headwords_form(image, length, 2, lend(), 0), 1);
-    expect("no entry", headwords_form(image, length, 4, lend(), 12), 4 * 12 + 3);
-    expect("no entry by far", headwords_form(image, length, SIZE_MAX, lend(), 12), 4 * 12 + 3);
-    kept("no entry", 0);
+    static const size_t missing[] = {4, 255, 256, 65535, 65536, SIZE_MAX};
+    for (size_t room = 0; room <= 13; room++) {
+        form("form 0", luz, 0, room, room < 3 ? 4 * 3 + 2 : 4 * 3 + 1, room < 3 ? nothing : BYTES(5, 7, 9));
+        form("form 1", luz, 1, room, room < 3 ? 4 * 3 + 2 : 4 * 3 + 1, room < 3 ? nothing : BYTES(5, 7, 3));
+        form("empty form", luz, 2, room, 1, nothing);
+        form("form 3", luz, 3, room, room < 3 ? 4 * 3 + 2 : 4 * 3 + 1, room < 3 ? nothing : BYTES(2, 4, 6));
+        for (size_t i = 0; i < sizeof missing / sizeof *missing; i++)
+            form("no entry", luz, missing[i], room, refused(12), nothing);
+    }
+}
+
+/* Every call on an image that is refused with k, once with what it would take and once with what it would refuse. */
+static void refused_image(const char *what, struct bytes image, unsigned k)
+{
+    check(what, image, refused(k));
+    analyse(what, image, BYTES(5, 7, 8), MOST, refused(k), nothing);
+    analyse(what, image, nothing, MOST, refused(k), nothing);
+    generate(what, image, BYTES(0, 0, 3, 0), MOST, refused(k), nothing);
+    generate(what, image, BYTES(4), MOST, refused(k), nothing);
+    judge(what, image, BYTES(0, 0, 3, 0), BYTES(3, 5, 6, 0, 2, 4), refused(k));
+    judge(what, image, nothing, nothing, refused(k));
+    form(what, image, 0, 12, refused(k), nothing);
+    form(what, image, 4, 0, refused(k), nothing);
 }
 
 static void images(void)
 {
-    uint8_t copy[sizeof image];
-    expect("check", headwords_check(image, length), 1);
-    expect("no image", headwords_check(image, 0), 7);
-    memcpy(copy, image, length);
-    copy[0] ^= 1;
-    copy[511] ^= 255;
-    expect("broken", headwords_check(copy, length), 4 * 2 + 3);
-    expect("seal", headwords_seal(copy, length), 1);
-    expect("sealed again", memcmp(copy, image, length), 0);
-    copy[7] ^= 1;
-    expect("seal of 513 bytes", headwords_seal(copy, 513), 7);
-    copy[7] ^= 1;
-    expect("nothing sealed", memcmp(copy, image, length), 0);
+    static const size_t lengths[] = {0, 1, 511, 513, 3071, 3073, 65535, 65537, 66048};
+    static const struct {
+        const char *what;
+        unsigned k;
+        size_t at;
+        uint8_t byte;
+    } damages[] = {
+        {"L = 1", 3, 6, 1},
+        {"letters 2 and 3 both 43", 4, 512 + 4 + 2 * 2, 43},
+        {"0:0", 5, 1024 + 4, 0},
+        {"next state 6 of 5", 6, 1536 + 4 + 2 + 10 + 5, 6},
+        {"no column for c:c", 7, 1536 + 4 + 2 + 8, 9},
+        {"form length 13", 8, 2560 + 4, 13},
+    };
+    static uint8_t image[66048];
+    struct bytes whole = {image, luz.length}, longest = {image, sizeof image};
+
+    check("luz", luz, 1);
+    seal("luz", luz, 1, luz);
+    memcpy(image, luz.at, luz.length);
+    for (size_t i = 0; i < sizeof lengths / sizeof *lengths; i++) {
+        refused_image("image of another length", first(lengths[i], longest), 1);
+        seal("image of another length", first(lengths[i], longest), refused(1), nothing);
+    }
+    for (size_t i = 0; i < luz.length; i += 512) {
+        image[i + 7] ^= 1;
+        refused_image("byte 7 of a block altered", whole, 2);
+        image[i + 7] ^= 1;
+        image[i] ^= 1;
+        image[i + 510] = 0;
+        image[i + 511] ^= 255;
+        refused_image("number and check altered", whole, 2);
+        seal("number and check altered", whole, 1, luz);
+        memcpy(image, luz.at, luz.length);
+    }
+    for (size_t i = 0; i < sizeof damages / sizeof *damages; i++) {
+        image[damages[i].at] = damages[i].byte;
+        headwords_seal(image, luz.length);
+        refused_image(damages[i].what, whole, damages[i].k);
+        seal(damages[i].what, whole, 1, whole);
+        memcpy(image, luz.at, luz.length);
+    }
 }
 
 int main(int argc, char **argv)
 {
+    static uint8_t image[65537];
     FILE *file = argc == 2 ? fopen(argv[1], "rb") : NULL;
     if (file != NULL) {
-        length = fread(image, 1, sizeof image, file);
+        luz = (struct bytes){image, fread(image, 1, sizeof image, file)};
         fclose(file);
     }
+    make_room(IMAGE, 66048);
+    make_room(GIVEN, 300);
+    make_room(PAIRING, 300);
+    make_room(OUT, MOST);
+    watch();
     words();
     paths();
     judgements();
     forms();
     images();
-    return failed;
+    return failures > 0;
 }

@@ -3,16 +3,20 @@
 mod lent;
 mod library;
 mod tally;
+mod touched;
 
 use draw::damage::{damaged, damaged_often, Damaged};
-use draw::grammars;
+use draw::grammars::{self, Many};
 use draw::inputs::{any_room, entry, room, Pool};
 use draw::prng::Prng;
 use lent::Lent;
 use other_engine::calls::{self, Known};
+use other_engine::draft::Draft;
 use other_engine::image::{read, BLOCK};
-use other_engine::listing::{list, refused};
+use other_engine::listing::{list, refused, ROW};
+use other_engine::pairings::Budget;
 use other_engine::reading::{Reading, Stop};
+use std::ops::Range;
 use std::process::exit;
 use tally::{Kind, Tally};
 
@@ -41,8 +45,12 @@ fn main() {
         most: calls,
         skipped: 0,
     };
+    touched::watch();
+    run.many_readings();
+    let mut draft = grammars::largest(&mut run.prng);
     while !run.over() {
-        run.grammar();
+        run.grammar(&draft);
+        draft = grammars::grammar(&mut run.prng);
     }
     println!(
         "seed {seed} calls {} skipped {}{}",
@@ -100,17 +108,52 @@ impl Run {
         Image { bytes, lent, known }
     }
 
+    /// Notes the call that is about to be made.
+    fn under_way(&self, kind: Kind) {
+        touched::under_way(self.seed, self.calls + 1, kind);
+    }
+
+    /// A word and a path with more readings than two bytes count, in buffers of about 65,536 rows and of about all.
+    fn many_readings(&mut self) {
+        let Many { draft, word, path } = grammars::many_readings(&mut self.prng);
+        let image = self.image(draft.image());
+        let budget = || Budget::of(1_000_000);
+        let listings = [
+            (
+                Kind::Analyse,
+                "word",
+                &word,
+                calls::analyse_within(budget(), &image.known, &word),
+            ),
+            (
+                Kind::Generate,
+                "path",
+                &path,
+                calls::generate_within(budget(), &image.known, &path),
+            ),
+        ];
+        for (kind, name, given, readings) in listings {
+            let all = readings.as_ref().map_or(0, Vec::len);
+            let few = self.prng.one_of(&[65_535, 65_537]);
+            let most = all + self.prng.below(2);
+            for rows in [65_536, few, most] {
+                if !self.over() {
+                    let length = rows * ROW + self.prng.one_of(&[0, 1, 115]);
+                    self.listed(&image, kind, name, given, &readings, length);
+                }
+            }
+        }
+    }
+
     /// One grammar: calls on its image, then on damaged ones.
-    fn grammar(&mut self) {
-        let draft = grammars::grammar(&mut self.prng);
-        let base = draft.image();
-        let image = self.image(base);
+    fn grammar(&mut self, draft: &Draft) {
+        let image = self.image(draft.image());
         let pool = Pool::of(&mut self.prng, &image.known);
         let accepted = image.known.is_ok();
         let big = image.bytes.len() > 40 * BLOCK;
         let turns = match (accepted, big) {
             (false, _) => 3,
-            (true, true) => 8,
+            (true, true) => 10,
             (true, false) => 30,
         };
         for _ in 0..turns {
@@ -123,8 +166,8 @@ impl Run {
                 image: bytes,
                 refusal,
             } = match k {
-                9 => damaged_often(&mut self.prng, &draft),
-                _ => damaged(&mut self.prng, &draft, k),
+                9 => damaged_often(&mut self.prng, draft),
+                _ => damaged(&mut self.prng, draft, k),
             };
             let image = self.image(bytes);
             let found = image.known.as_ref().err().copied().unwrap_or(0);
@@ -204,9 +247,6 @@ impl Run {
             Ok(readings) if readings.is_empty() => 1,
             Ok(_) => self.prng.between(1, 2),
         };
-        if let (Ok(grammar), Ok(readings)) = (&image.known, &readings) {
-            self.tally.count_limits(grammar, readings);
-        }
         for _ in 0..buffers {
             if self.over() {
                 return;
@@ -215,32 +255,51 @@ impl Run {
                 Ok(readings) => room(&mut self.prng, readings.len()),
                 Err(_) => any_room(&mut self.prng),
             };
-            let before = self.prng.bytes(length);
-            let mut expected = before.clone();
-            let reply = match &readings {
-                Ok(readings) => list(readings, &mut expected),
-                Err(Stop::Refused(k)) => refused(*k),
-                Err(Stop::TooBig) => unreachable!("skipped above"),
-            };
-            let lent = Lent::new(&mut self.prng, given);
-            let mut rows = Lent::new(&mut self.prng, &before);
-            let got = if kind == Kind::Analyse {
-                library::analyse(&image.lent, &lent, &mut rows)
-            } else {
-                library::generate(&image.lent, &lent, &mut rows)
-            };
-            self.compared(Outcome {
-                kind,
-                given: &[("image", &image.bytes), (name, given)],
-                entry: None,
-                reply: (reply, got),
-                written: Some(("rows", &before, &expected, &rows)),
-                kept: &[("image", &image.bytes, &image.lent), (name, given, &lent)],
-            });
+            self.listed(image, kind, name, given, &readings, length);
+        }
+    }
+
+    /// One listing into a buffer of this length.
+    fn listed(
+        &mut self,
+        image: &Image,
+        kind: Kind,
+        name: &str,
+        given: &[u8],
+        readings: &Result<Vec<Reading>, Stop>,
+        length: usize,
+    ) {
+        let before = self.prng.bytes(length);
+        let mut expected = before.clone();
+        let reply = match readings {
+            Ok(readings) => list(readings, &mut expected),
+            Err(Stop::Refused(k)) => refused(*k),
+            Err(Stop::TooBig) => unreachable!("such a call is skipped, or has budget enough"),
+        };
+        let lent = Lent::new(&mut self.prng, given);
+        let mut rows = Lent::new(&mut self.prng, &before);
+        self.under_way(kind);
+        let got = if kind == Kind::Analyse {
+            library::analyse(&image.lent, &lent, &mut rows)
+        } else {
+            library::generate(&image.lent, &lent, &mut rows)
+        };
+        self.compared(Outcome {
+            kind,
+            given: &[("image", &image.bytes), (name, given)],
+            entry: None,
+            reply: (reply, got),
+            written: Some(("rows", &before, &expected, &rows)),
+            kept: &[("image", &image.bytes, &image.lent), (name, given, &lent)],
+        });
+        if let (Ok(grammar), Ok(readings)) = (&image.known, readings) {
+            let written = readings.len().min(length / ROW);
+            self.tally.count_limits(kind, grammar, &readings[..written]);
         }
     }
 
     fn check(&mut self, image: &Image) {
+        self.under_way(Kind::Check);
         let got = library::check(&image.lent);
         self.compared(Outcome {
             kind: Kind::Check,
@@ -281,6 +340,7 @@ impl Run {
         let mut expected = before.clone();
         let reply = calls::seal_reply(&mut expected);
         let mut lent = Lent::new(prng, &before);
+        self.under_way(Kind::Seal);
         let got = library::seal(&mut lent);
         self.compared(Outcome {
             kind: Kind::Seal,
@@ -305,6 +365,7 @@ impl Run {
         let reply = calls::judge_reply(&image.known, &path, &pairing);
         let lent_path = Lent::new(prng, &path);
         let lent_pairing = Lent::new(prng, &pairing);
+        self.under_way(Kind::Judge);
         let got = library::judge(&image.lent, &lent_path, &lent_pairing);
         self.compared(Outcome {
             kind: Kind::Judge,
@@ -343,6 +404,7 @@ impl Run {
         let mut expected = before.clone();
         let reply = calls::form_reply(&image.known, number, &mut expected);
         let mut letters = Lent::new(prng, &before);
+        self.under_way(Kind::Form);
         let got = library::form(&image.lent, number as library::EntryNumber, &mut letters);
         self.compared(Outcome {
             kind: Kind::Form,
@@ -365,7 +427,7 @@ impl Run {
             if lent.bytes() != expected {
                 faults.push(format!("the {name} differ"));
             }
-            if !lent.guards_kept() {
+            if !lent.rest_kept() {
                 faults.push(format!("bytes outside the {name} are changed"));
             }
         }
@@ -373,7 +435,7 @@ impl Run {
             if lent.bytes() != *bytes {
                 faults.push(format!("the {name} lent to be read is changed"));
             }
-            if !lent.guards_kept() {
+            if !lent.rest_kept() {
                 faults.push(format!("bytes outside the {name} are changed"));
             }
         }
@@ -400,9 +462,11 @@ impl Run {
             spoken(outcome.reply.1)
         );
         if let Some((name, before, expected, lent)) = outcome.written {
-            println!("{name} ({} bytes) before {}", before.len(), hex(before));
-            println!("{name}, engine  {}", hex(expected));
-            println!("{name}, library {}", hex(lent.bytes()));
+            let part = shown(expected, lent.bytes());
+            println!("{name} ({} bytes), from byte {}", before.len(), part.start);
+            println!("{name}, before  {}", hex(&before[part.clone()]));
+            println!("{name}, engine  {}", hex(&expected[part.clone()]));
+            println!("{name}, library {}", hex(&lent.bytes()[part]));
         }
         for (name, bytes, lent) in outcome.kept {
             if lent.bytes() != *bytes {
@@ -415,6 +479,16 @@ impl Run {
 
 fn hex(bytes: &[u8]) -> String {
     bytes.iter().map(|byte| format!("{byte:02x}")).collect()
+}
+
+/// The part to be shown where two ranges of one length differ: all, or of a long one some rows from the first difference on.
+fn shown(one: &[u8], other: &[u8]) -> Range<usize> {
+    const LONG: usize = 128 * BLOCK;
+    if one.len() <= LONG {
+        return 0..one.len();
+    }
+    let equal = one.iter().zip(other).take_while(|(a, b)| a == b).count();
+    equal..one.len().min(equal + 4 * ROW)
 }
 
 /// A reply as its number, and as four times something and a rest.

@@ -55,21 +55,27 @@ impl Kind {
     }
 }
 
-/// What a listing can have at its limit.
-const LIMITS: [&str; 5] = [
+/// What the rows of a listing can have at its limit, or past a number of bits that might be lost.
+const LIMITS: [&str; 9] = [
     "16 entries",
     "40 pairs",
     "32 letters",
     "8 lexical nulls",
     "8 surface nulls",
+    "pair 249",
+    "the largest image",
+    "entry 2048 in row 0",
+    "65536 rows",
 ];
+/// The first of the limits that analysis and generation should each have reached.
+const OF_EACH: usize = 7;
 
-/// How many replies of each kind of call have been met, and how many listings with a reading at a limit.
+/// How many replies of each kind of call have been met, and how many listings by each with a row at a limit.
 #[derive(Default)]
 pub struct Tally {
     replies: [[u64; 3]; 6],
     refusals: [[u64; 14]; 6],
-    limits: [u64; 5],
+    limits: [[u64; 9]; 2],
 }
 
 impl Tally {
@@ -81,10 +87,10 @@ impl Tally {
         }
     }
 
-    /// Counts the limits that the first readings of a listing reach.
-    pub fn count_limits(&mut self, grammar: &Grammar, readings: &[Reading]) {
-        let mut reached = [false; 5];
-        for reading in readings.iter().take(50) {
+    /// Counts the limits that the rows written by a listing reach, the first of them at least.
+    pub fn count_limits(&mut self, kind: Kind, grammar: &Grammar, rows: &[Reading]) {
+        let mut reached = [false; 9];
+        for reading in rows.iter().take(50) {
             let sides = || {
                 reading
                     .pairing
@@ -98,8 +104,21 @@ impl Tally {
             reached[2] |= pairs - surface_nulls == 32;
             reached[3] |= sides().filter(|s| s.0 == NULL).count() == 8;
             reached[4] |= surface_nulls == 8;
+            reached[5] |= reading.pairing.contains(&249);
         }
-        for (count, reached) in self.limits.iter_mut().zip(reached) {
+        let counts = [
+            grammar.letters.len(),
+            grammar.pairs.len(),
+            grammar.tables.len(),
+            grammar.starts.len() - 1,
+            grammar.entries.len(),
+        ];
+        reached[6] = !rows.is_empty() && counts == [120, 250, 32, 64, 2_800];
+        reached[7] = rows
+            .first()
+            .is_some_and(|row| row.path.iter().any(|&entry| entry >= 2_048));
+        reached[8] = rows.len() >= 65_536;
+        for (count, reached) in self.limits[kind as usize].iter_mut().zip(reached) {
             *count += u64::from(reached);
         }
     }
@@ -125,9 +144,11 @@ impl Tally {
                 let _ = write!(line, " {k}:{}", self.refusals[kind as usize][k]);
             }
         }
-        line.push_str("; listings that reach");
-        for (limit, count) in LIMITS.iter().zip(self.limits) {
-            let _ = write!(line, " {limit}: {count}");
+        for (counts, (_, name)) in self.limits.iter().zip(KINDS) {
+            let _ = write!(line, "; {name} listings that reach");
+            for (limit, count) in LIMITS.iter().zip(counts) {
+                let _ = write!(line, " {limit}: {count}");
+            }
         }
         line
     }
@@ -147,8 +168,10 @@ impl Tally {
                 }
             }
         }
-        for (limit, count) in LIMITS.iter().zip(self.limits) {
-            if count == 0 {
+        let [analyse, generate] = &self.limits;
+        for (place, limit) in LIMITS.iter().enumerate() {
+            let counts = [analyse[place], generate[place]];
+            if counts.contains(&0) && (place >= OF_EACH || counts == [0, 0]) {
                 missing.push(format!("a listing that reaches {limit}"));
             }
         }

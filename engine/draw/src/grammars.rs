@@ -9,7 +9,7 @@ use other_engine::grammar::{ANY, END, NULL};
 type Manner = fn(&mut Prng) -> Draft;
 
 /// The manners of drawing, with their weights.
-const MANNERS: [(usize, Manner); 10] = [
+const MANNERS: [(usize, Manner); 11] = [
     (300, mixed),
     (120, twins),
     (80, cycles),
@@ -19,7 +19,8 @@ const MANNERS: [(usize, Manner); 10] = [
     (60, luz),
     (60, tiny),
     (30, crowd),
-    (4, full),
+    (30, full),
+    (12, widest),
 ];
 
 /// A grammar in one of the manners.
@@ -558,7 +559,17 @@ fn crowd(prng: &mut Prng) -> Draft {
 
 /// Counts at their limits, all or some of them.
 fn full(prng: &mut Prng) -> Draft {
-    let all = prng.percent(40);
+    let all = prng.percent(60);
+    at_limits(prng, all)
+}
+
+/// All counts at their limits.
+pub fn largest(prng: &mut Prng) -> Draft {
+    at_limits(prng, true)
+}
+
+/// Counts at their limits, with the entries spread over all lexicons or most of them in the first or last.
+fn at_limits(prng: &mut Prng, all: bool) -> Draft {
     let mut most = |count: usize, few: usize| if all || prng.percent(50) { count } else { few };
     let (letters, count, rules, lexicons, entries) = (
         most(120, 20),
@@ -567,6 +578,7 @@ fn full(prng: &mut Prng) -> Draft {
         most(64, 3),
         most(2_800, 80),
     );
+    let favoured = prng.one_of(&[None, Some(0), Some(0), Some(lexicons - 1)]);
     let mut pairs: Vec<(u8, u8)> = (2..=letters as u8).map(|x| (x, x)).collect();
     pairs.push((letter(prng, letters), NULL));
     while pairs.len() < count {
@@ -595,13 +607,17 @@ fn full(prng: &mut Prng) -> Draft {
         .collect();
     let mut spread: Vec<Vec<DraftEntry>> = vec![Vec::new(); lexicons];
     for number in 0..entries {
-        let lexicon = if number == 0 { 0 } else { prng.below(lexicons) };
+        let lexicon = match favoured {
+            _ if number == 0 => 0,
+            Some(lexicon) if prng.percent(90) => lexicon,
+            _ => prng.below(lexicons),
+        };
         let length = prng.between(1, 4);
         let form = (0..length).map(|_| letter(prng, letters)).collect();
-        let continuation = if prng.percent(60) {
-            END
-        } else {
-            prng.below(lexicons) as u8
+        let continuation = match favoured {
+            _ if prng.percent(60) => END,
+            Some(lexicon) if prng.percent(50) => lexicon as u8,
+            _ => prng.below(lexicons) as u8,
         };
         let entry = entry(prng, form, continuation);
         spread[lexicon].push(entry);
@@ -611,5 +627,71 @@ fn full(prng: &mut Prng) -> Draft {
         pairs,
         tables,
         lexicons: spread,
+    }
+}
+
+/// Rows as wide as they can be: sixteen entries of four digits each and forty pairs of three.
+pub fn widest(prng: &mut Prng) -> Draft {
+    const LETTERS: u8 = 120;
+    const STAY: u8 = LETTERS - 1;
+    const DROP: u8 = LETTERS;
+    // The narrower pairs are of letters that no form has.
+    let mut pairs: Vec<(u8, u8)> = (2..100)
+        .flat_map(|x| [(x, x), (x, x + 1), (x, x + 2)])
+        .take(248)
+        .collect();
+    pairs.extend([(STAY, STAY), (DROP, NULL)]);
+    let mut forms = vec![vec![STAY, STAY]; 16];
+    for form in &mut forms[..8] {
+        form.insert(prng.below(3), DROP);
+    }
+    let others = prng.one_of(&[1_000, 2_047, 2_048, 2_600]);
+    let mut first = vec![entry(prng, vec![LETTERS - 2], END); others];
+    first.push(entry(prng, forms[0].clone(), 1));
+    let mut lexicons = vec![first];
+    for (link, form) in forms.iter().enumerate().take(15).skip(1) {
+        lexicons.push(vec![entry(prng, form.clone(), link as u8 + 1)]);
+    }
+    let last = prng.one_of(&[1, 63, 64, 65, 100]);
+    lexicons.push(vec![entry(prng, forms[15].clone(), END); last]);
+    Draft {
+        letters: (1..=u16::from(LETTERS)).collect(),
+        pairs,
+        tables: Vec::new(),
+        lexicons,
+    }
+}
+
+/// A grammar with a word and a path, as bytes, that have more readings than two bytes count.
+pub struct Many {
+    pub draft: Draft,
+    pub word: Vec<u8>,
+    pub path: Vec<u8>,
+}
+
+/// Many paths of two equal entries each read the word, and the path's one entry of three letters can be written in many ways.
+pub fn many_readings(prng: &mut Prng) -> Many {
+    let ways = prng.between(41, 42) as u8;
+    let letters = ways + 1;
+    let mut pairs: Vec<(u8, u8)> = (2..=letters).map(|y| (2, y)).collect();
+    prng.shuffle(&mut pairs);
+    let firsts = prng.between(256, 264);
+    let seconds = prng.between(257, 264);
+    let alone = prng.one_of(&[0, firsts]);
+    let mut lexicons = vec![
+        vec![entry(prng, vec![2], 1); firsts],
+        vec![entry(prng, vec![2], END); seconds],
+    ];
+    lexicons[0].insert(alone, entry(prng, vec![2, 2, 2], END));
+    let (y, z) = (letter(prng, letters.into()), letter(prng, letters.into()));
+    Many {
+        draft: Draft {
+            letters: code_points(prng, letters.into()),
+            pairs,
+            tables: Vec::new(),
+            lexicons,
+        },
+        word: vec![y, z],
+        path: (alone as u16).to_le_bytes().to_vec(),
     }
 }

@@ -6,6 +6,7 @@ use other_engine::grammar::{Grammar, END, NULL};
 use other_engine::listing::ROW;
 use other_engine::pairings::UNITS;
 use other_engine::Reading;
+use std::ops::Range;
 
 /// What is known of a grammar that words and paths can be drawn from.
 pub struct Pool {
@@ -18,6 +19,15 @@ pub fn path_bytes(path: &[u16]) -> Vec<u8> {
     path.iter().flat_map(|entry| entry.to_le_bytes()).collect()
 }
 
+/// An entry of a lexicon, often its last.
+fn one_entry(prng: &mut Prng, lexicon: &Range<usize>) -> usize {
+    if prng.percent(20) {
+        lexicon.end - 1
+    } else {
+        prng.between(lexicon.start, lexicon.end - 1)
+    }
+}
+
 /// A walk through the lexicons, and whether it ended; one that dawdles ends late.
 fn walk(prng: &mut Prng, grammar: &Grammar, most: usize, dawdles: bool) -> (Vec<u16>, bool) {
     let mut path = Vec::new();
@@ -27,12 +37,12 @@ fn walk(prng: &mut Prng, grammar: &Grammar, most: usize, dawdles: bool) -> (Vec<
         if range.is_empty() {
             break;
         }
-        let mut entry = prng.between(range.start, range.end - 1);
+        let mut entry = one_entry(prng, &range);
         let late = path.len() + 1 >= most;
         for _ in 0..6 {
             let ends = grammar.entries[entry].continuation == END;
             if dawdles && ends != late || !dawdles && path.len() > 8 && !ends {
-                entry = prng.between(range.start, range.end - 1);
+                entry = one_entry(prng, &range);
             }
         }
         path.push(entry as u16);

@@ -31,6 +31,15 @@ fn complete(grammar: &Grammar, path: &[u8]) -> Result<Vec<u16>, u8> {
 
 /// All readings of a word, in step order.
 pub fn analyse(known: &Known, word: &[u8]) -> Result<Vec<Reading>, Stop> {
+    analyse_within(Budget::default(), known, word)
+}
+
+/// All readings of a word, in step order, where this budget is enough.
+pub fn analyse_within(
+    mut budget: Budget,
+    known: &Known,
+    word: &[u8],
+) -> Result<Vec<Reading>, Stop> {
     let grammar = accepted(known).map_err(Stop::Refused)?;
     if word.is_empty() || word.len() > 32 {
         return Err(Stop::Refused(9));
@@ -41,7 +50,6 @@ pub fn analyse(known: &Known, word: &[u8]) -> Result<Vec<Reading>, Stop> {
     {
         return Err(Stop::Refused(10));
     }
-    let mut budget = Budget::default();
     let by_form = grammar
         .paths_for(word, &mut budget)
         .map_err(|_| Stop::TooBig)?;
@@ -64,10 +72,19 @@ pub fn analyse(known: &Known, word: &[u8]) -> Result<Vec<Reading>, Stop> {
 
 /// All readings of a path, in step order.
 pub fn generate(known: &Known, path: &[u8]) -> Result<Vec<Reading>, Stop> {
+    generate_within(Budget::default(), known, path)
+}
+
+/// All readings of a path, in step order, where this budget is enough.
+pub fn generate_within(
+    mut budget: Budget,
+    known: &Known,
+    path: &[u8],
+) -> Result<Vec<Reading>, Stop> {
     let grammar = accepted(known).map_err(Stop::Refused)?;
     let path = complete(grammar, path).map_err(Stop::Refused)?;
     let joined = grammar.joined(&path);
-    Budget::default()
+    budget
         .take(grammar.pairing_work(&joined))
         .map_err(|_| Stop::TooBig)?;
     let readings = grammar

@@ -14,11 +14,16 @@ pub const UNITS: u64 = 100_000;
 
 impl Default for Budget {
     fn default() -> Self {
-        Budget(UNITS)
+        Budget::of(UNITS)
     }
 }
 
 impl Budget {
+    /// So many units.
+    pub fn of(units: u64) -> Budget {
+        Budget(units)
+    }
+
     /// Takes units off, or says that they are not there.
     pub fn take(&mut self, units: u64) -> Result<(), TooBig> {
         self.0 = self.0.checked_sub(units).ok_or(TooBig)?;

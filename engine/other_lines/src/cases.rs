@@ -2,7 +2,7 @@
 
 use crate::spelling::line;
 use draw::damage::{damaged, damaged_often};
-use draw::grammars::grammar;
+use draw::grammars::{grammar, widest};
 use draw::inputs::Pool;
 use draw::prng::Prng;
 use other_engine::calls::Known;
@@ -58,37 +58,6 @@ fn about_as_many_as_rows(prng: &mut Prng) -> Draft {
         pairs: vec![(2, 2), (3, 3)],
         tables: Vec::new(),
         lexicons: vec![vec![entry(&form, END); count], vec![entry(&[3], END)]],
-    }
-}
-
-/// Rows as wide as they can be: sixteen entries of four digits each and forty pairs of three.
-fn widest(prng: &mut Prng) -> Draft {
-    const LETTERS: u8 = 120;
-    const STAY: u8 = LETTERS - 1;
-    const DROP: u8 = LETTERS;
-    // The narrower pairs are of letters that no form has.
-    let mut pairs: Vec<(u8, u8)> = (2..100)
-        .flat_map(|x| [(x, x), (x, x + 1), (x, x + 2)])
-        .take(248)
-        .collect();
-    pairs.extend([(STAY, STAY), (DROP, 0)]);
-    let mut forms = vec![vec![STAY, STAY]; 16];
-    for form in &mut forms[..8] {
-        form.insert(prng.below(3), DROP);
-    }
-    let mut first = vec![entry(&[LETTERS - 2], END); 1_000];
-    first.push(entry(&forms[0], 1));
-    let mut lexicons = vec![first];
-    for (link, form) in forms.iter().enumerate().take(15).skip(1) {
-        lexicons.push(vec![entry(form, link as u8 + 1)]);
-    }
-    let last = prng.one_of(&[1, 63, 64, 65, 100]);
-    lexicons.push(vec![entry(&forms[15], END); last]);
-    Draft {
-        letters: (1..=u16::from(LETTERS)).collect(),
-        pairs,
-        tables: Vec::new(),
-        lexicons,
     }
 }
 
@@ -166,7 +135,8 @@ fn input(prng: &mut Prng, place: &Place, known: &Known) -> Vec<u8> {
         return Vec::new();
     }
     let pool = Pool::of(prng, known);
-    let count = prng.between(1, 40);
+    let big = place.bytes().len() > 40 * BLOCK;
+    let count = prng.between(1, if big { 12 } else { 40 });
     let mut lines: Vec<Vec<u8>> = (0..count).map(|_| line(prng, known, &pool)).collect();
     // The program may well check its image at each line, so a long input gets a small one.
     if place.bytes().len() < 20 * BLOCK && prng.percent(8) {
@@ -224,7 +194,8 @@ pub fn case(prng: &mut Prng) -> Case {
 
 #[cfg(test)]
 mod tests {
-    use super::{settled, widest};
+    use super::settled;
+    use draw::grammars::widest;
     use draw::prng::Prng;
     use other_engine::draft::{Draft, DraftEntry};
     use other_engine::image::read;

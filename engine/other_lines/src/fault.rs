@@ -9,7 +9,7 @@ pub enum Fault {
     Difference(String),
     /// The arguments are wrong, or a file or the program can't be used.
     Unusable(String),
-    /// Some reply was never met.
+    /// Some reply, or the like, was never met.
     Coverage(String),
 }
 

@@ -3,11 +3,20 @@
 /// The replies a line can get.
 const REPLIES: [&str; 5] = ["all", "more", "none", "refused", "unread"];
 
-/// How often each reply, and each refusal, was met.
+/// How often each reply, and each refusal, was met, and how often a first row with an entry that needs more than eleven bits.
 #[derive(Default)]
 pub struct Tally {
     replies: [u64; 5],
     refusals: [u64; 11],
+    late_entries: u64,
+}
+
+/// Whether the first row of an answer has an entry from 2,048 on.
+fn has_late_entry(text: &str) -> bool {
+    let row = text.lines().nth(1);
+    let entries = row.and_then(|row| row.split_once(" | ")).map(|row| row.0);
+    let mut numbers = entries.into_iter().flat_map(str::split_ascii_whitespace);
+    numbers.any(|number| number.parse().is_ok_and(|entry: u16| entry >= 2_048))
 }
 
 impl Tally {
@@ -23,6 +32,7 @@ impl Tally {
             let k: usize = k;
             self.refusals[k] += 1;
         }
+        self.late_entries += u64::from(has_late_entry(text));
     }
 
     /// All replies together.
@@ -37,12 +47,31 @@ impl Tally {
         let by_number: Vec<String> = (1..self.refusals.len())
             .map(|k| format!("{k}:{}", self.refusals[k]))
             .collect();
-        format!("{}; refused {}", replies.join(" "), by_number.join(" "))
+        let late = self.late_entries;
+        format!(
+            "{}; refused {}; entry 2048 in row 0: {late}",
+            replies.join(" "),
+            by_number.join(" ")
+        )
     }
 
-    /// The replies never met.
+    /// What should have been met and has not.
     pub fn missing(&self) -> Vec<&'static str> {
         let unmet = REPLIES.iter().zip(self.replies).filter(|(_, n)| *n == 0);
-        unmet.map(|(&name, _)| name).collect()
+        let late = (self.late_entries == 0).then_some("entry 2048 in row 0");
+        unmet.map(|(&name, _)| name).chain(late).collect()
+    }
+}
+
+#[cfg(test)]
+mod tests {
+    use super::has_late_entry;
+
+    #[test]
+    fn late_entries_are_seen_in_the_first_row_alone() {
+        assert!(has_late_entry("all 1\n0 2048 | 3 5\n"));
+        assert!(!has_late_entry("all 1\n0 2047 | 3 5\n"));
+        assert!(!has_late_entry("all 2\n0 | 1\n2048 | 1\n"));
+        assert!(!has_late_entry("none 0\n"));
     }
 }

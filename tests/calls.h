@@ -1,0 +1,93 @@
+/* Each call is made twice, with its ranges at the end of their pages and at the start, and its reply and every byte of its ranges are compared. */
+#ifndef CALLS_H
+#define CALLS_H
+
+#include "headwords.h"
+#include "lent.h"
+
+static inline uint64_t refused(unsigned k)
+{
+    return 4 * k + 3;
+}
+
+/* The row of a path, two bytes an entry, and a pairing. */
+static inline void put_row(uint8_t *row, struct bytes path, struct bytes pairing)
+{
+    memset(row, 255, HEADWORDS_ROW_BYTES);
+    row[0] = (uint8_t)(path.length / 2);
+    row[1] = 0;
+    memcpy(row + 2, path.at, path.length);
+    row[34] = (uint8_t)pairing.length;
+    row[35] = 0;
+    for (size_t i = 0; i < pairing.length; i++) {
+        row[36 + 2 * i] = pairing.at[i];
+        row[37 + 2 * i] = 0;
+    }
+}
+
+/* `what` names the call when it is wrong; `written` is what stands at the front of the buffer afterwards. */
+
+typedef uint64_t listing(const uint8_t *, size_t, const uint8_t *, size_t, uint8_t *, size_t);
+
+static inline void list(listing *call, const char *what, struct bytes image, struct bytes given, size_t room, uint64_t reply, struct bytes written)
+{
+    for (enum side side = 0; side < SIDES; side++) {
+        const uint8_t *lent_image = lend(IMAGE, side, image), *lent_given = lend(GIVEN, side, given);
+        uint8_t *rows = lend_room(OUT, side, room);
+        expect(OUT, written);
+        called = what;
+        answered(call(lent_image, image.length, lent_given, given.length, rows, room), reply);
+    }
+}
+
+static inline void analyse(const char *what, struct bytes image, struct bytes word, size_t room, uint64_t reply, struct bytes written)
+{
+    list(headwords_analyse, what, image, word, room, reply, written);
+}
+
+static inline void generate(const char *what, struct bytes image, struct bytes path, size_t room, uint64_t reply, struct bytes written)
+{
+    list(headwords_generate, what, image, path, room, reply, written);
+}
+
+static inline void judge(const char *what, struct bytes image, struct bytes path, struct bytes pairing, uint64_t reply)
+{
+    for (enum side side = 0; side < SIDES; side++) {
+        const uint8_t *lent_image = lend(IMAGE, side, image), *lent_path = lend(GIVEN, side, path), *lent_pairing = lend(PAIRING, side, pairing);
+        called = what;
+        answered(headwords_judge(lent_image, image.length, lent_path, path.length, lent_pairing, pairing.length), reply);
+    }
+}
+
+static inline void form(const char *what, struct bytes image, size_t entry, size_t room, uint64_t reply, struct bytes written)
+{
+    for (enum side side = 0; side < SIDES; side++) {
+        const uint8_t *lent_image = lend(IMAGE, side, image);
+        uint8_t *letters = lend_room(OUT, side, room);
+        expect(OUT, written);
+        called = what;
+        answered(headwords_form(lent_image, image.length, entry, letters, room), reply);
+    }
+}
+
+static inline void check(const char *what, struct bytes image, uint64_t reply)
+{
+    for (enum side side = 0; side < SIDES; side++) {
+        const uint8_t *lent_image = lend(IMAGE, side, image);
+        called = what;
+        answered(headwords_check(lent_image, image.length), reply);
+    }
+}
+
+/* `sealed` is the image afterwards. */
+static inline void seal(const char *what, struct bytes image, uint64_t reply, struct bytes sealed)
+{
+    for (enum side side = 0; side < SIDES; side++) {
+        uint8_t *lent_image = lend(IMAGE, side, image);
+        expect(IMAGE, sealed);
+        called = what;
+        answered(headwords_seal(lent_image, image.length), reply);
+    }
+}
+
+#endif

@@ -1,0 +1,253 @@
+/* The C entry at its limits: the largest image there is, with entries, pairs and rules up to the last, and listings of more than 65,536 readings. */
+#define _DEFAULT_SOURCE
+#include "calls.h"
+
+enum { BLOCK = 512, ROW = HEADWORDS_ROW_BYTES };
+
+static void put_two(uint8_t *at, size_t number)
+{
+    at[0] = (uint8_t)(number % 256);
+    at[1] = (uint8_t)(number / 256);
+}
+
+/* An image made block by block, and then sealed. */
+struct image {
+    uint8_t bytes[128 * BLOCK];
+    size_t length;
+};
+
+/* The records of the next block. */
+static uint8_t *add_block(struct image *image, uint8_t kind, size_t records)
+{
+    uint8_t *block = image->bytes + image->length;
+    image->length += BLOCK;
+    block[2] = kind;
+    block[3] = (uint8_t)records;
+    return block + 4;
+}
+
+static void add_header(struct image *image, size_t letters, size_t pairs, size_t rules, size_t lexicons, size_t entries)
+{
+    size_t counts[] = {1, letters, pairs, rules, lexicons, entries};
+    uint8_t *header = add_block(image, 1, 1);
+    for (size_t i = 0; i < 6; i++)
+        put_two(header + 2 * i, counts[i]);
+    uint8_t *points = add_block(image, 2, letters);
+    for (size_t i = 0; i < letters; i++)
+        put_two(points + 2 * i, 100 + i);
+}
+
+struct entry {
+    struct bytes form;
+    uint8_t continuation;
+};
+
+/* Entry number e is entry_of(e). */
+static void add_entries(struct image *image, size_t entries, struct entry entry_of(size_t))
+{
+    uint8_t *at = NULL;
+    for (size_t e = 0; e < entries; e++) {
+        at = e % 31 > 0 ? at + 16 : add_block(image, 6, entries - e < 31 ? entries - e : 31);
+        struct entry entry = entry_of(e);
+        at[0] = (uint8_t)entry.form.length;
+        memcpy(at + 1, entry.form.at, entry.form.length);
+        at[13] = entry.continuation;
+        put_two(at + 14, e);
+    }
+}
+
+static struct bytes sealed(struct image *image)
+{
+    headwords_seal(image->bytes, image->length);
+    return (struct bytes){image->bytes, image->length};
+}
+
+/* The largest image. Pairs 0 to 118 are x:x, 119 to 236 are x:x+1, the others x:0 for letters that no form has. The forms of lexicon 0 are two even
+ * letters, all unlike. By entry number their paths end there, go on through lexicons 1 to 15, or through lexicons 49 to 63; all these have one entry,
+ * which is empty. Only the last rule fails, and only for 64:64. */
+enum { STEMS = 2737, ENTRIES = 2800, NO_PAIR = 64 };
+
+static struct bytes letters_of(size_t stem)
+{
+    static uint8_t letters[2];
+    letters[0] = (uint8_t)(2 + 2 * (stem / 60));
+    letters[1] = (uint8_t)(2 + 2 * (stem % 60));
+    return (struct bytes){letters, 2};
+}
+
+static struct entry largest_entry(size_t e)
+{
+    static const uint8_t after_stem[] = {255, 1, 49};
+    size_t lexicon = e - STEMS + 1;
+    if (e < STEMS)
+        return (struct entry){letters_of(e), after_stem[e % 3]};
+    return (struct entry){nothing, lexicon == 15 || lexicon == 63 ? 255 : (uint8_t)(lexicon + 1)};
+}
+
+static struct bytes path_of(size_t stem)
+{
+    static uint8_t path[32];
+    put_two(path, stem);
+    for (size_t i = 1; i < 16; i++)
+        put_two(path + 2 * i, STEMS - 1 + i + (stem % 3 == 2 ? 48 : 0));
+    return (struct bytes){path, stem % 3 == 0 ? 2 : 32};
+}
+
+static struct bytes largest(void)
+{
+    static struct image image;
+    add_header(&image, 120, 250, 32, 64, ENTRIES);
+    uint8_t *pair = add_block(&image, 3, 250);
+    for (uint8_t x = 2; x <= 120; x++, pair += 2)
+        pair[0] = pair[1] = x;
+    for (uint8_t x = 2; x <= 119; x++, pair += 2) {
+        pair[0] = x;
+        pair[1] = x + 1;
+    }
+    for (uint8_t x = 3; x <= 27; x += 2, pair += 2)
+        pair[0] = x;
+    for (unsigned rule = 0; rule < 32; rule++) {
+        uint8_t *table = add_block(&image, 4, 1), *columns = table + 2, *marks = columns + 32, *rows = marks + 24;
+        table[0] = 16;
+        table[1] = 24;
+        for (unsigned c = 0; c < 15; c++)
+            columns[2 * c] = columns[2 * c + 1] = (uint8_t)(2 * (rule + c + 1));
+        columns[30] = columns[31] = 255;
+        memset(marks, 1, 24);
+        for (unsigned s = 0; s < 24; s++)
+            for (unsigned c = 0; c < 16; c++)
+                rows[16 * s + c] = rule == 31 && columns[2 * c] == NO_PAIR ? 0 : (uint8_t)((s + 1) % 24 + 1);
+    }
+    uint8_t *counts = add_block(&image, 5, 64);
+    put_two(counts, STEMS);
+    for (size_t lexicon = 1; lexicon < 64; lexicon++)
+        put_two(counts + 2 * lexicon, 1);
+    add_entries(&image, ENTRIES, largest_entry);
+    return sealed(&image);
+}
+
+/* Every call on one stem, both of its letters as x:x and as x:x+1. */
+static void stem(struct bytes image, size_t e)
+{
+    enum { ROOM = 5 * ROW + 7 };
+    char what[32];
+    uint8_t rows[4 * ROW];
+    size_t n = 0;
+    sprintf(what, "entry %zu of 2800", e);
+    struct bytes letters = letters_of(e), path = path_of(e);
+    uint8_t x = letters.at[0], y = letters.at[1];
+    for (uint8_t i = 0; i < 2; i++)
+        for (uint8_t j = 0; j < 2; j++) {
+            if (y + j > 120)
+                continue;
+            struct bytes word = BYTES(x + i, y + j), pairing = BYTES(i ? 117 + x : x - 2, j ? 117 + y : y - 2);
+            int passes = (i || x != NO_PAIR) && (j || y != NO_PAIR);
+            uint8_t *row = rows + ROW * n;
+            put_row(row, path, pairing);
+            judge(what, image, path, pairing, passes);
+            if (i == j)
+                analyse(what, image, word, ROOM, passes ? 5 : 0, (struct bytes){row, passes ? ROW : 0});
+            n += passes;
+        }
+    generate(what, image, path, ROOM, 4 * n + 1, (struct bytes){rows, ROW * n});
+    form(what, image, e, 12, 4 * 2 + 1, letters);
+}
+
+static void entries(void)
+{
+    static const size_t edges[] = {255, 256, 1023, 1024, 2047, 2048, 2049, STEMS - 2, STEMS - 1};
+    struct bytes image = largest();
+    check("largest image", image, image.length == 127 * BLOCK ? 1 : 0);
+    for (size_t e = 0; e < STEMS; e += 59)
+        stem(image, e);
+    for (size_t i = 0; i < sizeof edges / sizeof *edges; i++)
+        stem(image, edges[i]);
+    form("entry 2799", image, ENTRIES - 1, 12, 1, nothing);
+    form("entry 2800", image, ENTRIES, 12, refused(12), nothing);
+    generate("entry 2800", image, BYTES(ENTRIES % 256, ENTRIES / 256), ROW, refused(12), nothing);
+    judge("pair 250", image, path_of(2048), BYTES(0, 250), refused(13));
+    analyse("letter 121", image, BYTES(2, 121), ROW, refused(10), nothing);
+}
+
+/* 128 blocks of nothing: sealed, and then refused for their form. */
+static void zeros(void)
+{
+    static uint8_t before[128 * BLOCK], after[128 * BLOCK];
+    for (size_t k = 0; k < 128; k++) {
+        after[BLOCK * k] = (uint8_t)k;
+        after[BLOCK * k + 510] = (uint8_t)(1 + k);
+    }
+    struct bytes image = {after, sizeof after};
+    seal("128 blocks", (struct bytes){before, sizeof before}, 1, image);
+    check("128 blocks", image, refused(3));
+    analyse("128 blocks", image, BYTES(2), ROW, refused(3), nothing);
+}
+
+/* A word and a path with many readings. Letter 2 may be written as each of 41 letters, so that entry 0, of three letters, is written in 41 * 41 * 41
+ * ways. The other 256 entries of lexicon 0 and the 257 of lexicon 1 are all alike, so that there are 256 * 257 paths for two letters. */
+enum { WAYS = 41, FIRSTS = 256, SECONDS = 257 };
+
+static struct entry alike(size_t e)
+{
+    static const uint8_t letters[] = {2, 2, 2};
+    return (struct entry){{letters, e == 0 ? 3 : 1}, 0 < e && e <= FIRSTS ? 1 : 255};
+}
+
+static struct bytes many(void)
+{
+    static struct image image;
+    add_header(&image, WAYS + 1, WAYS, 0, 2, 1 + FIRSTS + SECONDS);
+    uint8_t *pairs = add_block(&image, 3, WAYS);
+    for (uint8_t i = 0; i < WAYS; i++) {
+        pairs[2 * i] = 2;
+        pairs[2 * i + 1] = 2 + i;
+    }
+    uint8_t *counts = add_block(&image, 5, 2);
+    put_two(counts, 1 + FIRSTS);
+    put_two(counts + 2, SECONDS);
+    add_entries(&image, 1 + FIRSTS + SECONDS, alike);
+    return sealed(&image);
+}
+
+/* A listing of so many rows into buffers around 65,536 rows and around them all. */
+static void listed(listing *call, const char *what, struct bytes image, struct bytes given, const uint8_t *rows, size_t all)
+{
+    const size_t rooms[] = {65535, 65536, 65537, all - 1, all, all + 1};
+    for (size_t i = 0; i < sizeof rooms / sizeof *rooms; i++) {
+        size_t n = rooms[i] < all ? rooms[i] : all;
+        list(call, what, image, given, ROW * rooms[i], 4 * n + (n < all ? 2 : 1), (struct bytes){rows, ROW * n});
+    }
+}
+
+static void readings(void)
+{
+    enum { WORDS = WAYS * WAYS * WAYS, PATHS = FIRSTS * SECONDS };
+    struct bytes image = many();
+    uint8_t *rows = malloc(ROW * WORDS), path[4];
+    if (rows == NULL)
+        exit(2);
+    make_room(OUT, ROW * (WORDS + 1));
+    for (size_t k = 0; k < PATHS; k++) {
+        put_two(path, 1 + k / SECONDS);
+        put_two(path + 2, 1 + FIRSTS + k % SECONDS);
+        put_row(rows + ROW * k, (struct bytes){path, 4}, BYTES(0, 0));
+    }
+    listed(headwords_analyse, "a word with 65792 readings", image, BYTES(2, 2), rows, PATHS);
+    for (size_t k = 0; k < WORDS; k++)
+        put_row(rows + ROW * k, BYTES(0, 0), BYTES((uint8_t)(k / WAYS / WAYS), (uint8_t)(k / WAYS % WAYS), (uint8_t)(k % WAYS)));
+    listed(headwords_generate, "a path with 68921 readings", image, BYTES(0, 0), rows, WORDS);
+    free(rows);
+}
+
+int main(void)
+{
+    make_room(IMAGE, 128 * BLOCK);
+    make_room(GIVEN, 32);
+    make_room(PAIRING, 2);
+    make_room(OUT, 6 * ROW);
+    watch();
+    entries();
+    zeros();
+    readings();
+    return failures > 0;
+}
