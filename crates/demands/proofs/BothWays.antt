@@ -1,11 +1,11 @@
 -- Of an accepted image: the word and the path of a reading are taken by both calls, and the rows of the two calls agree.
-use Prim.Native.Nat.{ℕ, zero, suc, _*_, _/_, _%_, _<_}
+use Prim.Native.Nat.{ℕ, zero, suc, _+_, _-_, _*_, _/_, _%_, _<_, _≤_}
 use native.Mathlib.Omega.{arith}
 use mathlib.Core.Path.{_≡_, refl, sym, ap, _∙_, subst}
 use mathlib.Core.Logic.{_↔_, inl, inr}
-use mathlib.Core.List.{List, [], _∷_, map, List·Memᴰ, Memᴰ·map}
-use lib.ListN.{length, getD}
-use lib.Seq.{ext-getD}
+use mathlib.Core.List.{List, [], _∷_, _++_, map, append-assoc, List·Memᴰ, Memᴰ·map}
+use lib.ListN.{length, getD, take, drop, replicate}
+use lib.Seq.{ext-getD, take-at, take-append-add}
 use lib.Dec.{T, ltb, eqb, ltb→lt}
 use Rattle.model.specs.Lists.{below, every, flatMap, within, number, numberBytes}
 use Rattle.model.specs.Blocks.{header}
@@ -14,11 +14,11 @@ use Rattle.model.specs.GrammarOf.{grammarOf}
 use Rattle.model.specs.Readings.{Reading, withoutNulls, spelled, wordLength, isLinked, isPath, word, isReading}
 use Rattle.model.specs.Query.{Request, analysis, generation, entryNumbers}
 use Rattle.model.specs.Refusals.{Verdict, accepted, firstFailing, rightPairs, imageVerdict, imageTests, wordTests, pathTests, ownTests, requestTests}
-use Rattle.model.specs.Rows.{Reply, rowBytes, rowCount}
+use Rattle.model.specs.Rows.{Reply, padded, rowNumbers, rowBytes, rowCount}
 use Rattle.model.specs.Calls.{allReadings, listingReply, afterListing}
 use Rattle.model.specs.Demand.{Demand3, IsMore, rowsHandedBack}
 use Rattle.model.proofs.Booleans.{and-out, and-in, true-of, of-true, eq→eqb, within-in}
-use Rattle.model.proofs.Lists.{length-map-below, getD-map-below}
+use Rattle.model.proofs.Lists.{length-map-below, getD-map-below, flatMap-append}
 use Rattle.model.proofs.Parts.{length-parts}
 use Rattle.model.proofs.Demand.{tests-append}
 use Rattle.letters.proofs.Laws.{IsSide, right-pair}
@@ -150,3 +150,17 @@ readings-converse image w r a =
       λ m. let t = among-iff g (analysis w) r .0 m in (among-iff g (generation (pathBytes (r .path))) r .1 (t .0, sym (path-back image a r (t .0))), t .1),
       λ m. let t = among-iff g (generation (pathBytes (r .path))) r .0 (m .0) in among-iff g (analysis w) r .1 (t .0, m .1),
     )
+
+-- a row has the bytes of its path from byte 2 on
+pub path-in-row : (r : Reading) → length (r .path) ≤ 16 → take (2 * length (r .path)) (drop 2 (rowBytes r)) ≡ pathBytes (r .path)
+unfolding rowBytes rowNumbers
+path-in-row r few =
+    let es = r .path in
+    let n : 16 ≡ length es + (16 - length es) = omega arith in
+    let unused : List ℕ = take (16 - length es) (replicate 16 65535) in
+    let rest : List ℕ = length (r .pairing) ∷ padded 40 (r .pairing) in
+    let e : padded 16 es ≡ es ++ unused = ap (λ (k : ℕ). take k (es ++ replicate 16 65535)) n ∙ take-append-add es (replicate 16 65535) (16 - length es) in
+    ap (λ (l : List ℕ). take (2 * length es) (flatMap numberBytes (l ++ rest))) e
+    ∙ ap (λ (l : List ℕ). take (2 * length es) (flatMap numberBytes l)) (append-assoc es unused rest)
+    ∙ ap (take (2 * length es)) (flatMap-append numberBytes es (unused ++ rest))
+    ∙ take-at (pathBytes es) (flatMap numberBytes (unused ++ rest)) (2 * length es) (length-pathBytes es)

@@ -5,6 +5,7 @@ use mathlib.Core.Bool.{Bool}
 use mathlib.Core.Path.{_≡_, sym, ap₂, _∙_, subst}
 use mathlib.Core.Logic.{_↔_, _⊎_, inl, inr}
 use mathlib.Core.List.{List, [], _∷_, map, List·Memᴰ}
+use lib.ListN.{length, take, drop}
 use lib.Dec.{T}
 use Rattle.model.specs.Lists.{joined, within}
 use Rattle.model.specs.Blocks.{sealedImage}
@@ -37,17 +38,19 @@ use Rattle.headwords.proofs.headwords_check.Reads as headwords-check
 use Rattle.headwords.proofs.headwords_seal.Reads as headwords-seal
 use Rattle.headwords.proofs.headwords_judge.Reads as headwords-judge
 use Rattle.headwords.proofs.headwords_form.Reads as headwords-form
+use Rattle.headwords.specs.Numbers.{verdictNumber, sealingNumber, judgementNumber, formNumber}
 use Rattle.answers.proofs.Listed.{Small}
+use Rattle.demands.proofs.Ends.{Ends, each-ends}
 use Rattle.demands.proofs.Refusing.{FirstFails, InTable, Case, either-of, not-both-of, by-first, by-table, unchanged-of}
 use Rattle.demands.proofs.Calls as calls
 use Rattle.demands.proofs.Calls.{Judged, formLetters}
 use Rattle.demands.proofs.Numbers as numbers
-use Rattle.demands.proofs.Numbers.{JudgedNumber, FormCopied}
+use Rattle.demands.proofs.Numbers.{Coding, JudgedNumber, FormCopied}
 use Rattle.demands.proofs.Given.{Asks, reading-path, reading-forms, reading-tables, row-given}
-use Rattle.demands.proofs.BothWays.{pathBytes, word-taken, path-taken, both-taken, image-accepted, rows-converse, readings-converse}
+use Rattle.demands.proofs.BothWays.{pathBytes, word-taken, path-taken, both-taken, image-accepted, rows-converse, readings-converse, path-in-row}
 
 -- A listing: what one of the four calls that list may reply and leave, by the image, what is asked, and the lent buffer before and after it.
--- In C the reply is the one that the number stands for; no two have one number (`listing-coding`).
+-- In C the reply is the one that the number stands for; no two have one number (`codings`).
 pub data Listing : List ℕ → Request → List ℕ → List ℕ → Reply → Type 1 where
   by-analyse : (κs : _) (a : _) (r : _) (s : _) → analyse.Post κs a r s → Listing (a .0 .now) (analysis (a .1 .0 .now)) (a .1 .1 .0 .now) (s .1 .1 .0 .now) (replyOf r)
   by-generate : (κs : _) (a : _) (r : _) (s : _) → generate.Post κs a r s → Listing (a .0 .now) (generation (a .1 .0 .now)) (a .1 .1 .0 .now) (s .1 .1 .0 .now) (replyOf r)
@@ -67,7 +70,6 @@ promise (in-C-generate κs a r s reply p e) = (numbers.listing-coding .apart rep
 -- DEMAND 1
 
 -- "The program takes every image, word, path and buffer": no call asks anything of what it is lent.
--- "ends": each function's proof is that it returns, and then with `Post`.
 pub takes-every :
     ((κs : _) (a : _) → analyse.Asked κs a)
     × ((κs : _) (a : _) → generate.Asked κs a)
@@ -78,13 +80,18 @@ pub takes-every :
     × ((κs : _) (a : _) → judge.Asked κs a)
     × ((κs : _) (a : _) → headwords-analyse.Asked κs a)
     × ((κs : _) (a : _) → headwords-generate.Asked κs a)
-    × ((κs : _) (a : _) → headwords-check.Asked κs a)
     × ((κs : _) (a : _) → headwords-seal.Asked κs a)
+    × ((κs : _) (a : _) → headwords-check.Asked κs a)
     × ((κs : _) (a : _) → headwords-judge.Asked κs a)
     × ((κs : _) (a : _) → headwords-form.Asked κs a)
 takes-every = (λ κs a. tt, λ κs a. tt, λ κs a. tt, λ κs a. tt, λ κs a. tt, λ κs a. tt, λ κs a. tt, λ κs a. tt, λ κs a. tt, λ κs a. tt, λ κs a. tt, λ κs a. tt, λ κs a. tt)
 
--- for a call by its tests, what its refusal with k is, what it is that nothing lent has changed, and its work
+-- "ends": each of the thirteen returns, from whatever it is lent.
+pub ends : {M : Type 1} → Ends M
+ends = each-ends
+
+-- "and either does its work or refuses with a number of document 01's table. A refusal changes no byte that was lent.": of a call by its tests, what it is
+-- that it refuses with k, that no byte lent to be written has changed, and that it does its work. (A slice lent to be read cannot change, by its type.)
 pub record Demand1 (tests : List (ℕ × Bool)) (Refused : ℕ → Type 0) (Unchanged Work : Type 0) : Type 0 where
   -- "either does its work or refuses"
   pub either : Work ⊎ ((k : ℕ) × Refused k)
@@ -116,7 +123,7 @@ pub demand1-seal : (κs : _) (a : _) (r : _) (s : _) → seal.Post κs a r s
     Demand1 ((1, rightLength image) ∷ []) (λ k. sealingOf r ≡ Sealing.refused k) (after ≡ image) ((sealingOf r ≡ Sealing.sealed) × (after ≡ sealedImage image))
 demand1-seal κs a r s p = demand1 tt (calls.sealing-case (a .0 .now) (s .0 .now) (sealingOf r) (p .0) (p .1))
 
--- the image check: tests 1 to 8. It is lent nothing that it could write, nor are the judge, the view and its companion.
+-- the image check: tests 1 to 8. It, the judge, the view and its companion are lent nothing to be written.
 pub demand1-check : (κs : _) (a : _) (r : _) (s : _) → check.Post κs a r s
     → let image = a .0 .now in
     Demand1 (imageTests image) (λ k. verdictOf r ≡ Verdict.refused k) Unit (verdictOf r ≡ accepted)
@@ -142,7 +149,15 @@ pub demand1-form-view : (κs : _) (a : _) (r : _) (s : _) → form-view.Post κs
 demand1-form-view κs a r s p κs′ a′ r′ s′ p′ e f =
     demand1 (calls.view-table (a .0 .now) (a .1 .0)) (calls.view-case (a .0 .now) (a .1 .0) (formReplyOf r′) (r .now) (p′ ∙ ap₂ (λ (i : List ℕ) (n : ℕ). formReply i n) e f) p)
 
--- The calls from C: 4k + 3 is refused k.
+-- The calls from C. Their coding loses nothing: no two replies have one number, and 4k + 3 is refused k alone.
+pub codings :
+    Coding replyNumber Reply.refused
+    × Coding sealingNumber Sealing.refused
+    × Coding verdictNumber Verdict.refused
+    × Coding judgementNumber Judgement.refused
+    × ((room : ℕ) → Coding (formNumber room) FormReply.refused)
+codings = (numbers.listing-coding, numbers.sealing-coding, numbers.check-coding, numbers.judge-coding, numbers.form-coding)
+
 pub demand1-headwords-analyse : (κs : _) (a : _) (r : _) (s : _) → headwords-analyse.Post κs a r s
     → let image = a .0 .now in let request = analysis (a .1 .0 .now) in let before = a .1 .1 .0 .now in let after = s .1 .1 .0 .now in
     Demand1 (requestTests image request) (λ k. r ≡ 4 * k + 3) (after ≡ before) ((reply : Reply) × (r ≡ replyNumber reply) × Demand3 (allReadings image request) reply before after)
@@ -221,10 +236,14 @@ pub converse-calls : (image w : List ℕ) (r : Reading) → Small r
 converse-calls image w r fits {before} {after} {reply} l whole {before′} {after′} {reply′} l′ whole′ =
     rows-converse image w r fits before after reply (promise l .0) (promise l .1) whole before′ after′ reply′ (promise l′ .0) (promise l′ .1) whole′
 
--- so that each call can be asked for what the other hands back: a reading's word passes tests 9 and 10, its path 11 and 12,
+-- Each call can be asked for what the other hands back: a reading's word passes tests 9 and 10, its path 11 and 12,
 pub reading-admissible : (image : List ℕ) → imageVerdict image ≡ accepted → (r : Reading) → T (isReading (grammarOf image) r)
     → (firstFailing (wordTests image (word (grammarOf image) r)) ≡ accepted) × (firstFailing (pathTests image (pathBytes (r .path))) ≡ accepted)
 reading-admissible image a r t = (word-taken image a r t, path-taken image a r t)
+
+-- whose bytes stand in its row from byte 2 on,
+pub path-bytes : (r : Reading) → Small r → take (2 * length (r .path)) (drop 2 (rowBytes r)) ≡ pathBytes (r .path)
+path-bytes r fits = path-in-row r (fits .entries-most)
 
 -- and neither call refuses them
 pub handed-on : {image : List ℕ} {request : Request} {before after : List ℕ} {reply : Reply} (l : Listing image request before after reply) (row : List ℕ) (m : List·Memᴰ row (rowsHandedBack reply after))

@@ -1,3 +1,4 @@
+pub mod Ends
 pub mod Refusing
 pub mod Calls
 pub mod Numbers
