@@ -21,18 +21,16 @@ use Rattle.model.proofs.Booleans.{and-out, and-in, true-of, of-true, eq→eqb, 
 use Rattle.model.proofs.Lists.{length-map-below, getD-map-below, flatMap-append}
 use Rattle.model.proofs.Parts.{length-parts}
 use Rattle.model.proofs.Demand.{tests-append}
+use Rattle.model.proofs.Converse.{converse}
 use Rattle.letters.proofs.Laws.{IsSide, right-pair}
 use Rattle.grammar.proofs.Verdicts.{accepted-image}
 use Rattle.print.specs.Text.{rowReading}
 use Rattle.print.proofs.Text.{TwoBytes, number-at, getD-in, row-reading}
 use Rattle.answers.proofs.Listed.{Small, reading-small}
+use Rattle.demands.specs.Words.{Asks, pathBytes}
 use Rattle.demands.proofs.Refusing.{Case}
 use Rattle.demands.proofs.Calls.{listing-case, listing-passed}
-use Rattle.demands.proofs.Given.{Asks, among-iff, reading-path, reading-pairs, reading-word, refused-rows, row-given}
-
--- "a path as bytes, two to an entry number"
-abbrev pub pathBytes : List ℕ → List ℕ
-pathBytes es = flatMap numberBytes es
+use Rattle.demands.proofs.Given.{among-iff, reading-path, reading-pairs, reading-word, refused-rows, row-given}
 
 module _ (es : List ℕ) where
   length-pathBytes : length (pathBytes es) ≡ 2 * length es
@@ -146,9 +144,10 @@ pub readings-converse : (image w : List ℕ) (r : Reading) → imageVerdict imag
     → List·Memᴰ r (allReadings image (analysis w)) ↔ (List·Memᴰ r (allReadings image (generation (pathBytes (r .path)))) × (word (grammarOf image) r ≡ w))
 unfolding allReadings
 readings-converse image w r a =
-    let g = grammarOf image in (
-      λ m. let t = among-iff g (analysis w) r .0 m in (among-iff g (generation (pathBytes (r .path))) r .1 (t .0, sym (path-back image a r (t .0))), t .1),
-      λ m. let t = among-iff g (generation (pathBytes (r .path))) r .0 (m .0) in among-iff g (analysis w) r .1 (t .0, m .1),
+    let g = grammarOf image in
+    let path = pathBytes (r .path) in (
+      λ m. converse g w path r (path-back image a r (among-iff g (analysis w) r .0 m .0)) .0 m,
+      λ m. converse g w path r (path-back image a r (among-iff g (generation path) r .0 (m .0) .0)) .1 m,
     )
 
 -- a row has the bytes of its path from byte 2 on

@@ -20,6 +20,7 @@ use Rattle.model.specs.Demand.{Demand3, asRows}
 use Rattle.model.proofs.Booleans.{of-true}
 use Rattle.model.proofs.Demand.{tests-append, demand3-call}
 use Rattle.analyser.proofs.Replies.{refused-by}
+use Rattle.demands.specs.Words.{IsJudged, Judged, formLetters}
 use Rattle.demands.proofs.Refusing.{clash, Case, InTable}
 
 -- a reply that refuses lists nothing
@@ -96,31 +97,21 @@ module _ (image : List ℕ) (reply : Verdict) (replies : reply ≡ imageVerdict 
 
 -- the judge
 module _ (image path pairing : List ℕ) where
-  abbrev pub IsJudged : Bool
-  IsJudged = isReading (grammarOf image) (record { path = entryNumbers path; pairing = pairing })
-
-  -- "holds exactly for a reading of the word it spells"
-  abbrev pub Judged : Judgement → Type 0
-  Judged reply = ((reply ≡ Judgement.holds) × T IsJudged) ⊎ ((reply ≡ Judgement.fails) × (T IsJudged → ⊥))
-
-  pub judge-case : (reply : Judgement) → reply ≡ judged image path pairing → Case (λ k. reply ≡ Judgement.refused k) Unit (Judged reply) (firstFailing (judgeTests image path pairing))
+  pub judge-case : (reply : Judgement) → reply ≡ judged image path pairing → Case (λ k. reply ≡ Judgement.refused k) Unit (Judged image path pairing reply) (firstFailing (judgeTests image path pairing))
   unfolding judged
-  judge-case reply replies = go (firstFailing (judgeTests image path pairing)) IsJudged refl replies
+  judge-case reply replies = go (firstFailing (judgeTests image path pairing)) (IsJudged image path pairing) refl replies
     where
-      go : (v : Verdict) (b : Bool) → IsJudged ≡ b → reply ≡ judgementAfter v b → Case (λ k. reply ≡ Judgement.refused k) Unit (Judged reply) v
-      go Verdict.accepted true f e = (inl (e, of-true IsJudged f), λ k g. clash (cc))
+      go : (v : Verdict) (b : Bool) → IsJudged image path pairing ≡ b → reply ≡ judgementAfter v b → Case (λ k. reply ≡ Judgement.refused k) Unit (Judged image path pairing reply) v
+      go Verdict.accepted true f e = (inl (e, of-true (IsJudged image path pairing) f), λ k g. clash (cc))
       go Verdict.accepted false f e = (inr (e, λ t. subst T f t), λ k g. clash (cc))
       go (Verdict.refused k) b f e = (e, λ j g. cc, tt, not-judged)
         where
-          not-judged : Judged reply → ⊥
+          not-judged : Judged image path pairing reply → ⊥
           not-judged (inl w) = let g = w .0 in clash (cc)
           not-judged (inr w) = let g = w .0 in clash (cc)
 
 -- the entry view and its companion
 module _ (image : List ℕ) (e : ℕ) where
-  abbrev pub formLetters : List ℕ
-  formLetters = take (formLength (entry image e)) (drop (formStart image e) image)
-
   pub form-case : (reply : FormReply) → reply ≡ formReply image e → Case (λ k. reply ≡ FormReply.refused k) Unit (reply ≡ FormReply.letters (formLength (entry image e))) (firstFailing (viewTests image e))
   unfolding formReply
   form-case reply replies = go (firstFailing (viewTests image e)) replies
@@ -130,11 +121,11 @@ module _ (image : List ℕ) (e : ℕ) where
       go (Verdict.refused k) f = (f, λ j g. cc, tt, λ g. clash (cc))
 
   pub view-case : (reply : FormReply) (part : List ℕ) → reply ≡ formReply image e → part ≡ viewed image e
-      → Case (λ k. (reply ≡ FormReply.refused k) × (part ≡ [])) Unit ((reply ≡ FormReply.letters (formLength (entry image e))) × (part ≡ formLetters)) (firstFailing (viewTests image e))
+      → Case (λ k. (reply ≡ FormReply.refused k) × (part ≡ [])) Unit ((reply ≡ FormReply.letters (formLength (entry image e))) × (part ≡ (formLetters image e))) (firstFailing (viewTests image e))
   unfolding formReply viewed
   view-case reply part replies views = go (firstFailing (viewTests image e)) replies views
     where
-      go : (v : Verdict) → reply ≡ formReplyAfter v (formLength (entry image e)) → part ≡ viewAfter v formLetters
-          → Case (λ k. (reply ≡ FormReply.refused k) × (part ≡ [])) Unit ((reply ≡ FormReply.letters (formLength (entry image e))) × (part ≡ formLetters)) v
+      go : (v : Verdict) → reply ≡ formReplyAfter v (formLength (entry image e)) → part ≡ viewAfter v (formLetters image e)
+          → Case (λ k. (reply ≡ FormReply.refused k) × (part ≡ [])) Unit ((reply ≡ FormReply.letters (formLength (entry image e))) × (part ≡ (formLetters image e))) v
       go Verdict.accepted f g = ((f, g), λ k h. let i = h .0 in clash (cc))
       go (Verdict.refused k) f g = ((f, g), λ j h. let i = h .0 in cc, tt, λ h. let i = h .0 in clash (cc))

@@ -40,14 +40,13 @@ use Rattle.headwords.proofs.headwords_judge.Reads as headwords-judge
 use Rattle.headwords.proofs.headwords_form.Reads as headwords-form
 use Rattle.headwords.specs.Numbers.{verdictNumber, sealingNumber, judgementNumber, formNumber}
 use Rattle.answers.proofs.Listed.{Small}
+use Rattle.demands.specs.Words.{FirstFails, Coding, Judged, JudgedNumber, formLetters, FormCopied, Asks, pathBytes}
 use Rattle.demands.proofs.Ends.{Ends, each-ends}
-use Rattle.demands.proofs.Refusing.{FirstFails, InTable, Case, either-of, not-both-of, by-first, by-table, unchanged-of}
+use Rattle.demands.proofs.Refusing.{InTable, Case, either-of, not-both-of, by-first, by-table, unchanged-of}
 use Rattle.demands.proofs.Calls as calls
-use Rattle.demands.proofs.Calls.{Judged, formLetters}
 use Rattle.demands.proofs.Numbers as numbers
-use Rattle.demands.proofs.Numbers.{Coding, JudgedNumber, FormCopied}
-use Rattle.demands.proofs.Given.{Asks, reading-path, reading-forms, reading-tables, row-given}
-use Rattle.demands.proofs.BothWays.{pathBytes, word-taken, path-taken, both-taken, image-accepted, rows-converse, readings-converse, path-in-row}
+use Rattle.demands.proofs.Given.{reading-path, reading-forms, reading-tables, row-given}
+use Rattle.demands.proofs.BothWays.{word-taken, path-taken, both-taken, image-accepted, rows-converse, readings-converse, path-in-row}
 
 -- A listing: what one of the four calls that list may reply and leave, by the image, what is asked, and the lent buffer before and after it.
 -- In C the reply is the one that the number stands for; no two have one number (`codings`).
@@ -69,7 +68,7 @@ promise (in-C-generate κs a r s reply p e) = (numbers.listing-coding .apart rep
 
 -- DEMAND 1
 
--- "The program takes every image, word, path and buffer": no call asks anything of what it is lent.
+-- "The program takes every image, word, path and buffer": no call has a `requires`, so each asks nothing of its caller.
 pub takes-every :
     ((κs : _) (a : _) → analyse.Asked κs a)
     × ((κs : _) (a : _) → generate.Asked κs a)
@@ -264,12 +263,12 @@ handed-on {image} {request} {before} {after} {reply} l row m before′ after′ 
 
 -- DEMAND 3
 
--- "For every accepted grammar, admissible word, complete path and lent buffer, whatever it held": `l` is "the list of all readings (each once, in step
--- order)", by IsListing exactly the readings that answer the request, strictly ascending by step list. Demand3 has a field for each sentence:
--- "the rows handed back and the list .. are equal exactly when the reply is not "more"": equal-unless-more.
--- "Under "more" the rows fill the buffer and are a proper beginning of that list.": more-fills, more-begins.
--- "No byte past them changes.": same-length, past-unchanged.
--- "The reply is "none" exactly when the list is empty.": none-when-empty.
+-- "For every accepted grammar, admissible word, complete path and lent buffer, whatever it held: the rows handed back and the list of all readings (each
+-- once, in step order) are equal exactly when the reply is not "more".": `equal-unless-more` of Demand3. `l` is the list, by IsListing: exactly the readings
+-- that answer the request, strictly ascending by step list, so each once.
+-- "Under "more" the rows fill the buffer and are a proper beginning of that list.": `more-fills`, `more-begins`.
+-- "No byte past them changes.": `same-length`, `past-unchanged`.
+-- "The reply is "none" exactly when the list is empty.": `none-when-empty`.
 pub demand3 : {image : List ℕ} {request : Request} {before after : List ℕ} {reply : Reply} → Listing image request before after reply
     → imageVerdict image ≡ accepted → firstFailing (ownTests image request) ≡ accepted
     → (l : List Reading) → IsListing (grammarOf image) (queryOf request) l → Demand3 l reply before after

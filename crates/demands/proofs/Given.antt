@@ -19,16 +19,12 @@ use Rattle.model.specs.Demand.{Demand3, ProperBeginning, rowsHandedBack, asRows
 use Rattle.model.proofs.Booleans.{and-out, and-in, out8, same-out, same-in}
 use Rattle.model.proofs.Lists.{below-has, every-at, map-from}
 use Rattle.model.proofs.Converse.{analysis-iff, generation-iff}
+use Rattle.demands.specs.Words.{Asks}
 use Rattle.demands.proofs.Refusing.{either-of}
 use Rattle.demands.proofs.Calls.{listing-case}
 
 module _ (g : Grammar) where
-  -- what a request asks of a reading: the word that it spells, or its path
-  abbrev pub Asks : Request → Reading → Type 0
-  Asks (analysis w) r = spelled (g .surface) (r .pairing) ≡ w
-  Asks (generation path) r = r .path ≡ entryNumbers path
-
-  pub among-iff : (request : Request) (r : Reading) → List·Memᴰ r (readings g (queryOf request)) ↔ (T (isReading g r) × Asks request r)
+  pub among-iff : (request : Request) (r : Reading) → List·Memᴰ r (readings g (queryOf request)) ↔ (T (isReading g r) × Asks g request r)
   unfolding isReadingOf
   among-iff (analysis w) r = (
     λ m. let t = and-out (isReading g r) (sameList (word g r) w) (analysis-iff g w r .0 m) in (t .0, same-out (word g r) w (t .1)),

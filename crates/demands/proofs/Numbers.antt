@@ -18,13 +18,9 @@ use Rattle.model.specs.Beside.{Judgement, FormReply, judged, viewed, formReply}
 use Rattle.model.specs.Demand.{Demand3}
 use Rattle.headwords.specs.Numbers.{verdictNumber, sealingNumber, judgementNumber, formNumber, afterForm}
 use Rattle.headwords.proofs.Replies.{letters-are, form-refused, form-short, form-fits}
+use Rattle.demands.specs.Words.{Coding, IsJudged, Judged, JudgedNumber, formLetters, FormCopied}
 use Rattle.demands.proofs.Refusing.{Case}
-use Rattle.demands.proofs.Calls.{listing-case, sealing-case, check-case, judge-case, view-case, IsJudged, Judged, formLetters}
-
--- no two replies have one number, and 4k + 3 is the number of refused k alone
-pub record Coding {A : Type 0} (number : A → ℕ) (refused : ℕ → A) : Type 0 where
-  pub apart : (a b : A) → number a ≡ number b → a ≡ b
-  pub refused-is : (a : A) (k : ℕ) → (number a ≡ 4 * k + 3) ↔ (a ≡ refused k)
+use Rattle.demands.proofs.Calls.{listing-case, sealing-case, check-case, judge-case, view-case}
 
 -- the second follows from the first
 coding : {A : Type 0} (number : A → ℕ) (refused : ℕ → A) → ((k : ℕ) → number (refused k) ≡ 4 * k + 3) → ((a b : A) → number a ≡ number b → a ≡ b) → Coding number refused
@@ -141,50 +137,40 @@ check-number-case image n replies =
     (check-case image (imageVerdict image) refl)
 
 module _ (image path pairing : List ℕ) (n : ℕ) where
-  -- 1 for holds, 0 for fails
-  abbrev pub JudgedNumber : Type 0
-  JudgedNumber = ((n ≡ 1) × T (IsJudged image path pairing)) ⊎ ((n ≡ 0) × (T (IsJudged image path pairing) → ⊥))
-
-  pub judge-number-case : n ≡ judgementNumber (judged image path pairing) → Case (λ k. n ≡ 4 * k + 3) Unit JudgedNumber (firstFailing (judgeTests image path pairing))
+  pub judge-number-case : n ≡ judgementNumber (judged image path pairing) → Case (λ k. n ≡ 4 * k + 3) Unit (JudgedNumber image path pairing n) (firstFailing (judgeTests image path pairing))
   judge-number-case replies =
-      coded-case judgementNumber Judgement.refused judge-coding (judged image path pairing) n replies Unit (Judged image path pairing (judged image path pairing)) JudgedNumber to from
+      coded-case judgementNumber Judgement.refused judge-coding (judged image path pairing) n replies Unit (Judged image path pairing (judged image path pairing)) (JudgedNumber image path pairing n) to from
       (firstFailing (judgeTests image path pairing))
       (judge-case image path pairing (judged image path pairing) refl)
     where
-      to : Judged image path pairing (judged image path pairing) → JudgedNumber
+      to : Judged image path pairing (judged image path pairing) → JudgedNumber image path pairing n
       to (inl w) = inl (replies ∙ ap judgementNumber (w .0), w .1)
       to (inr w) = inr (replies ∙ ap judgementNumber (w .0), w .1)
 
-      from : JudgedNumber → Judged image path pairing (judged image path pairing)
+      from : JudgedNumber image path pairing n → Judged image path pairing (judged image path pairing)
       from (inl w) = inl (judge-coding .apart (judged image path pairing) Judgement.holds (sym replies ∙ w .0), w .1)
       from (inr w) = inr (judge-coding .apart (judged image path pairing) Judgement.fails (sym replies ∙ w .0), w .1)
 
 -- the form's letters in the lent buffer
 module _ (image : List ℕ) (e : ℕ) (before after : List ℕ) (n : ℕ) where
-  -- with room for them 4 times their count and 1, and they are at the front; without room 4 times their count and 2, and nothing is written
-  abbrev pub FormCopied : Type 0
-  FormCopied =
-      let size = formLength (entry image e) in
-      ((size ≤ length before) × (n ≡ 4 * size + 1) × (after ≡ formLetters image e ++ drop size before)) ⊎ ((length before < size) × (n ≡ 4 * size + 2) × (after ≡ before))
-
-  pub form-number-case : n ≡ formNumber (length before) (formReply image e) → after ≡ afterForm (viewed image e) before → Case (λ k. n ≡ 4 * k + 3) (after ≡ before) FormCopied (firstFailing (viewTests image e))
+  pub form-number-case : n ≡ formNumber (length before) (formReply image e) → after ≡ afterForm (viewed image e) before → Case (λ k. n ≡ 4 * k + 3) (after ≡ before) (FormCopied image e before after n) (firstFailing (viewTests image e))
   form-number-case replies leaves = go (firstFailing (viewTests image e)) (view-case image e (formReply image e) (viewed image e) refl refl)
     where
       size : ℕ
       size = formLength (entry image e)
 
-      not-copied : (k : ℕ) → n ≡ 4 * k + 3 → FormCopied → ⊥
+      not-copied : (k : ℕ) → n ≡ 4 * k + 3 → FormCopied image e before after n → ⊥
       not-copied k f (inl w) = omega (arith, w .1)
       not-copied k f (inr w) = omega (arith, w .1)
 
-      copied : formReply image e ≡ FormReply.letters size → viewed image e ≡ formLetters image e → (b : Bool) → leb size (length before) ≡ b → n ≡ cond b (4 * size + 1) (4 * size + 2) → FormCopied
+      copied : formReply image e ≡ FormReply.letters size → viewed image e ≡ formLetters image e → (b : Bool) → leb size (length before) ≡ b → n ≡ cond b (4 * size + 1) (4 * size + 2) → FormCopied image e before after n
       copied f g true h i =
           let m = leb-true size (length before) h in
           inl (m, i, leaves ∙ sym (form-fits image e before size f m) ∙ ap₂ (λ (l : List ℕ) (k : ℕ). l ++ drop k before) g (letters-are image e before size f))
       copied f g false h i = let m = leb-false size (length before) h in inr (m, i, leaves ∙ sym (form-short image e before size f m))
 
       go : (v : Verdict) → Case (λ k. (formReply image e ≡ FormReply.refused k) × (viewed image e ≡ [])) Unit ((formReply image e ≡ FormReply.letters size) × (viewed image e ≡ formLetters image e)) v
-          → Case (λ k. n ≡ 4 * k + 3) (after ≡ before) FormCopied v
+          → Case (λ k. n ≡ 4 * k + 3) (after ≡ before) (FormCopied image e before after n) v
       go Verdict.accepted c =
           let w = copied (c .0 .0) (c .0 .1) (leb size (length before)) refl (replies ∙ ap (formNumber (length before)) (c .0 .0)) in
           (w, λ k f. not-copied k f w)

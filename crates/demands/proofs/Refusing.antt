@@ -9,16 +9,10 @@ use lib.Dec.{T}
 use Rattle.model.specs.Lists.{every, within}
 use Rattle.model.specs.Refusals.{Verdict, refused, unless, firstFailing}
 use Rattle.model.proofs.Booleans.{and-out}
+use Rattle.demands.specs.Words.{FirstFails}
 
 pub clash : {A : Type 0} → _≡_ {A = ℕ} 0 1 → A
 clash z = absurd (omega arith)
-
--- test k fails, and every test before it passes
-pub record FirstFails (k : ℕ) (tests : List (ℕ × Bool)) : Type 0 where
-  pub earlier : List (ℕ × Bool)
-  pub later : List (ℕ × Bool)
-  pub in-turn : tests ≡ earlier ++ ((k, false) ∷ later)
-  pub earlier-pass : T (every (λ t. t .1) earlier)
 
 fails-from : (tests : List (ℕ × Bool)) (k : ℕ) → firstFailing tests ≡ refused k → FirstFails k tests
 fails-from [] k e = clash (cc)
