@@ -36,7 +36,7 @@ module _ (es : List ℕ) where
   length-pathBytes : length (pathBytes es) ≡ 2 * length es
   length-pathBytes = length-parts 2 numberBytes es (λ n m. refl)
 
-  pub numbers-back : TwoBytes es → entryNumbers (pathBytes es) ≡ es
+  numbers-back : TwoBytes es → entryNumbers (pathBytes es) ≡ es
   unfolding entryNumbers
   numbers-back small =
       let at : ℕ → ℕ = λ i. number (pathBytes es) (2 * i) in
@@ -64,7 +64,7 @@ module _ (image : List ℕ) (takes : imageVerdict image ≡ accepted) where
       let limits = accepted-image image takes .laid .limits in
       reading-small (grammarOf image) (omega (arith, limits .entries-most)) (omega (arith, limits .pairs-most)) r t
 
-  pub path-back : (r : Reading) → T (isReading (grammarOf image) r) → entryNumbers (pathBytes (r .path)) ≡ r .path
+  path-back : (r : Reading) → T (isReading (grammarOf image) r) → entryNumbers (pathBytes (r .path)) ≡ r .path
   path-back r t = numbers-back (r .path) (small r t .entries-small)
 
   -- tests 9 and 10 of a reading's word, 11 and 12 of its path
@@ -96,7 +96,7 @@ module _ (image : List ℕ) (takes : imageVerdict image ≡ accepted) where
 module _ (image : List ℕ) (request : Request) (before after : List ℕ) (reply : Reply)
     (replies : reply ≡ listingReply image request (rowCount before)) (leaves : after ≡ afterListing image request before) where
   -- a call that hands back a row has refused nothing
-  pub row-accepted : (row : List ℕ) → List·Memᴰ row (rowsHandedBack reply after) → firstFailing (requestTests image request) ≡ accepted
+  row-accepted : (row : List ℕ) → List·Memᴰ row (rowsHandedBack reply after) → firstFailing (requestTests image request) ≡ accepted
   row-accepted row m = go (firstFailing (requestTests image request)) refl (listing-case image request before after reply replies leaves)
     where
       go : (v : Verdict) → firstFailing (requestTests image request) ≡ v → Case (λ k. reply ≡ Reply.refused k) (after ≡ before) (Demand3 (allReadings image request) reply before after) v → v ≡ accepted
@@ -109,7 +109,7 @@ module _ (image : List ℕ) (request : Request) (before after : List ℕ) (reply
 
   module _ (r : Reading) where
     -- what the row of r shows, for a path and a pairing that a row has room for
-    pub row-reads : Small r → List·Memᴰ (rowBytes r) (rowsHandedBack reply after) → T (isReading (grammarOf image) r) × Asks (grammarOf image) request r
+    row-reads : Small r → List·Memᴰ (rowBytes r) (rowsHandedBack reply after) → T (isReading (grammarOf image) r) × Asks (grammarOf image) request r
     row-reads fits m =
         let t = row-given image request before after reply replies leaves (rowBytes r) m in
         let s = t .0 in
@@ -118,7 +118,7 @@ module _ (image : List ℕ) (request : Request) (before after : List ℕ) (reply
         (subst (λ (x : Reading). T (isReading (grammarOf image) x)) e (t .2), subst (Asks (grammarOf image) request) e (t .3))
 
     -- and where the call refuses nothing and nothing is cut off, each reading that answers is there
-    pub row-there : firstFailing (requestTests image request) ≡ accepted → (IsMore reply → ⊥) → T (isReading (grammarOf image) r) → Asks (grammarOf image) request r → List·Memᴰ (rowBytes r) (rowsHandedBack reply after)
+    row-there : firstFailing (requestTests image request) ≡ accepted → (IsMore reply → ⊥) → T (isReading (grammarOf image) r) → Asks (grammarOf image) request r → List·Memᴰ (rowBytes r) (rowsHandedBack reply after)
     unfolding allReadings
     row-there passed whole t asks =
         subst (List·Memᴰ (rowBytes r)) (sym (listing-passed image request before after reply replies leaves passed .0 .equal-unless-more .1 whole)) (Memᴰ·map rowBytes (among-iff (grammarOf image) request r .1 (t, asks)))

@@ -3,19 +3,18 @@ use Prim.Native.Nat.{ℕ}
 use native.Mathlib.Omega.{arith}
 use mathlib.Core.Bool.{Bool, true, false, cond}
 use mathlib.Core.Path.{_≡_, refl, sym, ap, _∙_, subst}
-use mathlib.Core.Logic.{_⊎_, inl, inr}
+use mathlib.Core.Logic.{inl, inr}
 use mathlib.Core.List.{List, [], _∷_}
-use lib.ListN.{length, take, drop}
+use lib.ListN.{length}
 use lib.Dec.{T}
 use Rattle.model.specs.Blocks.{sealedImage}
 use Rattle.model.specs.Lexicon.{entry, formLength}
-use Rattle.model.specs.GrammarOf.{grammarOf}
-use Rattle.model.specs.Readings.{Reading, isReading}
-use Rattle.model.specs.Query.{Request, analysis, generation, entryNumbers}
+use Rattle.model.specs.Readings.{Reading}
+use Rattle.model.specs.Query.{Request, analysis, generation}
 use Rattle.model.specs.Refusals.{Verdict, accepted, refused, unless, firstFailing, rightLength, imageTests, imageVerdict, wordTests, pathTests, pairingTests, ownTests, requestTests, judgeTests, viewTests}
 use Rattle.model.specs.Rows.{Reply, rowCount}
 use Rattle.model.specs.Calls.{Sealing, sealingReply, afterSealing, requestVerdict, allReadings, listingReply, afterListing}
-use Rattle.model.specs.Beside.{Judgement, FormReply, judgementAfter, judged, viewAfter, formReplyAfter, formStart, viewed, formReply}
+use Rattle.model.specs.Beside.{Judgement, FormReply, judgementAfter, judged, viewAfter, formReplyAfter, viewed, formReply}
 use Rattle.model.specs.Demand.{Demand3, asRows}
 use Rattle.model.proofs.Booleans.{of-true}
 use Rattle.model.proofs.Demand.{tests-append, demand3-call}
@@ -24,7 +23,7 @@ use Rattle.demands.specs.Words.{IsJudged, Judged, formLetters}
 use Rattle.demands.proofs.Refusing.{clash, Case, InTable}
 
 -- a reply that refuses lists nothing
-pub refused-lists-not : (l : List Reading) (k : ℕ) (before after : List ℕ) → Demand3 l (Reply.refused k) before after → ⊥
+refused-lists-not : (l : List Reading) (k : ℕ) (before after : List ℕ) → Demand3 l (Reply.refused k) before after → ⊥
 refused-lists-not l k before after d = go l (d .none-when-empty .1) (d .equal-unless-more .1 (λ m. m))
   where
     go : (l : List Reading) → (l ≡ [] → Reply.refused k ≡ Reply.none) → [] ≡ asRows l → ⊥
@@ -121,11 +120,11 @@ module _ (image : List ℕ) (e : ℕ) where
       go (Verdict.refused k) f = (f, λ j g. cc, tt, λ g. clash (cc))
 
   pub view-case : (reply : FormReply) (part : List ℕ) → reply ≡ formReply image e → part ≡ viewed image e
-      → Case (λ k. (reply ≡ FormReply.refused k) × (part ≡ [])) Unit ((reply ≡ FormReply.letters (formLength (entry image e))) × (part ≡ (formLetters image e))) (firstFailing (viewTests image e))
+      → Case (λ k. (reply ≡ FormReply.refused k) × (part ≡ [])) Unit ((reply ≡ FormReply.letters (formLength (entry image e))) × (part ≡ formLetters image e)) (firstFailing (viewTests image e))
   unfolding formReply viewed
   view-case reply part replies views = go (firstFailing (viewTests image e)) replies views
     where
       go : (v : Verdict) → reply ≡ formReplyAfter v (formLength (entry image e)) → part ≡ viewAfter v (formLetters image e)
-          → Case (λ k. (reply ≡ FormReply.refused k) × (part ≡ [])) Unit ((reply ≡ FormReply.letters (formLength (entry image e))) × (part ≡ (formLetters image e))) v
+          → Case (λ k. (reply ≡ FormReply.refused k) × (part ≡ [])) Unit ((reply ≡ FormReply.letters (formLength (entry image e))) × (part ≡ formLetters image e)) v
       go Verdict.accepted f g = ((f, g), λ k h. let i = h .0 in clash (cc))
       go (Verdict.refused k) f g = ((f, g), λ j h. let i = h .0 in cc, tt, λ h. let i = h .0 in clash (cc))

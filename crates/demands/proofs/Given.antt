@@ -10,7 +10,7 @@ use Rattle.model.specs.RuleTables.{fed, accepts}
 use Rattle.model.specs.Grammar.{Grammar}
 use Rattle.model.specs.GrammarOf.{grammarOf}
 use Rattle.model.specs.Readings.{Reading, spelled, fewNulls, wordLength, pairingLength, passes, isPath, word, isReading, isReadingOf}
-use Rattle.model.specs.Query.{Request, analysis, generation, queryOf, entryNumbers}
+use Rattle.model.specs.Query.{Request, analysis, generation, queryOf}
 use Rattle.model.specs.Refusals.{requestTests}
 use Rattle.model.specs.Tree.{readings}
 use Rattle.model.specs.Rows.{Reply, rowBytes, rowCount}

@@ -1,12 +1,12 @@
 -- Replies as numbers, for C: the coding loses nothing, 4k + 3 is refused k alone, and what each call replies and leaves goes by its tests as before.
-use Prim.Native.Nat.{ℕ, _+_, _*_, _<_, _≤_}
+use Prim.Native.Nat.{ℕ, _+_, _*_}
 use native.Mathlib.Omega.{arith}
 use mathlib.Core.Bool.{Bool, true, false, cond}
 use mathlib.Core.Path.{_≡_, refl, sym, ap, ap₂, _∙_, subst}
-use mathlib.Core.Logic.{_↔_, _⊎_, inl, inr}
+use mathlib.Core.Logic.{inl, inr}
 use mathlib.Core.List.{List, [], _∷_, _++_}
 use lib.ListN.{length, drop}
-use lib.Dec.{T, leb}
+use lib.Dec.{leb}
 use borrow.Author.Tests.{leb-true, leb-false}
 use Rattle.model.specs.Blocks.{sealedImage}
 use Rattle.model.specs.Lexicon.{entry, formLength}
@@ -18,7 +18,7 @@ use Rattle.model.specs.Beside.{Judgement, FormReply, judged, viewed, formReply}
 use Rattle.model.specs.Demand.{Demand3}
 use Rattle.headwords.specs.Numbers.{verdictNumber, sealingNumber, judgementNumber, formNumber, afterForm}
 use Rattle.headwords.proofs.Replies.{letters-are, form-refused, form-short, form-fits}
-use Rattle.demands.specs.Words.{Coding, IsJudged, Judged, JudgedNumber, formLetters, FormCopied}
+use Rattle.demands.specs.Words.{Coding, Judged, JudgedNumber, formLetters, FormCopied}
 use Rattle.demands.proofs.Refusing.{Case}
 use Rattle.demands.proofs.Calls.{listing-case, sealing-case, check-case, judge-case, view-case}
 
@@ -103,7 +103,7 @@ form-coding room = coding (formNumber room) FormReply.refused (λ k. refl) apart
 -- a call whose reply is coded: refused by the same tests, its work by what the reply says
 module _ {A : Type 0} (number : A → ℕ) (refused : ℕ → A) (code : Coding number refused) (reply : A) (n : ℕ) (is : n ≡ number reply) (Unchanged Work Work′ : Type 0)
     (to : Work → Work′) (from : Work′ → Work) where
-  pub coded-case : (v : Verdict) → Case (λ k. reply ≡ refused k) Unchanged Work v → Case (λ k. n ≡ 4 * k + 3) Unchanged Work′ v
+  coded-case : (v : Verdict) → Case (λ k. reply ≡ refused k) Unchanged Work v → Case (λ k. n ≡ 4 * k + 3) Unchanged Work′ v
   coded-case Verdict.accepted c = (to (c .0), λ k e. c .1 k (code .refused-is reply k .0 (sym is ∙ e)))
   coded-case (Verdict.refused k) c = (is ∙ code .refused-is reply k .1 (c .0), λ j e. c .1 j (code .refused-is reply j .0 (sym is ∙ e)), c .2, λ w. c .3 (from w))
 

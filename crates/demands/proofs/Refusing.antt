@@ -30,7 +30,7 @@ fails-to (x ∷ earlier) later k t = go (x .1) t (fails-to earlier later k)
     go true t r = r t
     go false t r = absurd t
 
-pub fails-first : (tests : List (ℕ × Bool)) (k : ℕ) → (firstFailing tests ≡ refused k) ↔ FirstFails k tests
+fails-first : (tests : List (ℕ × Bool)) (k : ℕ) → (firstFailing tests ≡ refused k) ↔ FirstFails k tests
 fails-first tests k = (fails-from tests k, λ f. ap firstFailing (f .in-turn) ∙ fails-to (f .earlier) (f .later) k (f .earlier-pass))
 
 -- the tests have numbers of document 01's table
