@@ -14,8 +14,8 @@ use Rattle.model.specs.GrammarOf.{grammarOf}
 use Rattle.model.specs.Readings.{Reading, withoutNulls, spelled, wordLength, isLinked, isPath, word, isReading}
 use Rattle.model.specs.Query.{Request, analysis, generation, entryNumbers}
 use Rattle.model.specs.Refusals.{Verdict, accepted, firstFailing, rightPairs, imageVerdict, imageTests, wordTests, pathTests, ownTests, requestTests}
-use Rattle.model.specs.Rows.{Reply, padded, rowNumbers, rowBytes, rowCount}
-use Rattle.model.specs.Calls.{allReadings, listingReply, afterListing}
+use Rattle.model.specs.Rows.{Reply, padded, rowNumbers, rowBytes}
+use Rattle.model.specs.Calls.{allReadings}
 use Rattle.model.specs.Demand.{Demand3, IsMore, rowsHandedBack}
 use Rattle.model.proofs.Booleans.{and-out, and-in, true-of, of-true, eq→eqb, within-in}
 use Rattle.model.proofs.Lists.{length-map-below, getD-map-below, flatMap-append}
@@ -29,7 +29,7 @@ use Rattle.print.proofs.Text.{TwoBytes, number-at, getD-in, row-reading}
 use Rattle.answers.proofs.Listed.{Small, reading-small}
 use Rattle.demands.specs.Words.{Asks, pathBytes}
 use Rattle.demands.proofs.Refusing.{Case}
-use Rattle.demands.proofs.Calls.{listing-case, listing-passed}
+use Rattle.demands.proofs.Calls.{Promised, listing-case, listing-passed}
 use Rattle.demands.proofs.Given.{among-iff, reading-path, reading-pairs, reading-word, refused-rows, row-given}
 
 module _ (es : List ℕ) where
@@ -93,11 +93,10 @@ module _ (image : List ℕ) (takes : imageVerdict image ≡ accepted) where
   )
 
 -- a reading that a row has room for is the one that its row shows
-module _ (image : List ℕ) (request : Request) (before after : List ℕ) (reply : Reply)
-    (replies : reply ≡ listingReply image request (rowCount before)) (leaves : after ≡ afterListing image request before) where
+module _ {image : List ℕ} {request : Request} {before after : List ℕ} {reply : Reply} (p : Promised image request before after reply) where
   -- a call that hands back a row has refused nothing
   row-accepted : (row : List ℕ) → List·Memᴰ row (rowsHandedBack reply after) → firstFailing (requestTests image request) ≡ accepted
-  row-accepted row m = go (firstFailing (requestTests image request)) refl (listing-case image request before after reply replies leaves)
+  row-accepted row m = go (firstFailing (requestTests image request)) refl (listing-case p)
     where
       go : (v : Verdict) → firstFailing (requestTests image request) ≡ v → Case (λ k. reply ≡ Reply.refused k) (after ≡ before) (Demand3 (allReadings image request) reply before after) v → v ≡ accepted
       go Verdict.accepted e c = refl
@@ -111,7 +110,7 @@ module _ (image : List ℕ) (request : Request) (before after : List ℕ) (reply
     -- what the row of r shows, for a path and a pairing that a row has room for
     row-reads : Small r → List·Memᴰ (rowBytes r) (rowsHandedBack reply after) → T (isReading (grammarOf image) r) × Asks (grammarOf image) request r
     row-reads fits m =
-        let t = row-given image request before after reply replies leaves (rowBytes r) m in
+        let t = row-given p (rowBytes r) m in
         let s = t .0 in
         let a = small image (image-accepted (rowBytes r) m) s (t .2) in
         let e : s ≡ r = sym (row-reading s (a .entries-most) (a .pairs-most) (a .entries-small) (a .pairs-small)) ∙ ap rowReading (sym (t .1)) ∙ row-reading r (fits .entries-most) (fits .pairs-most) (fits .entries-small) (fits .pairs-small) in
@@ -121,22 +120,21 @@ module _ (image : List ℕ) (request : Request) (before after : List ℕ) (reply
     row-there : firstFailing (requestTests image request) ≡ accepted → (IsMore reply → ⊥) → T (isReading (grammarOf image) r) → Asks (grammarOf image) request r → List·Memᴰ (rowBytes r) (rowsHandedBack reply after)
     unfolding allReadings
     row-there passed whole t asks =
-        subst (List·Memᴰ (rowBytes r)) (sym (listing-passed image request before after reply replies leaves passed .0 .equal-unless-more .1 whole)) (Memᴰ·map rowBytes (among-iff (grammarOf image) request r .1 (t, asks)))
+        subst (List·Memᴰ (rowBytes r)) (sym (listing-passed p passed .0 .equal-unless-more .1 whole)) (Memᴰ·map rowBytes (among-iff (grammarOf image) request r .1 (t, asks)))
 
 -- the rows of the two calls
-module _ (image w : List ℕ) (r : Reading) (fits : Small r)
-    (before after : List ℕ) (reply : Reply) (replies : reply ≡ listingReply image (analysis w) (rowCount before)) (leaves : after ≡ afterListing image (analysis w) before) (whole : IsMore reply → ⊥)
-    (before′ after′ : List ℕ) (reply′ : Reply) (replies′ : reply′ ≡ listingReply image (generation (pathBytes (r .path))) (rowCount before′)) (leaves′ : after′ ≡ afterListing image (generation (pathBytes (r .path))) before′) (whole′ : IsMore reply′ → ⊥) where
+module _ {image w : List ℕ} {r : Reading} (fits : Small r) {before after : List ℕ} {reply : Reply} (p : Promised image (analysis w) before after reply) (whole : IsMore reply → ⊥)
+    {before′ after′ : List ℕ} {reply′ : Reply} (p′ : Promised image (generation (pathBytes (r .path))) before′ after′ reply′) (whole′ : IsMore reply′ → ⊥) where
   pub rows-converse : List·Memᴰ (rowBytes r) (rowsHandedBack reply after) ↔ (List·Memᴰ (rowBytes r) (rowsHandedBack reply′ after′) × (word (grammarOf image) r ≡ w))
   rows-converse = (
     λ m.
-        let t = row-reads image (analysis w) before after reply replies leaves r fits m in
-        let a = image-accepted image (analysis w) before after reply replies leaves (rowBytes r) m in
-        (row-there image (generation (pathBytes (r .path))) before′ after′ reply′ replies′ leaves′ r (both-taken image a r (t .0) .1) whole′ (t .0) (sym (path-back image a r (t .0))), t .1),
+        let t = row-reads p r fits m in
+        let a = image-accepted p (rowBytes r) m in
+        (row-there p′ r (both-taken image a r (t .0) .1) whole′ (t .0) (sym (path-back image a r (t .0))), t .1),
     λ m.
-        let t = row-reads image (generation (pathBytes (r .path))) before′ after′ reply′ replies′ leaves′ r fits (m .0) in
-        let a = image-accepted image (generation (pathBytes (r .path))) before′ after′ reply′ replies′ leaves′ (rowBytes r) (m .0) in
-        row-there image (analysis w) before after reply replies leaves r (subst (λ (x : List ℕ). firstFailing (requestTests image (analysis x)) ≡ accepted) (m .1) (both-taken image a r (t .0) .0)) whole (t .0) (m .1),
+        let t = row-reads p′ r fits (m .0) in
+        let a = image-accepted p′ (rowBytes r) (m .0) in
+        row-there p r (subst (λ (x : List ℕ). firstFailing (requestTests image (analysis x)) ≡ accepted) (m .1) (both-taken image a r (t .0) .0)) whole (t .0) (m .1),
   )
 
 -- the lists of all readings, for every path and pairing

@@ -49,9 +49,12 @@ module _ (image : List ℕ) where
   unfolding viewTests imageTests
   view-table e = tt
 
--- analysis and generation
-module _ (image : List ℕ) (request : Request) (before after : List ℕ) (reply : Reply)
-    (replies : reply ≡ listingReply image request (rowCount before)) (leaves : after ≡ afterListing image request before) where
+-- what the contracts of analysis and generation promise
+pub record Promised (image : List ℕ) (request : Request) (before after : List ℕ) (reply : Reply) : Type 0 where
+  pub replies : reply ≡ listingReply image request (rowCount before)
+  pub leaves : after ≡ afterListing image request before
+
+module _ {image : List ℕ} {request : Request} {before after : List ℕ} {reply : Reply} (p : Promised image request before after reply) where
   abbrev all : List Reading
   all = allReadings image request
 
@@ -62,12 +65,12 @@ module _ (image : List ℕ) (request : Request) (before after : List ℕ) (reply
       go : (v : Verdict) → firstFailing (requestTests image request) ≡ v → Case (λ k. reply ≡ Reply.refused k) (after ≡ before) (Demand3 all reply before after) v
       go Verdict.accepted e =
           let t = tests-append (imageTests image) (ownTests image request) .0 e in
-          let d = demand3-call image request before after (t .0) (t .1) reply .1 (replies, leaves) in
+          let d = demand3-call image request before after (t .0) (t .1) reply .1 (p .replies, p .leaves) in
           (d, λ k f. refused-lists-not all k before after (subst (λ (x : Reply). Demand3 all x before after) f d))
       go (Verdict.refused k) e =
           let r = refused-by image request before k e in
-          let f = replies ∙ sym (r .0) in
-          (f, λ j g. cc, leaves ∙ sym (r .1), λ d. refused-lists-not all k before after (subst (λ (x : Reply). Demand3 all x before after) f d))
+          let f = p .replies ∙ sym (r .0) in
+          (f, λ j g. cc, p .leaves ∙ sym (r .1), λ d. refused-lists-not all k before after (subst (λ (x : Reply). Demand3 all x before after) f d))
 
   -- where every test passes
   pub listing-passed : firstFailing (requestTests image request) ≡ accepted → Demand3 all reply before after × ((k : ℕ) → reply ≡ Reply.refused k → ⊥)

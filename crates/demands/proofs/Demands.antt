@@ -15,8 +15,8 @@ use Rattle.model.specs.GrammarOf.{grammarOf}
 use Rattle.model.specs.Readings.{Reading, spelled, isPath, isReading, word}
 use Rattle.model.specs.Query.{Request, analysis, generation, queryOf}
 use Rattle.model.specs.Refusals.{Verdict, accepted, firstFailing, rightLength, imageTests, imageVerdict, wordTests, pathTests, ownTests, requestTests, judgeTests, viewTests}
-use Rattle.model.specs.Rows.{Reply, rowBytes, rowCount, replyNumber}
-use Rattle.model.specs.Calls.{Sealing, allReadings, listingReply, afterListing}
+use Rattle.model.specs.Rows.{Reply, rowBytes, replyNumber}
+use Rattle.model.specs.Calls.{Sealing, allReadings}
 use Rattle.model.specs.Beside.{Judgement, FormReply, formReply}
 use Rattle.model.specs.Demand.{Demand3, IsMore, rowsHandedBack}
 use Rattle.model.proofs.Listing.{IsListing, listing-iff}
@@ -44,6 +44,7 @@ use Rattle.demands.specs.Words.{FirstFails, Coding, Judged, JudgedNumber
 use Rattle.demands.proofs.Ends.{Ends, each-ends}
 use Rattle.demands.proofs.Refusing.{InTable, Case, either-of, not-both-of, by-first, by-table, unchanged-of}
 use Rattle.demands.proofs.Calls as calls
+use Rattle.demands.proofs.Calls.{Promised}
 use Rattle.demands.proofs.Numbers as numbers
 use Rattle.demands.proofs.Given.{reading-path, reading-forms, reading-tables, row-given}
 use Rattle.demands.proofs.BothWays.{word-taken, path-taken, both-taken, image-accepted, rows-converse, readings-converse, path-in-row}
@@ -59,12 +60,11 @@ pub data Listing : List ℕ → Request → List ℕ → List ℕ → Reply → 
       → Listing (a .0 .now) (generation (a .1 .0 .now)) (a .1 .1 .0 .now) (s .1 .1 .0 .now) reply
 
 -- what all four promise
-promise : {image : List ℕ} {request : Request} {before after : List ℕ} {reply : Reply} → Listing image request before after reply
-    → (reply ≡ listingReply image request (rowCount before)) × (after ≡ afterListing image request before)
-promise (by-analyse κs a r s p) = p
-promise (by-generate κs a r s p) = p
-promise (in-C-analyse κs a r s reply p e) = (numbers.listing-coding .apart reply (listingReply (a .0 .now) (analysis (a .1 .0 .now)) (rowCount (a .1 .1 .0 .now))) (sym e ∙ p .0), p .1)
-promise (in-C-generate κs a r s reply p e) = (numbers.listing-coding .apart reply (listingReply (a .0 .now) (generation (a .1 .0 .now)) (rowCount (a .1 .1 .0 .now))) (sym e ∙ p .0), p .1)
+promise : {image : List ℕ} {request : Request} {before after : List ℕ} {reply : Reply} → Listing image request before after reply → Promised image request before after reply
+promise (by-analyse κs a r s p) = record { replies = p .0; leaves = p .1 }
+promise (by-generate κs a r s p) = record { replies = p .0; leaves = p .1 }
+promise (in-C-analyse κs a r s reply p e) = record { replies = numbers.listing-coding .apart reply _ (sym e ∙ p .0); leaves = p .1 }
+promise (in-C-generate κs a r s reply p e) = record { replies = numbers.listing-coding .apart reply _ (sym e ∙ p .0); leaves = p .1 }
 
 -- DEMAND 1
 
@@ -114,7 +114,7 @@ demand1 {tests} {Refused} {Unchanged} {Work} t c =
 -- analysis and generation, from Rattle and from C: the image's tests and then the word's or the path's; their work is demand 3
 pub demand1-listing : {image : List ℕ} {request : Request} {before after : List ℕ} {reply : Reply} → Listing image request before after reply
     → Demand1 (requestTests image request) (λ k. reply ≡ Reply.refused k) (after ≡ before) (Demand3 (allReadings image request) reply before after)
-demand1-listing {image} {request} {before} {after} {reply} l = demand1 (calls.request-table image request) (calls.listing-case image request before after reply (promise l .0) (promise l .1))
+demand1-listing {image} {request} l = demand1 (calls.request-table image request) (calls.listing-case (promise l))
 
 -- sealing: test 1 alone
 pub demand1-seal : (κs : _) (a : _) (r : _) (s : _) → seal.Post κs a r s
@@ -209,9 +209,9 @@ pub record Given (image : List ℕ) (request : Request) (row : List ℕ) : Type 
 
 pub demand2 : {image : List ℕ} {request : Request} {before after : List ℕ} {reply : Reply} → Listing image request before after reply
     → (row : List ℕ) → List·Memᴰ row (rowsHandedBack reply after) → Given image request row
-demand2 {image} {request} {before} {after} {reply} l row m =
+demand2 {image} l row m =
     let g = grammarOf image in
-    let t = row-given image request before after reply (promise l .0) (promise l .1) row m in
+    let t = row-given (promise l) row m in
     record {
       reading = t .0;
       as-row = t .1;
@@ -232,8 +232,7 @@ pub converse-calls : (image w : List ℕ) (r : Reading) → Small r
     → {before after : List ℕ} {reply : Reply} → Listing image (analysis w) before after reply → (IsMore reply → ⊥)
     → {before′ after′ : List ℕ} {reply′ : Reply} → Listing image (generation (pathBytes (r .path))) before′ after′ reply′ → (IsMore reply′ → ⊥)
     → List·Memᴰ (rowBytes r) (rowsHandedBack reply after) ↔ (List·Memᴰ (rowBytes r) (rowsHandedBack reply′ after′) × (word (grammarOf image) r ≡ w))
-converse-calls image w r fits {before} {after} {reply} l whole {before′} {after′} {reply′} l′ whole′ =
-    rows-converse image w r fits before after reply (promise l .0) (promise l .1) whole before′ after′ reply′ (promise l′ .0) (promise l′ .1) whole′
+converse-calls image w r fits l whole l′ whole′ = rows-converse fits (promise l) whole (promise l′) whole′
 
 -- Each call can be asked for what the other hands back: a reading's word passes tests 9 and 10, its path 11 and 12,
 pub reading-admissible : (image : List ℕ) → imageVerdict image ≡ accepted → (r : Reading) → T (isReading (grammarOf image) r)
@@ -249,17 +248,17 @@ pub handed-on : {image : List ℕ} {request : Request} {before after : List ℕ}
     → let r = demand2 l row m .reading in
     (before′ after′ : List ℕ) (reply′ : Reply) → Listing image (analysis (word (grammarOf image) r)) before′ after′ reply′ ⊎ Listing image (generation (pathBytes (r .path))) before′ after′ reply′
     → (k : ℕ) → reply′ ≡ Reply.refused k → ⊥
-handed-on {image} {request} {before} {after} {reply} l row m before′ after′ reply′ c = go c
+handed-on {image} l row m before′ after′ reply′ c = go c
   where
     r : Reading
     r = demand2 l row m .reading
 
     both : (firstFailing (requestTests image (analysis (word (grammarOf image) r))) ≡ accepted) × (firstFailing (requestTests image (generation (pathBytes (r .path)))) ≡ accepted)
-    both = both-taken image (image-accepted image request before after reply (promise l .0) (promise l .1) row m) r (demand2 l row m .is-reading)
+    both = both-taken image (image-accepted (promise l) row m) r (demand2 l row m .is-reading)
 
     go : Listing image (analysis (word (grammarOf image) r)) before′ after′ reply′ ⊎ Listing image (generation (pathBytes (r .path))) before′ after′ reply′ → (k : ℕ) → reply′ ≡ Reply.refused k → ⊥
-    go (inl c) = calls.listing-passed image (analysis (word (grammarOf image) r)) before′ after′ reply′ (promise c .0) (promise c .1) (both .0) .1
-    go (inr c) = calls.listing-passed image (generation (pathBytes (r .path))) before′ after′ reply′ (promise c .0) (promise c .1) (both .1) .1
+    go (inl c) = calls.listing-passed (promise c) (both .0) .1
+    go (inr c) = calls.listing-passed (promise c) (both .1) .1
 
 -- DEMAND 3
 
@@ -274,4 +273,4 @@ pub demand3 : {image : List ℕ} {request : Request} {before after : List ℕ} {
     → (l : List Reading) → IsListing (grammarOf image) (queryOf request) l → Demand3 l reply before after
 unfolding allReadings
 demand3 {image} {request} {before} {after} {reply} c a b l i =
-    subst (λ (l : List Reading). Demand3 l reply before after) (sym (listing-iff (grammarOf image) (queryOf request) l .0 i)) (demand3-call image request before after a b reply .1 (promise c))
+    subst (λ (l : List Reading). Demand3 l reply before after) (sym (listing-iff (grammarOf image) (queryOf request) l .0 i)) (demand3-call image request before after a b reply .1 (promise c .replies, promise c .leaves))

@@ -13,15 +13,15 @@ use Rattle.model.specs.Readings.{Reading, spelled, fewNulls, wordLength, pairin
 use Rattle.model.specs.Query.{Request, analysis, generation, queryOf}
 use Rattle.model.specs.Refusals.{requestTests}
 use Rattle.model.specs.Tree.{readings}
-use Rattle.model.specs.Rows.{Reply, rowBytes, rowCount}
-use Rattle.model.specs.Calls.{allReadings, listingReply, afterListing}
+use Rattle.model.specs.Rows.{Reply, rowBytes}
+use Rattle.model.specs.Calls.{allReadings}
 use Rattle.model.specs.Demand.{Demand3, ProperBeginning, rowsHandedBack, asRows}
 use Rattle.model.proofs.Booleans.{and-out, and-in, out8, same-out, same-in}
 use Rattle.model.proofs.Lists.{below-has, every-at, map-from}
 use Rattle.model.proofs.Converse.{analysis-iff, generation-iff}
 use Rattle.demands.specs.Words.{Asks}
 use Rattle.demands.proofs.Refusing.{either-of}
-use Rattle.demands.proofs.Calls.{listing-case}
+use Rattle.demands.proofs.Calls.{Promised, listing-case}
 
 module _ (g : Grammar) where
   pub among-iff : (request : Request) (r : Reading) → List·Memᴰ r (readings g (queryOf request)) ↔ (T (isReading g r) × Asks g request r)
@@ -76,10 +76,9 @@ rows-among l (Reply.refused k) before after d row m = subst (List·Memᴰ row) (
 pub refused-rows : (reply : Reply) (k : ℕ) (after row : List ℕ) → reply ≡ Reply.refused k → List·Memᴰ row (rowsHandedBack reply after) → ⊥
 refused-rows reply k after row e m = List·Memᴰ·not-nil (subst (λ (x : Reply). List·Memᴰ row (rowsHandedBack x after)) e m)
 
-module _ (image : List ℕ) (request : Request) (before after : List ℕ) (reply : Reply)
-    (replies : reply ≡ listingReply image request (rowCount before)) (leaves : after ≡ afterListing image request before) where
+module _ {image : List ℕ} {request : Request} {before after : List ℕ} {reply : Reply} (p : Promised image request before after reply) where
   row-listed : (row : List ℕ) → List·Memᴰ row (rowsHandedBack reply after) → List·Memᴰ row (asRows (allReadings image request))
-  row-listed row m = go (either-of (λ k. reply ≡ Reply.refused k) (after ≡ before) (Demand3 (allReadings image request) reply before after) (requestTests image request) (listing-case image request before after reply replies leaves))
+  row-listed row m = go (either-of (λ k. reply ≡ Reply.refused k) (after ≡ before) (Demand3 (allReadings image request) reply before after) (requestTests image request) (listing-case p))
     where
       go : Demand3 (allReadings image request) reply before after ⊎ ((k : ℕ) × (reply ≡ Reply.refused k)) → List·Memᴰ row (asRows (allReadings image request))
       go (inl d) = rows-among (allReadings image request) reply before after d row m

@@ -117,7 +117,7 @@ listing-number-case image request before after n replies leaves =
     (λ d. (reply, replies, d))
     (λ w. subst D (listing-coding .apart (w .0) reply (sym (w .1) ∙ replies)) (w .2))
     (firstFailing (requestTests image request))
-    (listing-case image request before after reply refl leaves)
+    (listing-case (record { replies = refl; leaves = leaves }))
 
 pub sealing-number-case : (image after : List ℕ) (n : ℕ) → n ≡ sealingNumber (sealingReply image) → after ≡ afterSealing image
     → Case (λ k. n ≡ 4 * k + 3) (after ≡ image) ((n ≡ 1) × (after ≡ sealedImage image)) (firstFailing ((1, rightLength image) ∷ []))
