@@ -2,7 +2,7 @@
 -- entry (a), its reply (r) and its arguments at exit (s); `now` is a lent slice's bytes.
 use Prim.Native.Nat.{ℕ, _+_, _*_, _<_}
 use mathlib.Core.Bool.{Bool}
-use mathlib.Core.Path.{_≡_, sym, ap₂, _∙_, subst}
+use mathlib.Core.Path.{_≡_, refl, sym, ap₂, _∙_, subst}
 use mathlib.Core.Logic.{_↔_, _⊎_, inl, inr}
 use mathlib.Core.List.{List, [], _∷_, map, List·Memᴰ}
 use lib.ListN.{length, take, drop}
@@ -14,7 +14,7 @@ use Rattle.model.specs.Lexicon.{entry, formLength}
 use Rattle.model.specs.GrammarOf.{grammarOf}
 use Rattle.model.specs.Readings.{Reading, spelled, isPath, isReading, word}
 use Rattle.model.specs.Query.{Request, analysis, generation, queryOf}
-use Rattle.model.specs.Refusals.{Verdict, accepted, firstFailing, rightLength, imageTests, imageVerdict, wordTests, pathTests, ownTests, requestTests, judgeTests, viewTests}
+use Rattle.model.specs.Refusals.{Verdict, accepted, firstFailing, rightLength, imageTests, imageVerdict, wordTests, pathTests, pairingTests, ownTests, requestTests, judgeTests, viewTests}
 use Rattle.model.specs.Rows.{Reply, rowBytes, replyNumber}
 use Rattle.model.specs.Calls.{Sealing, allReadings}
 use Rattle.model.specs.Beside.{Judgement, FormReply, formReply}
@@ -110,6 +110,16 @@ demand1 {tests} {Refused} {Unchanged} {Work} t c =
       in-table = by-table Refused Unchanged Work tests c t;
       unchanged = unchanged-of Refused Unchanged Work tests c;
     }
+
+-- "the image check .. 1-8; every other call 1-8 and then its own": the numbers of the tests of each
+pub tests-made : (image word path pairing : List ℕ) (e : ℕ)
+    → (map (λ t. t .0) (imageTests image) ≡ 1 ∷ 2 ∷ 3 ∷ 4 ∷ 5 ∷ 6 ∷ 7 ∷ 8 ∷ [])
+    × (map (λ t. t .0) (requestTests image (analysis word)) ≡ 1 ∷ 2 ∷ 3 ∷ 4 ∷ 5 ∷ 6 ∷ 7 ∷ 8 ∷ 9 ∷ 10 ∷ [])
+    × (map (λ t. t .0) (requestTests image (generation path)) ≡ 1 ∷ 2 ∷ 3 ∷ 4 ∷ 5 ∷ 6 ∷ 7 ∷ 8 ∷ 11 ∷ 12 ∷ [])
+    × (map (λ t. t .0) (judgeTests image path pairing) ≡ 1 ∷ 2 ∷ 3 ∷ 4 ∷ 5 ∷ 6 ∷ 7 ∷ 8 ∷ 11 ∷ 12 ∷ 13 ∷ [])
+    × (map (λ t. t .0) (viewTests image e) ≡ 1 ∷ 2 ∷ 3 ∷ 4 ∷ 5 ∷ 6 ∷ 7 ∷ 8 ∷ 12 ∷ [])
+unfolding imageTests requestTests ownTests wordTests pathTests pairingTests judgeTests viewTests
+tests-made image word path pairing e = (refl, refl, refl, refl, refl)
 
 -- analysis and generation, from Rattle and from C: the image's tests and then the word's or the path's; their work is demand 3
 pub demand1-listing : {image : List ℕ} {request : Request} {before after : List ℕ} {reply : Reply} → Listing image request before after reply
