@@ -59,7 +59,7 @@ pub rows-more : (rows : List ℕ) (j : ℕ) → printedRows rows (j + 1) ≡ pri
 rows-more rows j = ap (printedRows rows) (add-one j) ∙ flatMap-below (λ i. printedRow (rowReading (rowAt rows i))) j
 
 -- number k of a list that stands as two bytes each
-number-at : (ns : List ℕ) (k : ℕ) → getD ns k 0 < 65536 → number (flatMap numberBytes ns) (2 * k) ≡ getD ns k 0
+pub number-at : (ns : List ℕ) (k : ℕ) → getD ns k 0 < 65536 → number (flatMap numberBytes ns) (2 * k) ≡ getD ns k 0
 number-at [] k h = refl
 number-at (n ∷ ns) zero h = omega arith
 number-at (n ∷ ns) (suc k) h =
@@ -73,7 +73,7 @@ number-at (n ∷ ns) (suc k) h =
 abbrev pub TwoBytes : List ℕ → Type 0
 TwoBytes ns = (n : ℕ) → List·Memᴰ n ns → n < 65536
 
-getD-in : (ns : List ℕ) (i : ℕ) → i < length ns → List·Memᴰ (getD ns i 0) ns
+pub getD-in : (ns : List ℕ) (i : ℕ) → i < length ns → List·Memᴰ (getD ns i 0) ns
 getD-in [] i h = absurd (omega arith)
 getD-in (n ∷ ns) zero h = List·Memᴰ·head refl
 getD-in (n ∷ ns) (suc i) h = List·Memᴰ·tail (getD-in ns i (omega arith))

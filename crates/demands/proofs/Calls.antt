@@ -1,0 +1,133 @@
+-- What each call replies and leaves, by the verdict of its tests: a refusal and nothing changed, or its work.
+use Prim.Native.Nat.{ℕ}
+use native.Mathlib.Omega.{arith}
+use mathlib.Core.Bool.{Bool, true, false, cond}
+use mathlib.Core.Path.{_≡_, refl, sym, ap, _∙_, subst}
+use mathlib.Core.Logic.{inl, inr}
+use mathlib.Core.List.{List, [], _∷_}
+use lib.ListN.{length}
+use lib.Dec.{T}
+use Rattle.model.specs.Blocks.{sealedImage}
+use Rattle.model.specs.Lexicon.{entry, formLength}
+use Rattle.model.specs.Readings.{Reading}
+use Rattle.model.specs.Query.{Request, analysis, generation}
+use Rattle.model.specs.Refusals.{Verdict, accepted, refused, unless, firstFailing, rightLength, imageTests, imageVerdict, wordTests, pathTests, pairingTests, ownTests, requestTests, judgeTests, viewTests}
+use Rattle.model.specs.Rows.{Reply, rowCount}
+use Rattle.model.specs.Calls.{Sealing, sealingReply, afterSealing, requestVerdict, allReadings, listingReply, afterListing}
+use Rattle.model.specs.Beside.{Judgement, FormReply, judgementAfter, judged, viewAfter, formReplyAfter, viewed, formReply}
+use Rattle.model.specs.Demand.{Demand3, asRows}
+use Rattle.model.proofs.Booleans.{of-true}
+use Rattle.model.proofs.Demand.{tests-append, demand3-call}
+use Rattle.analyser.proofs.Replies.{refused-by}
+use Rattle.demands.specs.Words.{IsJudged, Judged, formLetters}
+use Rattle.demands.proofs.Refusing.{clash, Case, InTable}
+
+-- a reply that refuses lists nothing
+refused-lists-not : (l : List Reading) (k : ℕ) (before after : List ℕ) → Demand3 l (Reply.refused k) before after → ⊥
+refused-lists-not l k before after d = go l (d .none-when-empty .1) (d .equal-unless-more .1 (λ m. m))
+  where
+    go : (l : List Reading) → (l ≡ [] → Reply.refused k ≡ Reply.none) → [] ≡ asRows l → ⊥
+    go [] f e = let h = f refl in clash (cc)
+    go (r ∷ l) f e = omega (arith, ap length e)
+
+-- the numbers of the tests
+module _ (image : List ℕ) where
+  pub request-table : (request : Request) → T (InTable (requestTests image request))
+  unfolding requestTests ownTests imageTests wordTests pathTests
+  request-table (analysis word) = tt
+  request-table (generation path) = tt
+
+  pub check-table : T (InTable (imageTests image))
+  unfolding imageTests
+  check-table = tt
+
+  pub judge-table : (path pairing : List ℕ) → T (InTable (judgeTests image path pairing))
+  unfolding judgeTests imageTests pathTests pairingTests
+  judge-table path pairing = tt
+
+  pub view-table : (e : ℕ) → T (InTable (viewTests image e))
+  unfolding viewTests imageTests
+  view-table e = tt
+
+-- what the contracts of analysis and generation promise
+pub record Promised (image : List ℕ) (request : Request) (before after : List ℕ) (reply : Reply) : Type 0 where
+  pub replies : reply ≡ listingReply image request (rowCount before)
+  pub leaves : after ≡ afterListing image request before
+
+module _ {image : List ℕ} {request : Request} {before after : List ℕ} {reply : Reply} (p : Promised image request before after reply) where
+  abbrev all : List Reading
+  all = allReadings image request
+
+  pub listing-case : Case (λ k. reply ≡ Reply.refused k) (after ≡ before) (Demand3 all reply before after) (firstFailing (requestTests image request))
+  unfolding requestVerdict requestTests imageVerdict
+  listing-case = go (firstFailing (requestTests image request)) refl
+    where
+      go : (v : Verdict) → firstFailing (requestTests image request) ≡ v → Case (λ k. reply ≡ Reply.refused k) (after ≡ before) (Demand3 all reply before after) v
+      go Verdict.accepted e =
+          let t = tests-append (imageTests image) (ownTests image request) .0 e in
+          let d = demand3-call image request before after (t .0) (t .1) reply .1 (p .replies, p .leaves) in
+          (d, λ k f. refused-lists-not all k before after (subst (λ (x : Reply). Demand3 all x before after) f d))
+      go (Verdict.refused k) e =
+          let r = refused-by image request before k e in
+          let f = p .replies ∙ sym (r .0) in
+          (f, λ j g. cc, p .leaves ∙ sym (r .1), λ d. refused-lists-not all k before after (subst (λ (x : Reply). Demand3 all x before after) f d))
+
+  -- where every test passes
+  pub listing-passed : firstFailing (requestTests image request) ≡ accepted → Demand3 all reply before after × ((k : ℕ) → reply ≡ Reply.refused k → ⊥)
+  listing-passed e = subst (Case (λ k. reply ≡ Reply.refused k) (after ≡ before) (Demand3 all reply before after)) e listing-case
+
+-- sealing
+module _ (image after : List ℕ) (reply : Sealing) (replies : reply ≡ sealingReply image) (leaves : after ≡ afterSealing image) where
+  pub sealing-case : Case (λ k. reply ≡ Sealing.refused k) (after ≡ image) ((reply ≡ Sealing.sealed) × (after ≡ sealedImage image)) (firstFailing ((1, rightLength image) ∷ []))
+  unfolding sealingReply afterSealing
+  sealing-case = go (rightLength image) replies leaves
+    where
+      go : (b : Bool) → reply ≡ cond b Sealing.sealed (Sealing.refused 1) → after ≡ cond b (sealedImage image) image
+          → Case (λ k. reply ≡ Sealing.refused k) (after ≡ image) ((reply ≡ Sealing.sealed) × (after ≡ sealedImage image)) (unless b 1 accepted)
+      go true e f = ((e, f), λ k g. clash (cc))
+      go false e f = (e, λ j g. cc, f, λ w. let g = w .0 in clash (cc))
+
+-- the image check
+module _ (image : List ℕ) (reply : Verdict) (replies : reply ≡ imageVerdict image) where
+  pub check-case : Case (λ k. reply ≡ refused k) Unit (reply ≡ accepted) (firstFailing (imageTests image))
+  unfolding imageVerdict
+  check-case = go (firstFailing (imageTests image)) replies
+    where
+      go : (v : Verdict) → reply ≡ v → Case (λ k. reply ≡ refused k) Unit (reply ≡ accepted) v
+      go Verdict.accepted e = (e, λ k g. clash (cc))
+      go (Verdict.refused k) e = (e, λ j g. cc, tt, λ g. clash (cc))
+
+-- the judge
+module _ (image path pairing : List ℕ) where
+  pub judge-case : (reply : Judgement) → reply ≡ judged image path pairing → Case (λ k. reply ≡ Judgement.refused k) Unit (Judged image path pairing reply) (firstFailing (judgeTests image path pairing))
+  unfolding judged
+  judge-case reply replies = go (firstFailing (judgeTests image path pairing)) (IsJudged image path pairing) refl replies
+    where
+      go : (v : Verdict) (b : Bool) → IsJudged image path pairing ≡ b → reply ≡ judgementAfter v b → Case (λ k. reply ≡ Judgement.refused k) Unit (Judged image path pairing reply) v
+      go Verdict.accepted true f e = (inl (e, of-true (IsJudged image path pairing) f), λ k g. clash (cc))
+      go Verdict.accepted false f e = (inr (e, λ t. subst T f t), λ k g. clash (cc))
+      go (Verdict.refused k) b f e = (e, λ j g. cc, tt, not-judged)
+        where
+          not-judged : Judged image path pairing reply → ⊥
+          not-judged (inl w) = let g = w .0 in clash (cc)
+          not-judged (inr w) = let g = w .0 in clash (cc)
+
+-- the entry view and its companion
+module _ (image : List ℕ) (e : ℕ) where
+  pub form-case : (reply : FormReply) → reply ≡ formReply image e → Case (λ k. reply ≡ FormReply.refused k) Unit (reply ≡ FormReply.letters (formLength (entry image e))) (firstFailing (viewTests image e))
+  unfolding formReply
+  form-case reply replies = go (firstFailing (viewTests image e)) replies
+    where
+      go : (v : Verdict) → reply ≡ formReplyAfter v (formLength (entry image e)) → Case (λ k. reply ≡ FormReply.refused k) Unit (reply ≡ FormReply.letters (formLength (entry image e))) v
+      go Verdict.accepted f = (f, λ k g. clash (cc))
+      go (Verdict.refused k) f = (f, λ j g. cc, tt, λ g. clash (cc))
+
+  pub view-case : (reply : FormReply) (part : List ℕ) → reply ≡ formReply image e → part ≡ viewed image e
+      → Case (λ k. (reply ≡ FormReply.refused k) × (part ≡ [])) Unit ((reply ≡ FormReply.letters (formLength (entry image e))) × (part ≡ formLetters image e)) (firstFailing (viewTests image e))
+  unfolding formReply viewed
+  view-case reply part replies views = go (firstFailing (viewTests image e)) replies views
+    where
+      go : (v : Verdict) → reply ≡ formReplyAfter v (formLength (entry image e)) → part ≡ viewAfter v (formLetters image e)
+          → Case (λ k. (reply ≡ FormReply.refused k) × (part ≡ [])) Unit ((reply ≡ FormReply.letters (formLength (entry image e))) × (part ≡ formLetters image e)) v
+      go Verdict.accepted f g = ((f, g), λ k h. let i = h .0 in clash (cc))
+      go (Verdict.refused k) f g = ((f, g), λ j h. let i = h .0 in cc, tt, λ h. let i = h .0 in clash (cc))

@@ -1,0 +1,7 @@
+pub mod Ends
+pub mod Refusing
+pub mod Calls
+pub mod Numbers
+pub mod Given
+pub mod BothWays
+pub mod Demands

@@ -1,0 +1,59 @@
+-- What the statements of the demands are made of: the first test that fails, the work of each call beside the listings, replies as numbers, what a listing is
+-- asked for, a path as bytes.
+use Prim.Native.Nat.{ℕ, _+_, _*_, _<_, _≤_}
+use mathlib.Core.Bool.{Bool, false}
+use mathlib.Core.Path.{_≡_}
+use mathlib.Core.Logic.{_↔_, _⊎_}
+use mathlib.Core.List.{List, _∷_, _++_}
+use lib.ListN.{length, take, drop}
+use lib.Dec.{T}
+use Rattle.model.specs.Lists.{every, flatMap, numberBytes}
+use Rattle.model.specs.Lexicon.{entry, formLength}
+use Rattle.model.specs.Grammar.{Grammar}
+use Rattle.model.specs.GrammarOf.{grammarOf}
+use Rattle.model.specs.Readings.{Reading, spelled, isReading}
+use Rattle.model.specs.Query.{Request, analysis, generation, entryNumbers}
+use Rattle.model.specs.Beside.{Judgement, formStart}
+
+-- "Tested by number": test k fails, and every test before it passes
+pub record FirstFails (k : ℕ) (tests : List (ℕ × Bool)) : Type 0 where
+  pub earlier : List (ℕ × Bool)
+  pub later : List (ℕ × Bool)
+  pub in-turn : tests ≡ earlier ++ ((k, false) ∷ later)
+  pub earlier-pass : T (every (λ t. t .1) earlier)
+
+-- a code of replies that loses nothing: no two replies have one number, and 4k + 3 is the number of refused k alone
+pub record Coding {A : Type 0} (number : A → ℕ) (refused : ℕ → A) : Type 0 where
+  pub apart : (a b : A) → number a ≡ number b → a ≡ b
+  pub refused-is : (a : A) (k : ℕ) → (number a ≡ 4 * k + 3) ↔ (a ≡ refused k)
+
+-- the judge "holds exactly for a reading of the word it spells"; in C holds is 1 and fails 0
+module _ (image path pairing : List ℕ) where
+  abbrev pub IsJudged : Bool
+  IsJudged = isReading (grammarOf image) (record { path = entryNumbers path; pairing = pairing })
+
+  abbrev pub Judged : Judgement → Type 0
+  Judged reply = ((reply ≡ Judgement.holds) × T IsJudged) ⊎ ((reply ≡ Judgement.fails) × (T IsJudged → ⊥))
+
+  abbrev pub JudgedNumber : ℕ → Type 0
+  JudgedNumber n = ((n ≡ 1) × T IsJudged) ⊎ ((n ≡ 0) × (T IsJudged → ⊥))
+
+-- "the letters of an entry's form as they stand in the image"
+module _ (image : List ℕ) (e : ℕ) where
+  abbrev pub formLetters : List ℕ
+  formLetters = take (formLength (entry image e)) (drop (formStart image e) image)
+
+  -- in C, n letters copied to the front of a lent buffer with 4n + 1, or with 4n + 2 nothing written where it has no room
+  abbrev pub FormCopied : List ℕ → List ℕ → ℕ → Type 0
+  FormCopied before after number =
+      let n = formLength (entry image e) in
+      ((n ≤ length before) × (number ≡ 4 * n + 1) × (after ≡ formLetters ++ drop n before)) ⊎ ((length before < n) × (number ≡ 4 * n + 2) × (after ≡ before))
+
+-- what a listing asks of a reading: the word that it spells, or its path
+abbrev pub Asks : Grammar → Request → Reading → Type 0
+Asks g (analysis w) r = spelled (g .surface) (r .pairing) ≡ w
+Asks g (generation path) r = r .path ≡ entryNumbers path
+
+-- "a path as bytes, two to an entry number"
+abbrev pub pathBytes : List ℕ → List ℕ
+pathBytes es = flatMap numberBytes es

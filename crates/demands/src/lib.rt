@@ -1,0 +1,1 @@
+// Theorems alone: the three demands, over the contracts of the public calls.
