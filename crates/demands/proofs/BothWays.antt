@@ -26,7 +26,7 @@ use Rattle.letters.proofs.Laws.{IsSide, right-pair}
 use Rattle.grammar.proofs.Verdicts.{accepted-image}
 use Rattle.print.specs.Text.{rowReading}
 use Rattle.print.proofs.Text.{TwoBytes, number-at, getD-in, row-reading}
-use Rattle.answers.proofs.Listed.{Small, reading-small}
+use Rattle.print.proofs.Small.{Small, reading-small}
 use Rattle.demands.specs.Words.{Asks, pathBytes}
 use Rattle.demands.proofs.Refusing.{Case}
 use Rattle.demands.proofs.Calls.{Promised, listing-case, listing-passed}

@@ -39,7 +39,7 @@ use Rattle.headwords.proofs.headwords_seal.Reads as headwords-seal
 use Rattle.headwords.proofs.headwords_judge.Reads as headwords-judge
 use Rattle.headwords.proofs.headwords_form.Reads as headwords-form
 use Rattle.headwords.specs.Numbers.{verdictNumber, sealingNumber, judgementNumber, formNumber}
-use Rattle.answers.proofs.Listed.{Small}
+use Rattle.print.proofs.Small.{Small}
 use Rattle.demands.specs.Words.{FirstFails, Coding, Judged, JudgedNumber, formLetters, FormCopied, Asks, pathBytes}
 use Rattle.demands.proofs.Ends.{Ends, each-ends}
 use Rattle.demands.proofs.Refusing.{InTable, Case, either-of, not-both-of, by-first, by-table, unchanged-of}

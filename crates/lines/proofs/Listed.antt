@@ -1,17 +1,15 @@
 -- The rows of a listing as text: each row holds its reading, so the rows printed are those of the readings listed.
 use Prim.Native.Nat.{ℕ, zero, suc, _+_, _/_, _<_, _≤_}
 use native.Mathlib.Omega.{arith}
-use mathlib.Core.Bool.{Bool, true, false, not, cond}
+use mathlib.Core.Bool.{Bool, true, false, cond}
 use mathlib.Core.Path.{_≡_, refl, sym, ap, _∙_, subst}
 use mathlib.Core.List.{List, [], _∷_, _++_, map, List·Memᴰ, List·Memᴰ·head, List·Memᴰ·tail}
 use lib.ListN.{length, getD, take, length-take}
 use lib.Seq.{take-all, take-nil}
-use lib.Dec.{T, leb, ltb, ltb→lt}
+use lib.Dec.{leb}
 use borrow.Author.Tests.{leb-true, leb-false}
-use Rattle.model.specs.Lists.{below, every, flatMap, joined, sameList}
-use Rattle.model.specs.Lexicon.{linked, pathLength}
-use Rattle.model.specs.Grammar.{Grammar}
-use Rattle.model.specs.Readings.{Reading, isReading, isPath, isLinked, pairingLength, spelled, fewNulls, wordLength, word, passes}
+use Rattle.model.specs.Lists.{below, flatMap}
+use Rattle.model.specs.Readings.{Reading}
 use Rattle.model.specs.GrammarOf.{grammarOf}
 use Rattle.model.specs.Query.{analysis, queryOf}
 use Rattle.model.specs.Refusals.{Verdict, accepted, imageVerdict}
@@ -21,44 +19,17 @@ use Rattle.model.specs.Calls.{replyAfter, rowsAfter, requestVerdict, allReading
 use Rattle.model.specs.Demand.{replyRows, asRows}
 use Rattle.model.specs.Lines as lines
 use Rattle.model.specs.Lines.{printedReply, printedRow, printedLine}
-use Rattle.model.proofs.Booleans.{and-out, out4, out8, within-out}
-use Rattle.model.proofs.Lists.{every-at, below-from, getD-map-below}
+use Rattle.model.proofs.Lists.{below-from, getD-map-below}
 use Rattle.model.proofs.Parts.{flatMap-same}
 use Rattle.listing.proofs.Loops.{flatMap-places}
 use Rattle.model.proofs.Listing.{listing}
 use Rattle.model.proofs.Rows.{filled-rows}
 use Rattle.grammar.proofs.Verdicts.{accepted-image}
 use Rattle.print.specs.Text.{Row, rowReading, printedRows}
-use Rattle.print.proofs.Text.{TwoBytes, row-right, row-reading}
+use Rattle.print.proofs.Text.{row-right, row-reading}
+use Rattle.print.proofs.Small.{Small, reading-small}
 
--- a reading that a row has room for
-pub record Small (r : Reading) : Type 0 where
-  pub entries-most : length (r .path) ≤ 16
-  pub pairs-most : length (r .pairing) ≤ 40
-  pub entries-small : TwoBytes (r .path)
-  pub pairs-small : TwoBytes (r .pairing)
-
-module _ (g : Grammar) (entries-few : g .entries < 65536) (pairs-few : g .pairs < 65536) where
-  linked-small : (may : ℕ → Bool) (ended : Bool) (es : List ℕ) → T (linked (g .entries) (g .follows) (g .ends) may ended es) → TwoBytes es
-  unfolding linked
-  linked-small may ended (e ∷ es) t n (List·Memᴰ·head p) = let u = out4 (not ended) (may e) (ltb e (g .entries)) (linked (g .entries) (g .follows) (g .ends) (g .follows e) (g .ends e) es) t in omega (arith, p, ltb→lt e (g .entries) (u .2))
-  linked-small may ended (e ∷ es) t n (List·Memᴰ·tail m) = linked-small (g .follows e) (g .ends e) es (out4 (not ended) (may e) (ltb e (g .entries)) (linked (g .entries) (g .follows) (g .ends) (g .follows e) (g .ends e) es) t .3) n m
-
-  pub reading-small : (r : Reading) → T (isReading g r) → Small r
-  unfolding isReading isPath
-  reading-small r t =
-      let es = r .path in
-      let ps = r .pairing in
-      let u = out8 (isPath g es) (pairingLength ps) (every (λ p. ltb p (g .pairs)) ps) (sameList (spelled (g .lexical) ps) (joined (map (g .form) es))) (fewNulls (g .lexical) ps) (wordLength (word g r)) (fewNulls (g .surface) ps) (passes g ps) t in
-      let path = and-out (pathLength es) (isLinked g es) (u .0) in
-      record {
-        entries-most = within-out 1 16 (length es) (path .0) .1;
-        pairs-most = within-out 1 40 (length ps) (u .1) .1;
-        entries-small = linked-small (g .begins) _ es (path .1);
-        pairs-small = λ p m. omega (arith, ltb→lt p (g .pairs) (every-at (λ p. ltb p (g .pairs)) ps m (u .2)));
-      }
-
--- a list of such readings
+-- a list of readings that rows have room for
 abbrev pub AllSmall : List Reading → Type 0
 AllSmall l = (r : Reading) → List·Memᴰ r l → Small r
 

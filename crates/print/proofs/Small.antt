@@ -1,0 +1,40 @@
+-- A reading that a row has room for, and that every reading of a grammar of few entries and pairs is one.
+use Prim.Native.Nat.{ℕ, _<_, _≤_}
+use native.Mathlib.Omega.{arith}
+use mathlib.Core.Bool.{Bool, not}
+use mathlib.Core.List.{List, _∷_, map, List·Memᴰ·head, List·Memᴰ·tail}
+use lib.ListN.{length}
+use lib.Dec.{T, ltb, ltb→lt}
+use Rattle.model.specs.Lists.{every, joined, sameList}
+use Rattle.model.specs.Lexicon.{linked, pathLength}
+use Rattle.model.specs.Grammar.{Grammar}
+use Rattle.model.specs.Readings.{Reading, isReading, isPath, isLinked, pairingLength, spelled, fewNulls, wordLength, word, passes}
+use Rattle.model.proofs.Booleans.{and-out, out4, out8, within-out}
+use Rattle.model.proofs.Lists.{every-at}
+use Rattle.print.proofs.Text.{TwoBytes}
+
+pub record Small (r : Reading) : Type 0 where
+  pub entries-most : length (r .path) ≤ 16
+  pub pairs-most : length (r .pairing) ≤ 40
+  pub entries-small : TwoBytes (r .path)
+  pub pairs-small : TwoBytes (r .pairing)
+
+module _ (g : Grammar) (entries-few : g .entries < 65536) (pairs-few : g .pairs < 65536) where
+  linked-small : (may : ℕ → Bool) (ended : Bool) (es : List ℕ) → T (linked (g .entries) (g .follows) (g .ends) may ended es) → TwoBytes es
+  unfolding linked
+  linked-small may ended (e ∷ es) t n (List·Memᴰ·head p) = let u = out4 (not ended) (may e) (ltb e (g .entries)) (linked (g .entries) (g .follows) (g .ends) (g .follows e) (g .ends e) es) t in omega (arith, p, ltb→lt e (g .entries) (u .2))
+  linked-small may ended (e ∷ es) t n (List·Memᴰ·tail m) = linked-small (g .follows e) (g .ends e) es (out4 (not ended) (may e) (ltb e (g .entries)) (linked (g .entries) (g .follows) (g .ends) (g .follows e) (g .ends e) es) t .3) n m
+
+  pub reading-small : (r : Reading) → T (isReading g r) → Small r
+  unfolding isReading isPath
+  reading-small r t =
+      let es = r .path in
+      let ps = r .pairing in
+      let u = out8 (isPath g es) (pairingLength ps) (every (λ p. ltb p (g .pairs)) ps) (sameList (spelled (g .lexical) ps) (joined (map (g .form) es))) (fewNulls (g .lexical) ps) (wordLength (word g r)) (fewNulls (g .surface) ps) (passes g ps) t in
+      let path = and-out (pathLength es) (isLinked g es) (u .0) in
+      record {
+        entries-most = within-out 1 16 (length es) (path .0) .1;
+        pairs-most = within-out 1 40 (length ps) (u .1) .1;
+        entries-small = linked-small (g .begins) _ es (path .1);
+        pairs-small = λ p m. omega (arith, ltb→lt p (g .pairs) (every-at (λ p. ltb p (g .pairs)) ps m (u .2)));
+      }
