@@ -1,6 +1,6 @@
 #!/usr/bin/env bash
 # The line program: the trials in tests/trials (a grammar, its input and what has to be printed; `lines` has the luz grammar), no image and one that
-# is too long, a line without end at constant memory, and a standard output that closes.
+# is too long, a line without end at constant memory, a standard output that closes, and reads and writes that fail, stop short or are interrupted.
 set -eu
 cd "$(dirname "$0")/.."
 root=$PWD
@@ -26,8 +26,9 @@ head -c 65537 /dev/zero >grammar.img
 head -c 1000000 /dev/zero >grammar.img
 [ "$(echo 2 | "$root/target/bin/lines")" = "refused 1" ]
 rm grammar.img
-[ "$(printf '2\n?\n' | "$root/target/bin/lines" | tr '\n' ' ')" = "refused 1 unread " ]
-[ -z "$("$root/target/bin/lines" </dev/null)" ]
+[ "$(printf '2\n?\n' | "$root/target/bin/lines" 2>errors | tr '\n' ' ')" = "refused 1 unread " ]
+[ "$(cat errors)" = "grammar.img: No such file or directory" ]
+[ -z "$("$root/target/bin/lines" </dev/null 2>/dev/null)" ]
 echo "images that are not there or too long: refused"
 
 # 200 MB in one line, in 64 MB of memory
@@ -42,3 +43,35 @@ yes '5 7 3 4 6' | "$root/target/bin/lines" 2>errors | head -n 1 >first || true
 (trap '' PIPE; yes '5 7 3 4 6' 2>/dev/null | { "$root/target/bin/lines"; echo "ended with $?" >ended; } | head -n 1 >first) || true
 [ "$(cat ended)" = "ended with 0" ]
 echo "a standard output that closes: ends"
+
+# told WORDS VARIABLE=VALUE...: under these failures it prints the stored answers to the stored input, or the first bytes of them, and tells the words
+cc -shared -fPIC -O1 -Wall -Wextra -Werror -o failing.so "$root/tests/failing_read.c"
+told() {
+    env LD_PRELOAD="$work/failing.so" "${@:2}" "$root/target/bin/lines" <"$root/crates/lines/stdin" >printed 2>errors
+    cmp -n "$(wc -c <printed)" printed "$root/crates/lines/stdout"
+    [ "$(cat errors)" = "$1" ] || { cat errors; return 1; }
+}
+whole() {
+    told "" "$@"
+    cmp printed "$root/crates/lines/stdout"
+}
+for file in grammar.img -; do
+    whole READ_OF=$file READ_SHORT=1
+    whole READ_OF=$file READ_INTERRUPTED=1
+done
+whole WRITE_SHORT=1
+whole WRITE_INTERRUPTED=1
+told "standard output: No space left on device" WRITE_FAILS_AFTER=10
+[ "$(wc -c <printed)" -eq 10 ]
+told "standard input: Input/output error" READ_OF=- READ_FAILS_AFTER=13
+[ "$(cat printed)" = "$(head -n 3 "$root/crates/lines/stdout")" ]
+echo "reads and writes that stop short or are interrupted: all is printed; that fail: the answers so far, and words"
+
+# an image of which a part can be read has length 0, even where that part is an image
+cat grammar.img grammar.img >both
+mv both grammar.img
+for after in 0 1 3072 6143 6144; do
+    got=$(env LD_PRELOAD="$work/failing.so" READ_OF=grammar.img READ_FAILS_AFTER=$after "$root/target/bin/lines" <"$root/crates/lines/stdin" 2>errors | sort -u)
+    [ "$got" = "refused 1" ] && [ "$(cat errors)" = "grammar.img: Input/output error" ]
+done
+echo "an image of which a part can be read: refused 1"

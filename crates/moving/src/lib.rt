@@ -98,12 +98,18 @@ fn read_image(file: i32, image: &mut [u8]) -> usize
                 return image_length(done, last);
             }
             Onward::Failed => {
+                tell_image();
                 return image_length(done, last);
             }
         }
         left -= 1;
     }
     0
+}
+
+// Says on standard error why the image can't be read.
+fn tell_image() {
+    os::fail(b"grammar.img");
 }
 
 // Puts the image into the buffer and answers its length: 0 where it can't be read. The buffer has one byte more than an image may have, so that a
@@ -114,7 +120,7 @@ pub fn load_image(image: &mut [u8]) -> usize
 {
     let file = os::open_read(b"grammar.img");
     if file < 0 {
-        os::fail(b"grammar.img");
+        tell_image();
         return 0;
     }
     let n = read_image(file, image);

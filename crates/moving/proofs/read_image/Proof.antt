@@ -67,6 +67,9 @@ returns-2 c =
 enum-told-2 : tie.Need-enum-told-2 Inv-loop μ-loop
 enum-told-2 c = search needs
 
+tell-image-requires : tie.Need-tell-image-requires Inv-loop μ-loop
+tell-image-requires c κs = search needs
+
 image-length-requires-2 : tie.Need-image-length-requires-2 Inv-loop μ-loop
 image-length-requires-2 c κs = search needs
 
@@ -75,10 +78,10 @@ same-length-3 c = search needs
 
 returns-3 : tie.Need-returns-3 Inv-loop μ-loop
 returns-3 c =
-    let at = c .before .before .before .before .before .before .before .before .before .before in
-    let told = c .before .before .before .before .before .before .read-some in
+    let at = c .before .before .before .before .before .before .before .before .before .before .before in
+    let told = c .before .before .before .before .before .before .before .read-some in
     let whole = same-len-mid (at .loop .done) (length (at .loop .image) - at .loop .done) (at .loop .image) (told .last .1 .0) (told .kept .1 .0) in
-    counts _ _ (omega (arith, whole, c .image-length2 .ensures, image-few (at .loop .done) (c .before .before .before .after .result), at .loop .inv .0, at .loop .inv .1))
+    counts _ _ (omega (arith, whole, c .image-length2 .ensures, image-few (at .loop .done) (c .before .before .before .before .after .result), at .loop .inv .0, at .loop .inv .1))
 
 sub-left : tie.Need-sub-left Inv-loop μ-loop
 sub-left c = search needs
@@ -122,6 +125,7 @@ read-image-spec =
     same-length-2
     returns-2
     enum-told-2
+    tell-image-requires
     image-length-requires-2
     same-length-3
     returns-3
