@@ -25,9 +25,7 @@ quietly() {
 }
 
 build() {
-    tools/prove headwords
-    echo "building the library" >&2
-    quietly rt staticlib headwords
+    tools/library
     quietly cargo build --offline --locked --release --manifest-path assemble/Cargo.toml --target-dir target/cargo
     quietly cc -std=c99 -O2 -Wall -Wextra -Werror -Iinclude -o "$work/listings" bench/listings.c target/staticlib/libheadwords.a
 }

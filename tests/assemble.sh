@@ -4,7 +4,7 @@ set -eu
 cd "$(dirname "$0")/.."
 export CARGO_TARGET_DIR=$PWD/target/cargo
 (cd assemble && cargo test --offline --locked --quiet && cargo build --offline --locked --quiet --release)
-rt check check_image >/dev/null
+tools/prove check_image
 work=$(mktemp -d)
 trap 'rm -rf "$work"' EXIT
 for grammar in grammars/*.txt; do

@@ -5,7 +5,7 @@ set -eu
 cd "$(dirname "$0")/.."
 work=$(mktemp -d)
 trap 'rm -rf "$work"' EXIT
-rt staticlib headwords
+tools/library
 for program in examples/luces tests/replies tests/largest; do
     cc -std=c99 -O1 -Wall -Wextra -Werror -Iinclude -o "$work/$(basename $program)" $program.c target/staticlib/libheadwords.a
 done

@@ -4,7 +4,7 @@
 set -eu
 cd "$(dirname "$0")/.."
 export CARGO_TARGET_DIR=$PWD/target/cargo
-rt staticlib headwords >/dev/null
+tools/library
 export HEADWORDS_LIB_DIR=$PWD/target/staticlib
 cd engine
 cargo test --offline --locked --quiet

@@ -6,7 +6,7 @@ cd "$(dirname "$0")/.."
 root=$PWD
 export CARGO_TARGET_DIR=$root/target/cargo
 (cd assemble && cargo build --offline --locked --quiet --release)
-rt check lines >/dev/null
+tools/prove lines
 work=$(mktemp -d)
 trap 'rm -rf "$work"' EXIT
 cd "$work"

@@ -4,7 +4,7 @@
 set -eu
 cd "$(dirname "$0")/.."
 
-rt check lines >/dev/null
+tools/prove lines
 
 CARGO_TARGET_DIR=$PWD/target/cargo
 export CARGO_TARGET_DIR
