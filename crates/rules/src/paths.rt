@@ -31,7 +31,7 @@ pub fn path_length_right(path: &[u8]) -> bool
 }
 
 // Whether entry e may open in lexicon x, where 255 is the end of a path.
-fn opens(image: &[u8], h: Header, x: usize, e: usize) -> bool
+fn may_open(image: &[u8], h: Header, x: usize, e: usize) -> bool
     requires { ⌜ Laid (now image) (headerOf h) ⌝ }
     requires { ⌜ (x < h .lexicons) ⊎ (x ≡ 255) ⌝ }
     ensures { λ r. ⌜ r ≡ (not (eqb x 255) && inLexicon (now (image .entry)) x e && ltb e (h .entries)) ⌝ }
@@ -59,7 +59,7 @@ pub fn path_linked(image: &[u8], h: Header, path: &[u8]) -> bool
     let mut i: usize = 0;
     while i < count {
         let e = image::number_at(path, 2 * i);
-        if !opens(image, h, x, e) {
+        if !may_open(image, h, x, e) {
             return false;
         }
         x = lexicon::continuation_of(image, h, e);
