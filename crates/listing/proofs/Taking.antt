@@ -84,8 +84,8 @@ module _ (image : List ℕ) (q : Query) (place : Place) (stands : Standing image
     unfolding mayAt nodeOf grammarOf levelMayBy
     pair-tests n m h = rw (← e1, ← e2, true-of (spells (restOf image place) x) candidate, lt-ltb m 40 h) refl
 
-    abbrev fewNulls : Bool
-    fewNulls = leb (nullsAnd (place .nulls) x) 8
+    abbrev nullsLet : Bool
+    nullsLet = leb (nullsAnd (place .nulls) x) 8
 
     abbrev levelLets : Bool
     levelLets = levelMayBy (q .letters) (levelOf (place .surface)) y
@@ -94,16 +94,16 @@ module _ (image : List ℕ) (q : Query) (place : Place) (stands : Standing image
     rulesLet = alive (g .rules) (g .next) (g .final) (stepAll (g .rules) (g .next) (g .final) (take (g .rules) (place .states)) p)
 
     -- not taken
-    refused : (fewNulls && levelLets && rulesLet) ≡ false → Took image q place p false place
+    refused : (nullsLet && levelLets && rulesLet) ≡ false → Took image q place p false place
     refused e = record { may-is = λ n m h. sym (pair-tests n m h ∙ e); node-is = λ f. absurd (false≢true f); stands = λ f. absurd (false≢true f) }
 
-    pub refused-nulls : fewNulls ≡ false → Took image q place p false place
+    pub refused-nulls : nullsLet ≡ false → Took image q place p false place
     refused-nulls e = refused (rw e refl)
 
-    pub refused-level : fewNulls ≡ true → levelLets ≡ false → Took image q place p false place
+    pub refused-level : nullsLet ≡ true → levelLets ≡ false → Took image q place p false place
     refused-level a e = refused (rw (a, e) refl)
 
-    pub refused-rules : fewNulls ≡ true → levelLets ≡ true → rulesLet ≡ false → Took image q place p false place
+    pub refused-rules : nullsLet ≡ true → levelLets ≡ true → rulesLet ≡ false → Took image q place p false place
     refused-rules a b e = refused (rw (a, b, e) refl)
 
     module _ (from nulls : ℕ) (level : Level) (states : List ℕ) (f1 : from ≡ lettersAnd (place .from) x) (f2 : nulls ≡ nullsAnd (place .nulls) x) (f3 : levelOf level ≡ levelGoBy (levelOf (place .surface)) y) (f4 : take (g .rules) states ≡ stepAll (g .rules) (g .next) (g .final) (take (g .rules) (place .states)) p) where
@@ -140,7 +140,7 @@ module _ (image : List ℕ) (q : Query) (place : Place) (stands : Standing image
           }
 
       -- taken
-      pub took : fewNulls ≡ true → levelLets ≡ true → rulesLet ≡ true → nulls ≤ 8 → Bounded level → Live image states → Took image q place p true taken
+      pub took : nullsLet ≡ true → levelLets ≡ true → rulesLet ≡ true → nulls ≤ 8 → Bounded level → Live image states → Took image q place p true taken
       took a b c h i l = record { may-is = λ n m k. sym (pair-tests n m k ∙ rw (a, b, c) refl); node-is = λ f. taken-node; stands = λ f. taken-stands h i l }
 
 -- the end of a reading

@@ -27,7 +27,7 @@ use Rattle.lexicon.proofs.Laws.{entryStart}
 use Rattle.rows.specs.declared.Trail.{Trail}
 use Rattle.rows.specs.Trail.{readingOf}
 use Rattle.listing.specs.declared.place.Place.{Place}
-use Rattle.listing.specs.Gather.{grow, gather, room}
+use Rattle.listing.specs.Gather.{grow, gather, stepsFrom}
 use Rattle.listing.specs.Places.{restOf, nodeOf, Took}
 use Rattle.listing.specs.Search.{nodeAt, headOf}
 use Rattle.listing.proofs.Gather.{branch, gather-last}
@@ -88,10 +88,10 @@ module _ (image : List ℕ) (q : Query) (place : Place) (a : ℕ) where
 
 -- what is seen where an entry opens
 module _ (image : List ℕ) (q : Query) (place : Place) (e a : ℕ) where
-  abbrev Entered : Place → Type 0
-  Entered next = (q : Query) (n m : ℕ) → nodeOf image next (suc n) m ≡ goAt (grammarOf image) q true (nodeOf image place n m) e
+  abbrev Enters : Place → Type 0
+  Enters next = (q : Query) (n m : ℕ) → nodeOf image next (suc n) m ≡ goAt (grammarOf image) q true (nodeOf image place n m) e
 
-  pub entered-head : (next : Place) → Entered next → a ≡ headOf (grammarOf image .form e) → a ≡ headOf (restOf image next)
+  pub entered-head : (next : Place) → Enters next → a ≡ headOf (grammarOf image .form e) → a ≡ headOf (restOf image next)
   unfolding nodeOf goAt
   entered-head next go first = first ∙ ap headOf (sym (ap (λ (n : Node). n .rest) (go q 0 0)))
 
@@ -102,7 +102,7 @@ module _ (image : List ℕ) (q : Query) (place : Place) (e a : ℕ) where
   unfolding seenAt
   seen-empty z n m h = rw z refl
 
-  module _ (letter : a ≡ 0 → ⊥) (next : Place) (go : Entered next) (b : Bool) (starts : (n m : ℕ) → m < 40 → b ≡ startsAt image q (nodeOf image next n m) a) where
+  module _ (letter : a ≡ 0 → ⊥) (next : Place) (go : Enters next) (b : Bool) (starts : (n m : ℕ) → m < 40 → b ≡ startsAt image q (nodeOf image next n m) a) where
     starts-is : (n m : ℕ) → m < 40 → startsAt image q (goAt (grammarOf image) q true (nodeOf image place n m) e) a ≡ b
     starts-is n m h = ap (λ (n : Node). startsAt image q n a) (sym (go q n m)) ∙ sym (starts (suc n) m h)
 
@@ -223,7 +223,7 @@ module _ (image : List ℕ) (q : Query) (place : Place) (trail : Trail) where
   -- what is seen of a letter at one entry is known for all that begin with it
   pub seen-barren : (e a r : ℕ) → a ≡ headOf (grammarOf image .form e) → ((n m : ℕ) → m < 40 → r ≡ seenAt image q (nodeOf image place n m) e a) → r ≡ 1 → Barren image q place trail a
   unfolding seenAt
-  seen-barren e a r first seen one low i y = nothing-found image q (opened (low + i)) a letter (opened-head a (low + i) y) (go (decLt (trail .pairs) 40)) (pred (room (nodeAt image place trail))) (grow true (readingOf trail) (low + i))
+  seen-barren e a r first seen one low i y = nothing-found image q (opened (low + i)) a letter (opened-head a (low + i) y) (go (decLt (trail .pairs) 40)) (pred (stepsFrom (nodeAt image place trail))) (grow true (readingOf trail) (low + i))
     where
       letter : a ≡ 0 → ⊥
       letter = one-out a (startsAt image q (goAt (grammarOf image) q true (nodeOf image place 0 0) e) a) (sym (seen 0 0 (omega arith)) ∙ one) .0

@@ -19,11 +19,11 @@ use Rattle.rules.proofs.Stepping.{start-states, start-live}
 use Rattle.rows.specs.declared.Trail.{Trail}
 use Rattle.rows.specs.Trail.{Holds}
 use Rattle.listing.specs.declared.place.Place.{Place}
-use Rattle.listing.specs.Gather.{gather, room}
+use Rattle.listing.specs.Gather.{gather, stepsFrom}
 use Rattle.listing.specs.Places.{nodeOf}
 use Rattle.listing.specs.Search.{nodeAt, foundAt}
 use Rattle.listing.proofs.Gather.{readings-gathered}
-use Rattle.search.specs.Here.{Ready}
+use Rattle.search.specs.Here.{Underway}
 
 -- the root, with these states
 abbrev pub root : List ℕ → Place
@@ -33,8 +33,8 @@ module _ (image index : List ℕ) (h : Header) (ok : Accepted image h) (indexed 
   here : Accepted image (header image)
   here = subst (Accepted image) (ok .laid .header-is) ok
 
-  pub start-ready : Ready image index h (root states) trail
-  start-ready = record {
+  pub start-underway : Underway image index h (root states) trail
+  start-underway = record {
     accepted = ok;
     indexed = indexed;
     stands = record {
@@ -62,9 +62,9 @@ module _ (image index : List ℕ) (h : Header) (ok : Accepted image h) (indexed 
     states = (ap (take (header image .rules)) ones ∙ start-states (header image .rules) (here .laid .limits .rules-most)) i;
   }
 
-  root-room : room (start (grammarOf image) (queryOf request)) ≡ 56
-  unfolding room start
-  root-room = refl
+  root-steps : stepsFrom (start (grammarOf image) (queryOf request)) ≡ 56
+  unfolding stepsFrom start
+  root-steps = refl
 
   pub start-found : foundAt image (queryOf request) (root states) trail ≡ allReadings image request
   unfolding foundAt allReadings
@@ -72,6 +72,6 @@ module _ (image index : List ℕ) (h : Header) (ok : Accepted image h) (indexed 
       let g = grammarOf image in
       let q = queryOf request in
       let e : nodeAt image (root states) trail ≡ start g q = ap₂ (nodeOf image (root states)) (holds .entries-are) (holds .pairs-are) ∙ root-node in
-      ap₂ (λ (n : Node) (r : Reading). gather g q (room n) n r) e (holds .reading)
-      ∙ ap (λ (k : ℕ). gather g q k (start g q) (record { path = []; pairing = [] })) root-room
+      ap₂ (λ (n : Node) (r : Reading). gather g q (stepsFrom n) n r) e (holds .reading)
+      ∙ ap (λ (k : ℕ). gather g q k (start g q) (record { path = []; pairing = [] })) root-steps
       ∙ sym (readings-gathered g q)

@@ -18,14 +18,14 @@ ghost use Rattle.rows.specs.Fill.{putAll};
 ghost use Rattle.listing.specs.Asked.{requestOf};
 ghost use Rattle.listing.specs.Places.{restOf, Standing};
 ghost use Rattle.listing.specs.Search.{nodeAt, headOf};
-ghost use Rattle.search.specs.Here.{opensAt, Ready};
+ghost use Rattle.search.specs.Here.{opensAt, Underway};
 use image::Header;
 use listing::asked::Direction;
 use listing::place::Place;
 use rows::Trail;
 
 // Whether an entry opens here: every letter is paired, and the path goes on.
-pub fn opens(place: Place) -> bool
+pub fn opens_at(place: Place) -> bool
     ensures { λ r. ⌜ r ≡ opensAt place ⌝ }
 {
     if place.from < place.to {
@@ -35,7 +35,7 @@ pub fn opens(place: Place) -> bool
 }
 
 // Puts the reading that ends here, where one does.
-pub fn finish(
+pub fn put_ended(
     image: &[u8],
     index: &[u8],
     h: Header,
@@ -46,7 +46,7 @@ pub fn finish(
     out: &mut [u8],
     found: usize,
 ) -> usize
-    requires { ⌜ Ready (now image) (now index) (headerOf h) place trail ⌝ }
+    requires { ⌜ Underway (now image) (now index) (headerOf h) place trail ⌝ }
     requires { ⌜ opensAt place ≡ false ⌝ }
     requires { ⌜ found ≤ rowCount (now out) ⌝ }
     ensures { λ r. ⌜ (now (out .exit), r) ≡ putAll (rowCount (now (out .entry))) (now (out .entry), found) (given (complete (grammarOf (now (image .entry))) (queryOf (requestOf d (now (asked .entry)))) (nodeAt (now (image .entry)) place trail)) (readingOf trail ∷ [])) ⌝ }

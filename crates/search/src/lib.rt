@@ -15,7 +15,7 @@ ghost use Rattle.image.specs.Index.{indexOf};
 ghost use Rattle.rows.specs.Fill.{putAll};
 ghost use Rattle.listing.specs.Asked.{requestOf};
 ghost use Rattle.listing.specs.Search.{foundAt};
-ghost use Rattle.search.specs.Here.{opensAt, Ready};
+ghost use Rattle.search.specs.Here.{opensAt, Underway};
 use image::Header;
 use listing::asked::Direction;
 use listing::level::Level;
@@ -36,7 +36,7 @@ pub fn open(
     capacity: usize,
     found: usize,
 ) -> usize
-    requires { ⌜ Ready (now image) (now index) (headerOf h) place trail ⌝ }
+    requires { ⌜ Underway (now image) (now index) (headerOf h) place trail ⌝ }
     requires { ⌜ opensAt place ≡ true ⌝ }
     requires { ⌜ (capacity ≡ rowCount (now out)) × (found ≤ capacity) ⌝ }
     ensures { λ r. ⌜ (now (out .exit), r) ≡ putAll (rowCount (now (out .entry))) (now (out .entry), found) (foundAt (now (image .entry)) (queryOf (requestOf d (now (asked .entry)))) place trail) ⌝ }
@@ -90,11 +90,11 @@ pub fn pair(
     capacity: usize,
     found: usize,
 ) -> usize
-    requires { ⌜ Ready (now image) (now index) (headerOf h) place trail ⌝ }
+    requires { ⌜ Underway (now image) (now index) (headerOf h) place trail ⌝ }
     requires { ⌜ (capacity ≡ rowCount (now out)) × (found ≤ capacity) ⌝ }
     ensures { λ r. ⌜ (now (out .exit), r) ≡ putAll (rowCount (now (out .entry))) (now (out .entry), found) (foundAt (now (image .entry)) (queryOf (requestOf d (now (asked .entry)))) place trail) ⌝ }
 {
-    if crate::here::opens(place) {
+    if crate::here::opens_at(place) {
         return open(
             image,
             index,
@@ -108,7 +108,7 @@ pub fn pair(
             found,
         );
     }
-    let ended = crate::here::finish(image, index, h, d, asked, place, trail, out, found);
+    let ended = crate::here::put_ended(image, index, h, d, asked, place, trail, out, found);
     if trail.pairs >= 40 {
         return ended;
     }

@@ -37,11 +37,11 @@ pub +open+pair-spec : {M : Type 1} → statement M
     (o.same-length-2 t)
     (o.returns-3 t))
     (λ t. pair-lts.spec (pair-claims t) (pair-at t) pair.Post pair-Inv-loop pair-μ-loop
-    (p.opens-requires t)
+    (p.opens-at-requires t)
     (p.open-requires t)
     (p.same-length t)
     (p.returns t)
-    (p.finish-requires t)
+    (p.put-ended-requires t)
     (p.same-length-2 t)
     (p.returns-2 t)
     (p.next-letter-requires t)

@@ -7,7 +7,7 @@ use Rattle.image.specs.Header.{headerOf}
 use Rattle.rows.specs.Fill.{putAll}
 use Rattle.listing.specs.Asked.{requestOf}
 use Rattle.search.specs.Here.{opensAt}
-use Rattle.search.proofs.Starting.{start-ready, start-found}
+use Rattle.search.proofs.Starting.{start-underway, start-found}
 use Rattle.search.proofs.search.Statement.{statement}
 use Rattle.search.proofs.search.Tie as tie
 
@@ -22,8 +22,8 @@ unfolding opensAt
 open-requires c κs =
     let s = c .before .before .before .before .before .before .before in
     let a = s .args in
-    let ready = start-ready (a .image .now) (a .index .now) (headerOf (a .h)) (s .pre .0) (s .pre .1) (requestOf (a .d) (a .asked .now)) (c .before .before .start-states .result) (c .before .before .start-states .ensures) (c .before .no-trail .result) (c .before .no-trail .ensures) in
-    (ready, (refl, (refl, omega arith)))
+    let underway = start-underway (a .image .now) (a .index .now) (headerOf (a .h)) (s .pre .0) (s .pre .1) (requestOf (a .d) (a .asked .now)) (c .before .before .start-states .result) (c .before .before .start-states .ensures) (c .before .no-trail .result) (c .before .no-trail .ensures) in
+    (underway, (refl, (refl, omega arith)))
 
 same-length : tie.Need-same-length
 same-length c = search needs

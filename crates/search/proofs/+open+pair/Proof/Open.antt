@@ -10,9 +10,9 @@ use Rattle.image.specs.Header.{headerOf}
 use Rattle.rows.proofs.Fill.{putAll-none}
 use Rattle.listing.specs.Asked.{requestOf}
 use Rattle.listing.proofs.Searching.{open-full}
-use Rattle.search.proofs.Passing.{passed-none, passed-more, passed-skip, passed-stop, passed-all, passed-is}
+use Rattle.search.proofs.Turns.{turns-none, turns-more, turns-skip, turns-stop, turns-all, turns-is}
 use Rattle.search.proofs.Standing.{opens-is}
-use Rattle.search.proofs.Heads.{onward-in, range-end, entry-few, open-found, open-ready, open-less, open-turn}
+use Rattle.search.proofs.Heads.{onward-in, range-end, entry-few, open-found, open-underway, open-less, open-turn}
 use Rattle.search.proofs.FirstLetters.{Known, seen-barren, known-none, known-more}
 use Rattle.search.proofs.open.Reads as «open»
 use Rattle.search.proofs.+open+pair.Lts-open as lts
@@ -39,14 +39,14 @@ module _ (t : ℕ) where
   open-range-requires c κs =
       let s = c .before .before .before .before .before .before in
       let a = s .args in
-      let ready = s .pre .1 .0 in
-      (ready .accepted, (ready .indexed, onward-in (a .image .now) (a .index .now) (headerOf (a .h)) (query s) (a .place) (a .trail) ready (s .pre .1 .1 .0)))
+      let underway = s .pre .1 .0 in
+      (underway .accepted, (underway .indexed, onward-in (a .image .now) (a .index .now) (headerOf (a .h)) (query s) (a .place) (a .trail) underway (s .pre .1 .1 .0)))
 
   pub sub-count : lts.Need-sub-count (claims t) (at t) open.Post Inv μ
   sub-count c = c .before .open-range .ensures .in-order
 
   pub loop-holds : lts.Need-loop-holds (claims t) (at t) open.Post Inv μ
-  loop-holds c = let a = start c .args in (search needs, (passed-none, known-none (a .image .now) (query (start c)) (a .place) (a .trail)))
+  loop-holds c = let a = start c .args in (search needs, (turns-none, known-none (a .image .now) (query (start c)) (a .place) (a .trail)))
 
   pub same-length : lts.Need-same-length (claims t) (at t) open.Post Inv μ
   same-length c = search needs
@@ -64,7 +64,7 @@ module _ (t : ℕ) where
       let s = start w in
       let a = s .args in
       rw (open-found (a .image .now) (a .index .now) (headerOf (a .h)) (query s) (a .place) (a .trail) (s .pre .1 .0) (w .before .before .if1 .left) (low w) (high w) (w .before .open-range .ensures) (s .pre .1 .1 .0))
-      (passed-stop (high w - low w) (c .before .before .loop .inv .1 .0) (c .before .before .loop .inv .0) (omega (arith, c .if2 .taken, s .pre .1 .1 .1 .0)))
+      (turns-stop (high w - low w) (c .before .before .loop .inv .1 .0) (c .before .before .loop .inv .0) (omega (arith, c .if2 .taken, s .pre .1 .1 .1 .0)))
 
   pub add-e : lts.Need-add-e (claims t) (at t) open.Post Inv μ
   add-e c =
@@ -96,8 +96,8 @@ module _ (t : ℕ) where
 
   pub look-requires : lts.Need-look-requires (claims t) (at t) open.Post Inv μ
   look-requires c κs =
-      let ready = start (c .before .before .before .before .before) .pre .1 .0 in
-      (ready .accepted, (ready .indexed, (ready .stands, (inside (c .before .before), c .before .first-letter .ensures))))
+      let underway = start (c .before .before .before .before .before) .pre .1 .0 in
+      (underway .accepted, (underway .indexed, (underway .stands, (inside (c .before .before), c .before .first-letter .ensures))))
 
   pub array-write-known : lts.Need-array-write-known (claims t) (at t) open.Post Inv μ
   array-write-known c = letter-few (c .before .before)
@@ -121,8 +121,8 @@ module _ (t : ℕ) where
 
   pub enter-requires : lts.Need-enter-requires (claims t) (at t) open.Post Inv μ
   enter-requires c κs =
-      let ready = start (c .before .before .before .before .before .before) .pre .1 .0 in
-      (ready .accepted, (ready .stands, inside (c .before .before .before)))
+      let underway = start (c .before .before .before .before .before .before) .pre .1 .0 in
+      (underway .accepted, (underway .stands, inside (c .before .before .before)))
 
   pub cast-with-entry : lts.Need-cast-with-entry (claims t) (at t) open.Post Inv μ
   cast-with-entry c =
@@ -144,9 +144,9 @@ module _ (t : ℕ) where
       let k = at .loop .k in
       let next = c .before .before .enter in
       let longer = c .before .with-entry in
-      let ready = open-ready (a .image .now) (a .index .now) (headerOf (a .h)) (query s) (a .place) (a .trail) (s .pre .1 .0) (w .before .before .if1 .left) (low w) (high w) (w .before .open-range .ensures) k (next .result) (longer .result) (longer .ensures) (next .ensures .1) in
+      let underway = open-underway (a .image .now) (a .index .now) (headerOf (a .h)) (query s) (a .place) (a .trail) (s .pre .1 .0) (w .before .before .if1 .left) (low w) (high w) (w .before .open-range .ensures) k (next .result) (longer .result) (longer .ensures) (next .ensures .1) in
       let less = open-less (a .image .now) (a .index .now) (headerOf (a .h)) (query s) (a .place) (a .trail) (s .pre .1 .0) (w .before .before .if1 .left) (low w) (high w) (w .before .open-range .ensures) k (next .result) (longer .result) (longer .ensures) in
-      (omega (arith, s .pre .0, less), (ready, (s .pre .1 .1 .1 .0 ∙ ap (λ (n : ℕ). n / 116) (sym (at .loop .inv .1 .0 .long)), c .before .before .before .before .before .before .if2 .left)))
+      (omega (arith, s .pre .0, less), (underway, (s .pre .1 .1 .1 .0 ∙ ap (λ (n : ℕ). n / 116) (sym (at .loop .inv .1 .0 .long)), c .before .before .before .before .before .before .if2 .left)))
 
   pub add-k : lts.Need-add-k (claims t) (at t) open.Post Inv μ
   add-k c = search needs
@@ -166,8 +166,8 @@ module _ (t : ℕ) where
         more,
         (
           ⊎-elim
-              (λ v. passed-is (passed-more _ (at .loop .inv .1 .0) (v .4 .kept .1 .1 .1 .1 .1 .1 .1 .0) (v .4 .ensures) (open-turn (a .image .now) (a .index .now) (headerOf (a .h)) (query s) (a .place) (a .trail) (s .pre .1 .0) (w .before .before .if1 .left) (low w) (high w) (w .before .open-range .ensures) (at .loop .k) (v .1 .result) (v .2 .result) (v .2 .ensures) (v .1 .ensures .0))) (v .7) (v .8))
-              (λ v. passed-is (passed-skip (at .loop .inv .1 .0) (looked joined .barren (first .first-letter .result) (v .0 .left) (low w) (at .loop .k) (sym (first .first-letter .ensures .0)))) (v .1) (v .2))
+              (λ v. turns-is (turns-more _ (at .loop .inv .1 .0) (v .4 .kept .1 .1 .1 .1 .1 .1 .1 .0) (v .4 .ensures) (open-turn (a .image .now) (a .index .now) (headerOf (a .h)) (query s) (a .place) (a .trail) (s .pre .1 .0) (w .before .before .if1 .left) (low w) (high w) (w .before .open-range .ensures) (at .loop .k) (v .1 .result) (v .2 .result) (v .2 .ensures) (v .1 .ensures .0))) (v .7) (v .8))
+              (λ v. turns-is (turns-skip (at .loop .inv .1 .0) (looked joined .barren (first .first-letter .result) (v .0 .left) (low w) (at .loop .k) (sym (first .first-letter .ensures .0)))) (v .1) (v .2))
               (c .if4 .came),
           looked joined,
         ),
@@ -182,4 +182,4 @@ module _ (t : ℕ) where
       let s = start w in
       let a = s .args in
       rw (open-found (a .image .now) (a .index .now) (headerOf (a .h)) (query s) (a .place) (a .trail) (s .pre .1 .0) (w .before .before .if1 .left) (low w) (high w) (w .before .open-range .ensures) (s .pre .1 .1 .0))
-      (passed-all (high w - low w) (c .before .loop .inv .1 .0) (omega (arith, c .loop-test .left, c .before .loop .inv .0)))
+      (turns-all (high w - low w) (c .before .loop .inv .1 .0) (omega (arith, c .loop-test .left, c .before .loop .inv .0)))

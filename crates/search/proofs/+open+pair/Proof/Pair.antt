@@ -14,9 +14,9 @@ use Rattle.listing.specs.Places.{restOf}
 use Rattle.listing.proofs.Searching.{pair-full}
 use Rattle.search.specs.Here.{opensAt}
 use Rattle.search.proofs.Candidates.{candidate-spells}
-use Rattle.search.proofs.Passing.{passed-none, passed-more, passed-skip, passed-stop, passed-all, passed-is}
+use Rattle.search.proofs.Turns.{turns-none, turns-more, turns-skip, turns-stop, turns-all, turns-is}
 use Rattle.search.proofs.Standing.{opens-is}
-use Rattle.search.proofs.Heads.{letter-in, pair-put, pair-none, pair-ready, pair-less, pair-turn}
+use Rattle.search.proofs.Heads.{letter-in, pair-put, pair-none, pair-underway, pair-less, pair-turn}
 use Rattle.search.proofs.pair.Reads as pair
 use Rattle.search.proofs.+open+pair.Lts-pair as lts
 use Rattle.search.proofs.+open+pair.Proof.Shared.{pair-at as at, pair-claims as claims, pair-Inv-loop as Inv, pair-μ-loop as μ}
@@ -39,13 +39,13 @@ module _ (t : ℕ) where
   abbrev query : lts.Start (claims t) (at t) pair.Post Inv μ → Query
   query s = queryOf (requestOf (s .args .d) (s .args .asked .now))
 
-  pub opens-requires : lts.Need-opens-requires (claims t) (at t) pair.Post Inv μ
-  opens-requires c κs = search needs
+  pub opens-at-requires : lts.Need-opens-at-requires (claims t) (at t) pair.Post Inv μ
+  opens-at-requires c κs = search needs
 
   pub open-requires : lts.Need-open-requires (claims t) (at t) pair.Post Inv μ
   open-requires c κs =
       let s = c .before .before .before .before .before .before .before in
-      (omega (arith, s .pre .0), (s .pre .1 .0, (sym (c .before .before .opens .ensures) ∙ c .before .if1 .taken, s .pre .1 .1)))
+      (omega (arith, s .pre .0), (s .pre .1 .0, (sym (c .before .before .opens-at .ensures) ∙ c .before .if1 .taken, s .pre .1 .1)))
 
   pub same-length : lts.Need-same-length (claims t) (at t) pair.Post Inv μ
   same-length c = search needs
@@ -53,24 +53,24 @@ module _ (t : ℕ) where
   pub returns : lts.Need-returns (claims t) (at t) pair.Post Inv μ
   returns c = c .before .before .«open» .ensures
 
-  pub finish-requires : lts.Need-finish-requires (claims t) (at t) pair.Post Inv μ
-  finish-requires c κs =
+  pub put-ended-requires : lts.Need-put-ended-requires (claims t) (at t) pair.Post Inv μ
+  put-ended-requires c κs =
       let s = c .before .before .before .before .before .before .before in
-      (s .pre .1 .0, (sym (c .before .before .opens .ensures) ∙ c .before .if1 .left, omega (arith, s .pre .1 .1)))
+      (s .pre .1 .0, (sym (c .before .before .opens-at .ensures) ∙ c .before .if1 .left, omega (arith, s .pre .1 .1)))
 
   pub same-length-2 : lts.Need-same-length-2 (claims t) (at t) pair.Post Inv μ
   same-length-2 c = search needs
 
   -- no entry opens
   shut : (w : Ended) → opensAt (first w .args .place) ≡ false
-  shut w = sym (w .before .before .before .before .before .before .opens .ensures) ∙ w .before .before .before .before .before .if1 .left
+  shut w = sym (w .before .before .before .before .before .before .opens-at .ensures) ∙ w .before .before .before .before .before .if1 .left
 
   pub returns-2 : lts.Need-returns-2 (claims t) (at t) pair.Post Inv μ
   returns-2 c =
       let w = c .before in
       let s = first w in
       let a = s .args in
-      rw (pair-full (a .image .now) (query s) (a .place) (a .trail) (opens-is (a .image .now) (a .place) (s .pre .1 .0 .stands) (a .trail .entries) (a .trail .pairs) ∙ shut w) (c .if2 .taken)) (w .before .before .before .finish .ensures)
+      rw (pair-full (a .image .now) (query s) (a .place) (a .trail) (opens-is (a .image .now) (a .place) (s .pre .1 .0 .stands) (a .trail .entries) (a .trail .pairs) ∙ shut w) (c .if2 .taken)) (w .before .before .before .put-ended .ensures)
 
   pub next-letter-requires : lts.Need-next-letter-requires (claims t) (at t) pair.Post Inv μ
   next-letter-requires c κs = first (c .before) .pre .1 .0 .stands
@@ -82,7 +82,7 @@ module _ (t : ℕ) where
       (s .pre .1 .0 .accepted, (s .pre .1 .0 .indexed, letter-in (a .image .now) (a .index .now) (headerOf (a .h)) (query s) (a .place) (a .trail) (s .pre .1 .0) (c .next-letter .result) (c .next-letter .ensures .1)))
 
   pub loop-holds : lts.Need-loop-holds (claims t) (at t) pair.Post Inv μ
-  loop-holds c = (search needs, passed-none)
+  loop-holds c = (search needs, turns-none)
 
   pub same-length-3 : lts.Need-same-length-3 (claims t) (at t) pair.Post Inv μ
   same-length-3 c = search needs
@@ -92,11 +92,11 @@ module _ (t : ℕ) where
       let w = c .before .before .before in
       let s = start w in
       let a = s .args in
-      let ended = w .before .before .before .before .before .before .finish in
+      let ended = w .before .before .before .before .before .before .put-ended in
       pair-put (a .image .now) (a .index .now) (headerOf (a .h)) (query s) (a .place) (a .trail) (s .pre .1 .0) (w .before .before .if2 .left) (w .before .next-letter .result) (w .before .next-letter .ensures .0) (shut (w .before .before .before)) (a .out .now) _ _ (a .found) _ _
       (ended .kept .1 .1 .1 .1 .1 .1 .1 .0)
       (ended .ensures)
-      (passed-stop (length (candidates (a .image .now) (w .before .next-letter .result))) (c .before .before .loop .inv .1) (omega (arith, c .before .before .loop .inv .0, w .candidate-count .ensures)) (omega (arith, c .if3 .taken, s .pre .1 .1 .0, ended .kept .1 .1 .1 .1 .1 .1 .1 .0)))
+      (turns-stop (length (candidates (a .image .now) (w .before .next-letter .result))) (c .before .before .loop .inv .1) (omega (arith, c .before .before .loop .inv .0, w .candidate-count .ensures)) (omega (arith, c .if3 .taken, s .pre .1 .1 .0, ended .kept .1 .1 .1 .1 .1 .1 .1 .0)))
 
   pub candidate-requires : lts.Need-candidate-requires (claims t) (at t) pair.Post Inv μ
   candidate-requires c κs =
@@ -144,8 +144,8 @@ module _ (t : ℕ) where
       let inside : k < length (candidates (a .image .now) (w .before .next-letter .result)) = omega (arith, c .before .before .before .before .before .before .before .loop-test .taken, w .candidate-count .ensures) in (
         omega (arith, s .pre .0, pair-less (a .image .now) (a .index .now) (headerOf (a .h)) (query s) (a .place) (a .trail) (s .pre .1 .0) (w .before .before .if2 .left) (w .before .next-letter .result) (w .before .next-letter .ensures .0) k inside (candidate .result) (candidate .ensures .0) (taken .result .may) (taken .result .place) (taken .ensures) (longer .result) (longer .ensures) (c .before .before .before .if4 .taken)),
         (
-          pair-ready (a .image .now) (a .index .now) (headerOf (a .h)) (query s) (a .place) (a .trail) (s .pre .1 .0) (w .before .before .if2 .left) (w .before .next-letter .result) (w .before .next-letter .ensures .0) k inside (candidate .result) (candidate .ensures .0) (taken .result .may) (taken .result .place) (taken .ensures) (longer .result) (longer .ensures) (c .before .before .before .if4 .taken),
-          (s .pre .1 .1 .0 ∙ ap (λ (n : ℕ). n / 116) (sym (at .loop .inv .1 .long ∙ w .before .before .before .before .before .before .finish .kept .1 .1 .1 .1 .1 .1 .1 .0)), c .before .before .before .before .before .before .if3 .left),
+          pair-underway (a .image .now) (a .index .now) (headerOf (a .h)) (query s) (a .place) (a .trail) (s .pre .1 .0) (w .before .before .if2 .left) (w .before .next-letter .result) (w .before .next-letter .ensures .0) k inside (candidate .result) (candidate .ensures .0) (taken .result .may) (taken .result .place) (taken .ensures) (longer .result) (longer .ensures) (c .before .before .before .if4 .taken),
+          (s .pre .1 .1 .0 ∙ ap (λ (n : ℕ). n / 116) (sym (at .loop .inv .1 .long ∙ w .before .before .before .before .before .before .put-ended .kept .1 .1 .1 .1 .1 .1 .1 .0)), c .before .before .before .before .before .before .if3 .left),
         ),
       )
 
@@ -167,8 +167,8 @@ module _ (t : ℕ) where
       let inside : k < length (candidates (a .image .now) (w .before .next-letter .result)) = omega (arith, c .before .before .before .before .loop-test .taken, w .candidate-count .ensures) in (
         omega (arith, c .before .before .before .before .loop-test .taken),
         ⊎-elim
-            (λ v. passed-is (passed-more _ (at .loop .inv .1) (v .4 .kept .1 .1 .1 .1 .1 .1 .1 .0) (v .4 .ensures) (pair-turn (a .image .now) (a .index .now) (headerOf (a .h)) (query s) (a .place) (a .trail) (s .pre .1 .0) (w .before .before .if2 .left) (w .before .next-letter .result) (w .before .next-letter .ensures .0) k inside (candidate .result) (candidate .ensures .0) (taken .result .may) (taken .result .place) (taken .ensures) (v .2 .result) (v .2 .ensures) (v .0 .taken))) (v .7) (v .8))
-            (λ v. passed-is (passed-skip (at .loop .inv .1) (pair-none (a .image .now) (a .index .now) (headerOf (a .h)) (query s) (a .place) (a .trail) (s .pre .1 .0) (w .before .before .if2 .left) (w .before .next-letter .result) (w .before .next-letter .ensures .0) k inside (candidate .result) (candidate .ensures .0) (taken .result .may) (taken .result .place) (taken .ensures) (v .0 .left))) (v .1) (v .2))
+            (λ v. turns-is (turns-more _ (at .loop .inv .1) (v .4 .kept .1 .1 .1 .1 .1 .1 .1 .0) (v .4 .ensures) (pair-turn (a .image .now) (a .index .now) (headerOf (a .h)) (query s) (a .place) (a .trail) (s .pre .1 .0) (w .before .before .if2 .left) (w .before .next-letter .result) (w .before .next-letter .ensures .0) k inside (candidate .result) (candidate .ensures .0) (taken .result .may) (taken .result .place) (taken .ensures) (v .2 .result) (v .2 .ensures) (v .0 .taken))) (v .7) (v .8))
+            (λ v. turns-is (turns-skip (at .loop .inv .1) (pair-none (a .image .now) (a .index .now) (headerOf (a .h)) (query s) (a .place) (a .trail) (s .pre .1 .0) (w .before .before .if2 .left) (w .before .next-letter .result) (w .before .next-letter .ensures .0) k inside (candidate .result) (candidate .ensures .0) (taken .result .may) (taken .result .place) (taken .ensures) (v .0 .left))) (v .1) (v .2))
             (c .if4 .came),
       )
 
@@ -180,8 +180,8 @@ module _ (t : ℕ) where
       let w = c .before .before in
       let s = start w in
       let a = s .args in
-      let ended = w .before .before .before .before .before .before .finish in
+      let ended = w .before .before .before .before .before .before .put-ended in
       pair-put (a .image .now) (a .index .now) (headerOf (a .h)) (query s) (a .place) (a .trail) (s .pre .1 .0) (w .before .before .if2 .left) (w .before .next-letter .result) (w .before .next-letter .ensures .0) (shut (w .before .before .before)) (a .out .now) _ _ (a .found) _ _
       (ended .kept .1 .1 .1 .1 .1 .1 .1 .0)
       (ended .ensures)
-      (passed-all (length (candidates (a .image .now) (w .before .next-letter .result))) (c .before .loop .inv .1) (omega (arith, c .loop-test .left, c .before .loop .inv .0, w .candidate-count .ensures)))
+      (turns-all (length (candidates (a .image .now) (w .before .next-letter .result))) (c .before .loop .inv .1) (omega (arith, c .loop-test .left, c .before .loop .inv .0, w .candidate-count .ensures)))
