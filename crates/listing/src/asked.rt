@@ -20,7 +20,7 @@ pub fn allows_letter(d: Direction, asked: &[u8], i: usize, x: Surface) -> bool
             if asked.len() <= i {
                 return false;
             }
-            asked[i] == x.0
+            letters::same_surface(letters::surface_at(asked, i), x)
         }
     }
 }

@@ -74,8 +74,7 @@ fn form_letter(image: &[u8], h: Header, e: usize, t: usize) -> Lexical
     requires { ⌜ (e < h .entries) × (t < formLength (entry (now image) e)) ⌝ }
     ensures { λ r. ⌜ r .0 ≡ getD (formOf (entry (now (image .entry)) e)) t 0 ⌝ }
 {
-    let at = lexicon::entry_start(h, e) + (1 + t);
-    Lexical(image[at])
+    letters::lexical_at(image, lexicon::entry_start(h, e) + (1 + t))
 }
 
 // Letter t of the joined forms of a path, or 0 after the last.

@@ -64,10 +64,11 @@ pub fn open(
         }
         let e = low + k;
         let letter = crate::starts::first_letter(image, h, e);
-        if known[letter] == 0 {
-            known[letter] = crate::starts::look(image, index, h, d, asked, place, e, letter);
+        let at = letter.0 as usize;
+        if known[at] == 0 {
+            known[at] = crate::starts::look(image, index, h, d, asked, place, e, letter);
         }
-        if known[letter] != 1 {
+        if known[at] != 1 {
             let next = listing::place::enter(image, h, place, e);
             let longer = rows::with_entry(trail, e as u16);
             n = pair(image, index, h, d, asked, next, longer, out, capacity, n);

@@ -23,6 +23,7 @@ pub +open+pair-spec : {M : Type 1} → statement M
     (o.returns-2 t)
     (o.add-e t)
     (o.first-letter-requires t)
+    (o.cast-at t)
     (o.array-read-if3 t)
     (o.look-requires t)
     (o.array-write-known t)

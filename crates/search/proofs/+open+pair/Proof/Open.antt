@@ -86,33 +86,36 @@ module _ (t : ℕ) where
 
   -- where the first letter of an entry is known
   abbrev First : Type 0
-  First = lts.After-first-letter (claims t) (at t) open.Post Inv μ
+  First = lts.After-struct-known3 (claims t) (at t) open.Post Inv μ
 
-  letter-few : (c : First) → c .first-letter .result < 128
-  letter-few c = omega (arith, c .first-letter .ensures .1, start (c .before .before .before .before) .pre .1 .0 .accepted .laid .limits .letters-most)
+  letter-few : (c : First) → c .before .first-letter .result .0 < 128
+  letter-few c = omega (arith, c .before .first-letter .ensures .1, start (c .before .before .before .before .before) .pre .1 .0 .accepted .laid .limits .letters-most)
+
+  pub cast-at : lts.Need-cast-at (claims t) (at t) open.Post Inv μ
+  cast-at c = search needs
 
   pub array-read-if3 : lts.Need-array-read-if3 (claims t) (at t) open.Post Inv μ
   array-read-if3 c = letter-few c
 
   pub look-requires : lts.Need-look-requires (claims t) (at t) open.Post Inv μ
   look-requires c κs =
-      let underway = start (c .before .before .before .before .before) .pre .1 .0 in
-      (underway .accepted, (underway .indexed, (underway .stands, (inside (c .before .before), c .before .first-letter .ensures))))
+      let underway = start (c .before .before .before .before .before .before) .pre .1 .0 in
+      (underway .accepted, (underway .indexed, (underway .stands, (inside (c .before .before .before), c .before .before .first-letter .ensures))))
 
   pub array-write-known : lts.Need-array-write-known (claims t) (at t) open.Post Inv μ
   array-write-known c = letter-few (c .before .before)
 
   -- what is known of its first letter after it is looked at
-  looked : (c : lts.Joined3 (claims t) (at t) open.Post Inv μ) → let s = start (c .before .before .before .before .before) in Known (s .args .image .now) (query s) (s .args .place) (s .args .trail) (c .if3 .known)
+  looked : (c : lts.Joined3 (claims t) (at t) open.Post Inv μ) → let s = start (c .before .before .before .before .before .before) in Known (s .args .image .now) (query s) (s .args .place) (s .args .trail) (c .if3 .known)
   looked c =
       let first = c .before in
-      let at = first .before .before .before in
+      let at = first .before .before .before .before in
       let w = at .before in
       let s = start w in
       let a = s .args in
-      let letter = first .first-letter .result in
+      let letter = first .before .first-letter .result .0 in
       ⊎-elim
-      (λ v. subst (Known (a .image .now) (query s) (a .place) (a .trail)) (sym (v .2)) (known-more (a .image .now) (query s) (a .place) (a .trail) (at .loop .known) letter (v .1 .result) (at .loop .inv .1 .1) (letter-few first) (seen-barren (a .image .now) (query s) (a .place) (a .trail) (low w + at .loop .k) letter (v .1 .result) (first .first-letter .ensures .0) (v .1 .ensures))))
+      (λ v. subst (Known (a .image .now) (query s) (a .place) (a .trail)) (sym (v .2)) (known-more (a .image .now) (query s) (a .place) (a .trail) (at .loop .known) letter (v .1 .result) (at .loop .inv .1 .1) (letter-few first) (seen-barren (a .image .now) (query s) (a .place) (a .trail) (low w + at .loop .k) letter (v .1 .result) (first .before .first-letter .ensures .0) (v .1 .ensures))))
       (λ v. subst (Known (a .image .now) (query s) (a .place) (a .trail)) (sym (v .1)) (at .loop .inv .1 .1))
       (c .if3 .came)
 
@@ -121,23 +124,23 @@ module _ (t : ℕ) where
 
   pub enter-requires : lts.Need-enter-requires (claims t) (at t) open.Post Inv μ
   enter-requires c κs =
-      let underway = start (c .before .before .before .before .before .before) .pre .1 .0 in
-      (underway .accepted, (underway .stands, inside (c .before .before .before)))
+      let underway = start (c .before .before .before .before .before .before .before) .pre .1 .0 in
+      (underway .accepted, (underway .stands, inside (c .before .before .before .before)))
 
   pub cast-with-entry : lts.Need-cast-with-entry (claims t) (at t) open.Post Inv μ
   cast-with-entry c =
-      let at = c .before .before .before .before .before .before in
+      let at = c .before .before .before .before .before .before .before in
       let w = at .before in
       let s = start w in
       let a = s .args in
-      omega (arith, entry-few (a .image .now) (a .index .now) (headerOf (a .h)) (query s) (a .place) (a .trail) (s .pre .1 .0) (w .before .before .if1 .left) (low w) (high w) (w .before .open-range .ensures) (at .loop .k) (c .before .before .before .before .before .loop-test .taken))
+      omega (arith, entry-few (a .image .now) (a .index .now) (headerOf (a .h)) (query s) (a .place) (a .trail) (s .pre .1 .0) (w .before .before .if1 .left) (low w) (high w) (w .before .open-range .ensures) (at .loop .k) (c .before .before .before .before .before .before .loop-test .taken))
 
   pub with-entry-requires : lts.Need-with-entry-requires (claims t) (at t) open.Post Inv μ
-  with-entry-requires c κs = let w = c .before .before .before .before .before .before .before in (start w .pre .1 .0 .short, w .before .before .if1 .left)
+  with-entry-requires c κs = let w = c .before .before .before .before .before .before .before .before in (start w .pre .1 .0 .short, w .before .before .if1 .left)
 
   pub pair-requires : lts.Need-pair-requires (claims t) (at t) open.Post Inv μ
   pair-requires c κs =
-      let at = c .before .before .before .before .before .before .before .before in
+      let at = c .before .before .before .before .before .before .before .before .before in
       let w = at .before in
       let s = start w in
       let a = s .args in
@@ -146,7 +149,7 @@ module _ (t : ℕ) where
       let longer = c .before .with-entry in
       let underway = open-underway (a .image .now) (a .index .now) (headerOf (a .h)) (query s) (a .place) (a .trail) (s .pre .1 .0) (w .before .before .if1 .left) (low w) (high w) (w .before .open-range .ensures) k (next .result) (longer .result) (longer .ensures) (next .ensures .1) in
       let less = open-less (a .image .now) (a .index .now) (headerOf (a .h)) (query s) (a .place) (a .trail) (s .pre .1 .0) (w .before .before .if1 .left) (low w) (high w) (w .before .open-range .ensures) k (next .result) (longer .result) (longer .ensures) in
-      (omega (arith, s .pre .0, less), (underway, (s .pre .1 .1 .1 .0 ∙ ap (λ (n : ℕ). n / 116) (sym (at .loop .inv .1 .0 .long)), c .before .before .before .before .before .before .if2 .left)))
+      (omega (arith, s .pre .0, less), (underway, (s .pre .1 .1 .1 .0 ∙ ap (λ (n : ℕ). n / 116) (sym (at .loop .inv .1 .0 .long)), c .before .before .before .before .before .before .before .if2 .left)))
 
   pub add-k : lts.Need-add-k (claims t) (at t) open.Post Inv μ
   add-k c = search needs
@@ -158,16 +161,16 @@ module _ (t : ℕ) where
   loop-again c =
       let joined = c .before in
       let first = joined .before in
-      let at = first .before .before .before in
+      let at = first .before .before .before .before in
       let w = at .before in
       let s = start w in
       let a = s .args in
-      let more : at .loop .k + 1 ≤ high w - low w = omega (arith, first .before .before .loop-test .taken) in (
+      let more : at .loop .k + 1 ≤ high w - low w = omega (arith, first .before .before .before .loop-test .taken) in (
         more,
         (
           ⊎-elim
               (λ v. turns-is (turns-more _ (at .loop .inv .1 .0) (v .4 .kept .1 .1 .1 .1 .1 .1 .1 .0) (v .4 .ensures) (open-turn (a .image .now) (a .index .now) (headerOf (a .h)) (query s) (a .place) (a .trail) (s .pre .1 .0) (w .before .before .if1 .left) (low w) (high w) (w .before .open-range .ensures) (at .loop .k) (v .1 .result) (v .2 .result) (v .2 .ensures) (v .1 .ensures .0))) (v .7) (v .8))
-              (λ v. turns-is (turns-skip (at .loop .inv .1 .0) (looked joined .barren (first .first-letter .result) (v .0 .left) (low w) (at .loop .k) (sym (first .first-letter .ensures .0)))) (v .1) (v .2))
+              (λ v. turns-is (turns-skip (at .loop .inv .1 .0) (looked joined .barren (first .before .first-letter .result .0) (v .0 .left) (low w) (at .loop .k) (sym (first .before .first-letter .ensures .0)))) (v .1) (v .2))
               (c .if4 .came),
           looked joined,
         ),

@@ -79,7 +79,7 @@ module _ (t : ℕ) where
   candidate-count-requires c κs =
       let s = first (c .before .before) in
       let a = s .args in
-      (s .pre .1 .0 .accepted, (s .pre .1 .0 .indexed, letter-in (a .image .now) (a .index .now) (headerOf (a .h)) (query s) (a .place) (a .trail) (s .pre .1 .0) (c .next-letter .result) (c .next-letter .ensures .1)))
+      (s .pre .1 .0 .accepted, (s .pre .1 .0 .indexed, letter-in (a .image .now) (a .index .now) (headerOf (a .h)) (query s) (a .place) (a .trail) (s .pre .1 .0) (c .next-letter .result .0) (c .next-letter .ensures .1)))
 
   pub loop-holds : lts.Need-loop-holds (claims t) (at t) pair.Post Inv μ
   loop-holds c = (search needs, turns-none)
@@ -93,17 +93,17 @@ module _ (t : ℕ) where
       let s = start w in
       let a = s .args in
       let ended = w .before .before .before .before .before .before .put-ended in
-      pair-put (a .image .now) (a .index .now) (headerOf (a .h)) (query s) (a .place) (a .trail) (s .pre .1 .0) (w .before .before .if2 .left) (w .before .next-letter .result) (w .before .next-letter .ensures .0) (shut (w .before .before .before)) (a .out .now) _ _ (a .found) _ _
+      pair-put (a .image .now) (a .index .now) (headerOf (a .h)) (query s) (a .place) (a .trail) (s .pre .1 .0) (w .before .before .if2 .left) (w .before .next-letter .result .0) (w .before .next-letter .ensures .0) (shut (w .before .before .before)) (a .out .now) _ _ (a .found) _ _
       (ended .kept .1 .1 .1 .1 .1 .1 .1 .0)
       (ended .ensures)
-      (turns-stop (length (candidates (a .image .now) (w .before .next-letter .result))) (c .before .before .loop .inv .1) (omega (arith, c .before .before .loop .inv .0, w .candidate-count .ensures)) (omega (arith, c .if3 .taken, s .pre .1 .1 .0, ended .kept .1 .1 .1 .1 .1 .1 .1 .0)))
+      (turns-stop (length (candidates (a .image .now) (w .before .next-letter .result .0))) (c .before .before .loop .inv .1) (omega (arith, c .before .before .loop .inv .0, w .candidate-count .ensures)) (omega (arith, c .if3 .taken, s .pre .1 .1 .0, ended .kept .1 .1 .1 .1 .1 .1 .1 .0)))
 
   pub candidate-requires : lts.Need-candidate-requires (claims t) (at t) pair.Post Inv μ
   candidate-requires c κs =
       let w = c .before .before .before in
       let s = start w in
       let a = s .args in
-      (s .pre .1 .0 .accepted, (s .pre .1 .0 .indexed, (letter-in (a .image .now) (a .index .now) (headerOf (a .h)) (query s) (a .place) (a .trail) (s .pre .1 .0) (w .before .next-letter .result) (w .before .next-letter .ensures .1), omega (arith, c .before .loop-test .taken, w .candidate-count .ensures))))
+      (s .pre .1 .0 .accepted, (s .pre .1 .0 .indexed, (letter-in (a .image .now) (a .index .now) (headerOf (a .h)) (query s) (a .place) (a .trail) (s .pre .1 .0) (w .before .next-letter .result .0) (w .before .next-letter .ensures .1), omega (arith, c .before .loop-test .taken, w .candidate-count .ensures))))
 
   pub take-requires : lts.Need-take-requires (claims t) (at t) pair.Post Inv μ
   take-requires c κs =
@@ -117,7 +117,7 @@ module _ (t : ℕ) where
             s .pre .1 .0 .stands,
             (
               c .candidate .ensures .1,
-              candidate-spells (a .image .now) (restOf (a .image .now) (a .place)) (w .before .next-letter .result) (w .before .next-letter .ensures .0) (c .before .before .before .loop .k) (omega (arith, c .before .before .loop-test .taken, w .candidate-count .ensures)) (c .candidate .result) (c .candidate .ensures .0),
+              candidate-spells (a .image .now) (restOf (a .image .now) (a .place)) (w .before .next-letter .result .0) (w .before .next-letter .ensures .0) (c .before .before .before .loop .k) (omega (arith, c .before .before .loop-test .taken, w .candidate-count .ensures)) (c .candidate .result) (c .candidate .ensures .0),
             ),
           ),
         ),
@@ -141,10 +141,10 @@ module _ (t : ℕ) where
       let candidate = c .before .before .before .before .before .candidate in
       let taken = c .before .before .before .before .take in
       let longer = c .before .with-pair in
-      let inside : k < length (candidates (a .image .now) (w .before .next-letter .result)) = omega (arith, c .before .before .before .before .before .before .before .loop-test .taken, w .candidate-count .ensures) in (
-        omega (arith, s .pre .0, pair-less (a .image .now) (a .index .now) (headerOf (a .h)) (query s) (a .place) (a .trail) (s .pre .1 .0) (w .before .before .if2 .left) (w .before .next-letter .result) (w .before .next-letter .ensures .0) k inside (candidate .result) (candidate .ensures .0) (taken .result .may) (taken .result .place) (taken .ensures) (longer .result) (longer .ensures) (c .before .before .before .if4 .taken)),
+      let inside : k < length (candidates (a .image .now) (w .before .next-letter .result .0)) = omega (arith, c .before .before .before .before .before .before .before .loop-test .taken, w .candidate-count .ensures) in (
+        omega (arith, s .pre .0, pair-less (a .image .now) (a .index .now) (headerOf (a .h)) (query s) (a .place) (a .trail) (s .pre .1 .0) (w .before .before .if2 .left) (w .before .next-letter .result .0) (w .before .next-letter .ensures .0) k inside (candidate .result) (candidate .ensures .0) (taken .result .may) (taken .result .place) (taken .ensures) (longer .result) (longer .ensures) (c .before .before .before .if4 .taken)),
         (
-          pair-underway (a .image .now) (a .index .now) (headerOf (a .h)) (query s) (a .place) (a .trail) (s .pre .1 .0) (w .before .before .if2 .left) (w .before .next-letter .result) (w .before .next-letter .ensures .0) k inside (candidate .result) (candidate .ensures .0) (taken .result .may) (taken .result .place) (taken .ensures) (longer .result) (longer .ensures) (c .before .before .before .if4 .taken),
+          pair-underway (a .image .now) (a .index .now) (headerOf (a .h)) (query s) (a .place) (a .trail) (s .pre .1 .0) (w .before .before .if2 .left) (w .before .next-letter .result .0) (w .before .next-letter .ensures .0) k inside (candidate .result) (candidate .ensures .0) (taken .result .may) (taken .result .place) (taken .ensures) (longer .result) (longer .ensures) (c .before .before .before .if4 .taken),
           (s .pre .1 .1 .0 ∙ ap (λ (n : ℕ). n / 116) (sym (at .loop .inv .1 .long ∙ w .before .before .before .before .before .before .put-ended .kept .1 .1 .1 .1 .1 .1 .1 .0)), c .before .before .before .before .before .before .if3 .left),
         ),
       )
@@ -164,11 +164,11 @@ module _ (t : ℕ) where
       let k = at .loop .k in
       let candidate = c .before .before .candidate in
       let taken = c .before .take in
-      let inside : k < length (candidates (a .image .now) (w .before .next-letter .result)) = omega (arith, c .before .before .before .before .loop-test .taken, w .candidate-count .ensures) in (
+      let inside : k < length (candidates (a .image .now) (w .before .next-letter .result .0)) = omega (arith, c .before .before .before .before .loop-test .taken, w .candidate-count .ensures) in (
         omega (arith, c .before .before .before .before .loop-test .taken),
         ⊎-elim
-            (λ v. turns-is (turns-more _ (at .loop .inv .1) (v .4 .kept .1 .1 .1 .1 .1 .1 .1 .0) (v .4 .ensures) (pair-turn (a .image .now) (a .index .now) (headerOf (a .h)) (query s) (a .place) (a .trail) (s .pre .1 .0) (w .before .before .if2 .left) (w .before .next-letter .result) (w .before .next-letter .ensures .0) k inside (candidate .result) (candidate .ensures .0) (taken .result .may) (taken .result .place) (taken .ensures) (v .2 .result) (v .2 .ensures) (v .0 .taken))) (v .7) (v .8))
-            (λ v. turns-is (turns-skip (at .loop .inv .1) (pair-none (a .image .now) (a .index .now) (headerOf (a .h)) (query s) (a .place) (a .trail) (s .pre .1 .0) (w .before .before .if2 .left) (w .before .next-letter .result) (w .before .next-letter .ensures .0) k inside (candidate .result) (candidate .ensures .0) (taken .result .may) (taken .result .place) (taken .ensures) (v .0 .left))) (v .1) (v .2))
+            (λ v. turns-is (turns-more _ (at .loop .inv .1) (v .4 .kept .1 .1 .1 .1 .1 .1 .1 .0) (v .4 .ensures) (pair-turn (a .image .now) (a .index .now) (headerOf (a .h)) (query s) (a .place) (a .trail) (s .pre .1 .0) (w .before .before .if2 .left) (w .before .next-letter .result .0) (w .before .next-letter .ensures .0) k inside (candidate .result) (candidate .ensures .0) (taken .result .may) (taken .result .place) (taken .ensures) (v .2 .result) (v .2 .ensures) (v .0 .taken))) (v .7) (v .8))
+            (λ v. turns-is (turns-skip (at .loop .inv .1) (pair-none (a .image .now) (a .index .now) (headerOf (a .h)) (query s) (a .place) (a .trail) (s .pre .1 .0) (w .before .before .if2 .left) (w .before .next-letter .result .0) (w .before .next-letter .ensures .0) k inside (candidate .result) (candidate .ensures .0) (taken .result .may) (taken .result .place) (taken .ensures) (v .0 .left))) (v .1) (v .2))
             (c .if4 .came),
       )
 
@@ -181,7 +181,7 @@ module _ (t : ℕ) where
       let s = start w in
       let a = s .args in
       let ended = w .before .before .before .before .before .before .put-ended in
-      pair-put (a .image .now) (a .index .now) (headerOf (a .h)) (query s) (a .place) (a .trail) (s .pre .1 .0) (w .before .before .if2 .left) (w .before .next-letter .result) (w .before .next-letter .ensures .0) (shut (w .before .before .before)) (a .out .now) _ _ (a .found) _ _
+      pair-put (a .image .now) (a .index .now) (headerOf (a .h)) (query s) (a .place) (a .trail) (s .pre .1 .0) (w .before .before .if2 .left) (w .before .next-letter .result .0) (w .before .next-letter .ensures .0) (shut (w .before .before .before)) (a .out .now) _ _ (a .found) _ _
       (ended .kept .1 .1 .1 .1 .1 .1 .1 .0)
       (ended .ensures)
-      (turns-all (length (candidates (a .image .now) (w .before .next-letter .result))) (c .before .loop .inv .1) (omega (arith, c .loop-test .left, c .before .loop .inv .0, w .candidate-count .ensures)))
+      (turns-all (length (candidates (a .image .now) (w .before .next-letter .result .0))) (c .before .loop .inv .1) (omega (arith, c .loop-test .left, c .before .loop .inv .0, w .candidate-count .ensures)))

@@ -92,7 +92,7 @@ open-μ-loop image index h d asked place trail out₀ capacity found low count k
 
 abbrev pub pair-Inv-loop : pair-lts.InvT-loop
 pair-Inv-loop image index h d asked place trail out₀ capacity found ended letter many n₀ k₀ out n k =
-    (k ≤ many) × TurnsPut (candidateOne image (queryOf (requestOf d asked)) place trail letter) out₀ ended out n k
+    (k ≤ many) × TurnsPut (candidateOne image (queryOf (requestOf d asked)) place trail (letter .0)) out₀ ended out n k
 
 abbrev pub pair-μ-loop : pair-lts.MeasureT-loop
 pair-μ-loop image index h d asked place trail out₀ capacity found ended letter many n₀ k₀ out n k = many - k
