@@ -1,5 +1,5 @@
 -- Pairings as the code reads them, pair by pair: the letters and nulls of one level, given by the side of each pair, and the rules' states.
-use Prim.Native.Nat.{ℕ, zero, suc, _+_, _-_, _<_, _≤_}
+use Prim.Native.Nat.{ℕ, zero, suc, _+_, _<_, _≤_}
 use native.Mathlib.Omega.{arith}
 use native.Mathlib.Decide.{decLt}
 use mathlib.Core.Bool.{Bool, true, false, _&&_}

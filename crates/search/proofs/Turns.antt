@@ -1,10 +1,10 @@
 -- A loop that puts what f 0, f 1, .. find into a buffer, one after the other: what holds when k of them are passed.
-use Prim.Native.Nat.{ℕ, zero, suc, _+_, _<_, _≤_}
+use Prim.Native.Nat.{ℕ, zero, suc, _+_, _/_, _<_, _≤_}
 use native.Mathlib.Nat.{eq-or-lt-of-le}
 use native.Mathlib.Numerals.{add-one}
 use native.Mathlib.Omega.{arith}
 use mathlib.Core.Logic.{⊎-elim}
-use mathlib.Core.Path.{_≡_, refl, sym, _∙_}
+use mathlib.Core.Path.{_≡_, refl, sym, ap, _∙_}
 use mathlib.Core.List.{List, []}
 use lib.ListN.{length}
 use Rattle.model.specs.Lists.{below, flatMap}
@@ -52,3 +52,7 @@ module _ {f : ℕ → List Reading} {out₀ : List ℕ} {n₀ : ℕ} where
 
   pub turns-is : {out out′ : List ℕ} {n n′ k : ℕ} → TurnsPut f out₀ n₀ out n k → out′ ≡ out → n′ ≡ n → TurnsPut f out₀ n₀ out′ n′ k
   turns-is p e1 e2 = rw (e1, e2) p
+
+  -- the buffer keeps its rows
+  pub turns-rows : {out : List ℕ} {n k : ℕ} → TurnsPut f out₀ n₀ out n k → rowCount out₀ ≡ rowCount out
+  turns-rows p = ap (λ (l : ℕ). l / 116) (sym (p .long))

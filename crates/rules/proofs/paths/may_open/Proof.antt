@@ -1,6 +1,6 @@
 -- `may_open` meets its contract: not after the end of a path, and from the first entry of the lexicon up to its last.
 use native.Mathlib.Omega.{arith}
-use mathlib.Core.Logic.{_⊎_, ⊎-elim}
+use mathlib.Core.Logic.{⊎-elim}
 use mathlib.Core.Path.{sym}
 use Prim.Native.Nat.{_<_}
 use Rattle.rules.proofs.PathLaws.{may-open-nowhere, may-open-before, may-open-after, may-open-inside}

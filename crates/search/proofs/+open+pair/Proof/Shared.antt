@@ -1,6 +1,6 @@
 -- What the two members of the cycle share: the measures, what each is given at the measure t and what a call of it asks below t, the invariants.
 use Prim.Native.Nat.{ℕ, _<_, _≤_, _+_, _*_, _-_}
-use borrow.Fn.Kinds.{In}
+use borrow.Fn.Kinds.{In, Out}
 use borrow.Fn.PlainCycle.{Measures, is, falls, and}
 use Rattle.model.specs.Query.{queryOf}
 use Rattle.listing.specs.Asked.{requestOf}
@@ -96,3 +96,10 @@ pair-Inv-loop image index h d asked place trail out₀ capacity found ended lett
 
 abbrev pub pair-μ-loop : pair-lts.MeasureT-loop
 pair-μ-loop image index h d asked place trail out₀ capacity found ended letter many n₀ k₀ out n k = many - k
+
+-- a need of either, or a place of its code, at the measure t. Where a need takes `.kept .1 .1 .1 .1 .1 .1 .1 .0` of a call, that is: the buffer keeps its length
+abbrev pub OfOpen : ℕ → (open-lts.Claims → In 4 open-kinds.ps → Out 4 open-kinds.ps open-kinds.r → open-lts.InvT-loop → open-lts.MeasureT-loop → Type 0) → Type 0
+OfOpen t f = f (open-claims t) (open-at t) open.Post open-Inv-loop open-μ-loop
+
+abbrev pub OfPair : ℕ → (pair-lts.Claims → In 4 pair-kinds.ps → Out 4 pair-kinds.ps pair-kinds.r → pair-lts.InvT-loop → pair-lts.MeasureT-loop → Type 0) → Type 0
+OfPair t f = f (pair-claims t) (pair-at t) pair.Post pair-Inv-loop pair-μ-loop
