@@ -17,7 +17,7 @@ use Rattle.listing.specs.Search.{headOf}
 use Rattle.listing.proofs.Loops.{only-passes}
 use Rattle.listing.proofs.Searching.{spells-so}
 
-module _ (image index : List ℕ) (h : Header) (ok : Accepted image h) (indexed : index ≡ indexOf image) (a : ℕ) (letter : a ≤ h .letters) where
+module _ {image index : List ℕ} {h : Header} {a : ℕ} (ok : Accepted image h) (indexed : index ≡ indexOf image) (letter : a ≤ h .letters) where
   here : Accepted image (header image)
   here = subst (Accepted image) (ok .laid .header-is) ok
 
@@ -36,7 +36,7 @@ module _ (image index : List ℕ) (h : Header) (ok : Accepted image h) (indexed 
   pub count-is : byte index (256 * (32 + a)) ≡ length (candidates image a)
   count-is = ap (λ (l : List ℕ). byte l (256 * (32 + a))) indexed ∙ candidate-count here a (omega (arith, letters-are))
 
-  module _ (k : ℕ) (inside : k < length (candidates image a)) where
+  module _ {k : ℕ} (inside : k < length (candidates image a)) where
     pub pair-few : k < 250
     pair-few = omega (arith, candidates-most image a, pairs-are, ok .laid .limits .pairs-most)
 

@@ -1,5 +1,5 @@
 -- The needs of `pair`. At its loop's head a `Pairing` is known; each turn tries a candidate of the next letter, and puts what it finds where it is taken.
-use Prim.Native.Nat.{ℕ, _<_, _-_, _/_}
+use Prim.Native.Nat.{ℕ, _<_, _/_}
 use native.Mathlib.Omega.{arith}
 use borrow.Author.Needs.{needs}
 use mathlib.Core.Bool.{false}
