@@ -20,7 +20,8 @@ pub fn allows_letter(d: Direction, asked: &[u8], i: usize, x: Surface) -> bool
             if asked.len() <= i {
                 return false;
             }
-            letters::same_surface(letters::surface_at(asked, i), x)
+            let own = letters::surface_at(asked, i);
+            letters::same_surface(own, x)
         }
     }
 }
