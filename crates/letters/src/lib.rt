@@ -2,9 +2,9 @@
 ghost use mathlib.Core.Path.{_≡_};
 ghost use mathlib.Core.Bool.{_||_, not};
 ghost use Prim.Native.Nat.{_+_, _<_};
-ghost use lib.ListN.{getD, drop};
+ghost use lib.ListN.{length, getD, drop};
 ghost use lib.Dec.{eqb};
-ghost use Rattle.model.specs.Lists.{every, any, distinct, within, isZero};
+ghost use Rattle.model.specs.Lists.{byte, every, any, distinct, within, isZero};
 ghost use Rattle.model.specs.Blocks.{header};
 ghost use Rattle.model.specs.RuleTables.{codePoints, isCodePoint, pairs, boundaryPair, isPair, sameSides};
 ghost use Rattle.model.specs.Refusals.{rightLetters, rightPairs};
@@ -18,6 +18,21 @@ pub struct Lexical(pub u8);
 
 // A letter of the surface level: with the same number as a lexical letter, it is still another.
 pub struct Surface(pub u8);
+
+// A byte of an image or of a word as a letter of its level.
+pub fn lexical_at(bytes: &[u8], at: usize) -> Lexical
+    requires { ⌜ at < length (now bytes) ⌝ }
+    ensures { λ r. ⌜ r .0 ≡ byte (now (bytes .entry)) at ⌝ }
+{
+    Lexical(bytes[at])
+}
+
+pub fn surface_at(bytes: &[u8], at: usize) -> Surface
+    requires { ⌜ at < length (now bytes) ⌝ }
+    ensures { λ r. ⌜ r .0 ≡ byte (now (bytes .entry)) at ⌝ }
+{
+    Surface(bytes[at])
+}
 
 // The code point of letter i + 1: the list begins with letter 1.
 fn code_point(image: &[u8], i: usize) -> usize
@@ -102,8 +117,7 @@ pub fn lexical_side(image: &[u8], p: usize) -> Lexical
     requires { ⌜ Laid (now image) (header (now image)) × (p < header (now image) .pairs) ⌝ }
     ensures { λ r. ⌜ r .0 ≡ getD (pairs (now (image .entry))) p boundaryPair .lexical ⌝ }
 {
-    let at = 1028 + 2 * p;
-    Lexical(image[at])
+    lexical_at(image, 1028 + 2 * p)
 }
 
 // The surface side of pair p.
@@ -111,8 +125,7 @@ pub fn surface_side(image: &[u8], p: usize) -> Surface
     requires { ⌜ Laid (now image) (header (now image)) × (p < header (now image) .pairs) ⌝ }
     ensures { λ r. ⌜ r .0 ≡ getD (pairs (now (image .entry))) p boundaryPair .surface ⌝ }
 {
-    let at = 1029 + 2 * p;
-    Surface(image[at])
+    surface_at(image, 1029 + 2 * p)
 }
 
 // Letters are compared within a level only.

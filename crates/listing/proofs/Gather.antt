@@ -1,5 +1,5 @@
 -- What the code gathers is the list of all readings; and what is gathered from a node, by whether an entry opens there.
-use Prim.Native.Nat.{ℕ, zero, suc, _+_, _-_, _<_}
+use Prim.Native.Nat.{ℕ, zero, suc, _+_, _<_}
 use native.Mathlib.Omega.{arith}
 use mathlib.Core.Bool.{Bool, true, false, _&&_, not, true≢false}
 use mathlib.Core.Path.{_≡_, refl, sym, ap, ap₂, _∙_, subst}
@@ -12,7 +12,7 @@ use Rattle.model.specs.Walk.{walk}
 use Rattle.model.specs.Tree.{Node, opens, isNil, countAt, mayAt, goAt, complete, tree, put, readingAt, start, readings}
 use Rattle.model.proofs.Lists.{map-append, map-same}
 use Rattle.model.proofs.Parts.{flatMap-same}
-use Rattle.listing.specs.Gather.{grow, gather, room}
+use Rattle.listing.specs.Gather.{grow, gather, stepsFrom}
 
 -- maps and joins together
 module _ {A B C : Type 0} where
@@ -107,10 +107,10 @@ module _ (g : Grammar) (q : Query) where
   gather-pair k n r o = subst (λ (b : Bool). given (complete g q n) (r ∷ []) ++ flatMap (branch k n r b) (below (countAt g q b n)) ≡ given (complete g q n) (r ∷ []) ++ flatMap (branch k n r false) (below (g .pairs))) (sym o) refl
 
   -- a step takes a place
-  pub room-enter : (n : Node) (e : ℕ) → n .entries < 16 → room n ≡ suc (room (goAt g q true n e))
-  unfolding room goAt
-  room-enter n e h = omega arith
+  pub stepsFrom-enter : (n : Node) (e : ℕ) → n .entries < 16 → stepsFrom n ≡ suc (stepsFrom (goAt g q true n e))
+  unfolding stepsFrom goAt
+  stepsFrom-enter n e h = omega arith
 
-  pub room-pair : (n : Node) (p : ℕ) → n .pairs < 40 → room n ≡ suc (room (goAt g q false n p))
-  unfolding room goAt
-  room-pair n p h = omega arith
+  pub stepsFrom-pair : (n : Node) (p : ℕ) → n .pairs < 40 → stepsFrom n ≡ suc (stepsFrom (goAt g q false n p))
+  unfolding stepsFrom goAt
+  stepsFrom-pair n p h = omega arith

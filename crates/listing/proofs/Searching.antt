@@ -23,11 +23,11 @@ use Rattle.image.specs.Index.{candidates}
 use Rattle.rows.specs.declared.Trail.{Trail}
 use Rattle.rows.specs.Trail.{readingOf}
 use Rattle.listing.specs.declared.place.Place.{Place}
-use Rattle.listing.specs.Gather.{grow, gather, room}
+use Rattle.listing.specs.Gather.{grow, gather, stepsFrom}
 use Rattle.listing.specs.Places.{restOf, nodeOf}
 use Rattle.listing.specs.Opening.{Ranged}
 use Rattle.listing.specs.Search.{nodeAt, headOf, foundAt}
-use Rattle.listing.proofs.Gather.{branch, gather-open, gather-pair, gather-end, gather-last, room-enter, room-pair}
+use Rattle.listing.proofs.Gather.{branch, gather-open, gather-pair, gather-end, gather-last, stepsFrom-enter, stepsFrom-pair}
 use Rattle.listing.proofs.Loops.{flatMap-only, below-low, below-range}
 
 all-empty : {B : Type 0} (f : ℕ → List B) (n : ℕ) → ((x : ℕ) → f x ≡ []) → flatMap f (below n) ≡ []
@@ -66,7 +66,7 @@ module _ (image : List ℕ) (q : Query) (place : Place) (trail : Trail) where
 
   pub open-full : opens n ≡ true → 16 ≤ trail .entries → foundAt image q place trail ≡ []
   unfolding foundAt
-  open-full o h = go (room n)
+  open-full o h = go (stepsFrom n)
     where
       go : (k : ℕ) → gather g q k n r ≡ []
       go zero = gather-end g q n r o
@@ -79,7 +79,7 @@ module _ (image : List ℕ) (q : Query) (place : Place) (trail : Trail) where
 
   pub pair-full : opens n ≡ false → 40 ≤ trail .pairs → foundAt image q place trail ≡ given (complete g q n) (r ∷ [])
   unfolding foundAt
-  pair-full o h = go (room n)
+  pair-full o h = go (stepsFrom n)
     where
       go : (k : ℕ) → gather g q k n r ≡ given (complete g q n) (r ∷ [])
       go zero = gather-last g q n r
@@ -90,16 +90,16 @@ module _ (image : List ℕ) (q : Query) (place : Place) (trail : Trail) where
 
   -- what is found by entry low + i
   abbrev pub openOne : ℕ → ℕ → List Reading
-  openOne low i = gather g q (pred (room n)) (goAt g q true n (low + i)) (grow true r (low + i))
+  openOne low i = gather g q (pred (stepsFrom n)) (goAt g q true n (low + i)) (grow true r (low + i))
 
   module _ (spare : trail .entries < 16) where
     entries-few : n .entries < 16
     unfolding nodeOf
     entries-few = spare
 
-    room-is : room n ≡ suc (pred (room n))
-    unfolding room nodeOf
-    room-is = omega arith
+    open-steps : stepsFrom n ≡ suc (pred (stepsFrom n))
+    unfolding stepsFrom nodeOf
+    open-steps = omega arith
 
     entry-may : (x : ℕ) (b : Bool) → (inLexicon image (place .onward) x && q .entries .allows (trail .entries) x) ≡ b → mayAt g q true n x ≡ b
     unfolding mayAt nodeOf
@@ -108,9 +108,9 @@ module _ (image : List ℕ) (q : Query) (place : Place) (trail : Trail) where
     pub open-all : (low high : ℕ) → opens n ≡ true → Ranged image q (place .onward) (trail .entries) low high → foundAt image q place trail ≡ flatMap (openOne low) (below (high - low))
     unfolding foundAt
     open-all low high o ranged =
-        let k = pred (room n) in
+        let k = pred (stepsFrom n) in
         let w : low + (high - low) ≡ high = omega (arith, ranged .in-order) in
-        ap (λ (m : ℕ). gather g q m n r) room-is
+        ap (λ (m : ℕ). gather g q m n r) open-steps
         ∙ gather-open g q k n r o
         ∙ below-range (branch g q k n r true) low (high - low) (g .entries)
         (λ x h. same-none (mayAt g q true n x) (gather g q k (goAt g q true n x) (grow true r x)) (entry-may x false (ranged .before x h)))
@@ -126,8 +126,8 @@ module _ (image : List ℕ) (q : Query) (place : Place) (trail : Trail) where
     pub open-one : (low i : ℕ) (next : Place) (longer : Trail) → nodeAt image next longer ≡ goAt g q true n (low + i) → readingOf longer ≡ grow true r (low + i) → foundAt image q next longer ≡ openOne low i
     unfolding foundAt
     open-one low i next longer e f =
-        let s : room (goAt g q true n (low + i)) ≡ pred (room n) = ap pred (sym (room-enter g q n (low + i) entries-few)) in
-        ap₂ (λ (m : Node) (x : Reading). gather g q (room m) m x) e f ∙ ap (λ (k : ℕ). gather g q k (goAt g q true n (low + i)) (grow true r (low + i))) s
+        let s : stepsFrom (goAt g q true n (low + i)) ≡ pred (stepsFrom n) = ap pred (sym (stepsFrom-enter g q n (low + i) entries-few)) in
+        ap₂ (λ (m : Node) (x : Reading). gather g q (stepsFrom m) m x) e f ∙ ap (λ (k : ℕ). gather g q k (goAt g q true n (low + i)) (grow true r (low + i))) s
 
 or-false : (b c : Bool) → (b || c) ≡ false → c ≡ false
 or-false true c e = absurd (true≢false e)
@@ -175,12 +175,12 @@ module _ (image : List ℕ) (q : Query) (n : Node) where
 
 -- what one pair finds
 abbrev pub pairOne : List ℕ → Query → Place → Trail → ℕ → List Reading
-pairOne image q place trail p = branch (grammarOf image) q (pred (room (nodeAt image place trail))) (nodeAt image place trail) (readingOf trail) false p
+pairOne image q place trail p = branch (grammarOf image) q (pred (stepsFrom (nodeAt image place trail))) (nodeAt image place trail) (readingOf trail) false p
 
 module _ (image : List ℕ) (q : Query) (place : Place) (trail : Trail) (spare : trail .pairs < 40) where
-  pair-room : room (nodeAt image place trail) ≡ suc (pred (room (nodeAt image place trail)))
-  unfolding room nodeOf
-  pair-room = omega arith
+  pair-steps : stepsFrom (nodeAt image place trail) ≡ suc (pred (stepsFrom (nodeAt image place trail)))
+  unfolding stepsFrom nodeOf
+  pair-steps = omega arith
 
   -- a pair that may not be taken finds nothing
   pub pair-skip : (p : ℕ) → mayAt (grammarOf image) q false (nodeAt image place trail) p ≡ false → pairOne image q place trail p ≡ []
@@ -190,8 +190,8 @@ module _ (image : List ℕ) (q : Query) (place : Place) (trail : Trail) (spare :
   unfolding foundAt nodeOf
   pair-all o =
       let n = nodeAt image place trail in
-      ap (λ (m : ℕ). gather (grammarOf image) q m n (readingOf trail)) pair-room
-      ∙ gather-candidates image q n (pred (room n)) (readingOf trail) o
+      ap (λ (m : ℕ). gather (grammarOf image) q m n (readingOf trail)) pair-steps
+      ∙ gather-candidates image q n (pred (stepsFrom n)) (readingOf trail) o
 
   pairs-few : nodeAt image place trail .pairs < 40
   unfolding nodeOf
@@ -203,7 +203,7 @@ module _ (image : List ℕ) (q : Query) (place : Place) (trail : Trail) (spare :
   pair-one p next longer may e f =
       let g = grammarOf image in
       let n = nodeAt image place trail in
-      let s : room (goAt g q false n p) ≡ pred (room n) = ap pred (sym (room-pair g q n p pairs-few)) in
-      ap₂ (λ (m : Node) (x : Reading). gather g q (room m) m x) e f
+      let s : stepsFrom (goAt g q false n p) ≡ pred (stepsFrom n) = ap pred (sym (stepsFrom-pair g q n p pairs-few)) in
+      ap₂ (λ (m : Node) (x : Reading). gather g q (stepsFrom m) m x) e f
       ∙ ap (λ (k : ℕ). gather g q k (goAt g q false n p) (grow false (readingOf trail) p)) s
-      ∙ ap (λ (b : Bool). given b (gather g q (pred (room n)) (goAt g q false n p) (grow false (readingOf trail) p))) (sym may)
+      ∙ ap (λ (b : Bool). given b (gather g q (pred (stepsFrom n)) (goAt g q false n p) (grow false (readingOf trail) p))) (sym may)

@@ -3,7 +3,7 @@ use Prim.Native.Nat.{ℕ, zero, suc, _-_, _<_, _≤_}
 use native.Mathlib.Omega.{arith}
 use native.Mathlib.Decide.{decLt}
 use mathlib.Core.Bool.{Bool, true, false, _&&_, false≢true}
-use mathlib.Core.Path.{_≡_, refl, sym, ap, ap₂, _∙_, subst}
+use mathlib.Core.Path.{_≡_, refl, sym, ap₂, _∙_, subst}
 use mathlib.Core.List.{List, [], _∷_}
 use lib.ListN.{length, getD, take, drop}
 use lib.Seq.{drop-cons}
@@ -12,16 +12,14 @@ use borrow.Author.Tests.{lt-ltb}
 use Rattle.model.specs.Lists.{every, within}
 use Rattle.model.specs.Blocks.{Header, header, blockTotal}
 use Rattle.model.specs.Lexicon.{inLexicon}
-use Rattle.model.specs.RuleTables.{pairs, boundaryPair}
-use Rattle.model.specs.Grammar.{Grammar}
 use Rattle.model.specs.GrammarOf.{grammarOf}
 use Rattle.model.specs.Query.{Query}
-use Rattle.model.specs.Tree.{spells, left, lettersAnd, nullsAnd, stepAll, alive, finish, isNil, mayAt, goAt, complete}
+use Rattle.model.specs.Tree.{spells, left, lettersAnd, nullsAnd, isNil, mayAt, goAt, complete}
 use Rattle.model.proofs.Booleans.{and-out, true-of}
 use Rattle.image.specs.Laid.{Laid}
 use Rattle.image.specs.Accepted.{Accepted}
-use Rattle.rules.specs.Live.{Live}
-use Rattle.listing.specs.declared.level.Level.{Level}
+use Rattle.letters.proofs.Laws.{pairAt}
+use Rattle.rules.specs.Live.{Live, stepOf, aliveOf, finishOf}
 use Rattle.listing.specs.declared.place.Place.{Place}
 use Rattle.listing.specs.Levels.{levelOf, levelMayBy, levelGoBy, Bounded}
 use Rattle.listing.specs.Places.{restOf, nodeOf, Standing, Took}
@@ -74,95 +72,92 @@ module _ (image : List ℕ) (from to : ℕ) (inside : to ≤ length image) where
       go [] (suc a) t = t
       go (y ∷ l) (suc a) t = (and-out (f y) (every f l) t) .1
 
-module _ (image : List ℕ) (q : Query) (place : Place) (stands : Standing image place) (p : ℕ) where
-  abbrev g : Grammar
-  g = grammarOf image
+-- the tests that are left for a pair that spells on: its nulls, the surface level, the rules
+abbrev pub nullsLet : List ℕ → Place → ℕ → Bool
+nullsLet image place p = leb (nullsAnd (place .nulls) (pairAt image p .lexical)) 8
 
-  module _ (x y : ℕ) (e1 : x ≡ getD (pairs image) p boundaryPair .lexical) (e2 : y ≡ getD (pairs image) p boundaryPair .surface) (candidate : T (spells (restOf image place) x)) where
-    -- the tests that are left for a candidate
-    pub pair-tests : (n m : ℕ) → m < 40 → mayAt g q false (nodeOf image place n m) p ≡ (leb (nullsAnd (place .nulls) x) 8 && levelMayBy (q .letters) (levelOf (place .surface)) y && alive (g .rules) (g .next) (g .final) (stepAll (g .rules) (g .next) (g .final) (take (g .rules) (place .states)) p))
-    unfolding mayAt nodeOf grammarOf levelMayBy
-    pair-tests n m h = rw (← e1, ← e2, true-of (spells (restOf image place) x) candidate, lt-ltb m 40 h) refl
+abbrev pub levelLets : List ℕ → Query → Place → ℕ → Bool
+levelLets image q place p = levelMayBy (q .letters) (levelOf (place .surface)) (pairAt image p .surface)
 
-    abbrev fewNulls : Bool
-    fewNulls = leb (nullsAnd (place .nulls) x) 8
+abbrev pub rulesLet : List ℕ → Place → ℕ → Bool
+rulesLet image place p = aliveOf (grammarOf image) (stepOf (grammarOf image) (place .states) p)
 
-    abbrev levelLets : Bool
-    levelLets = levelMayBy (q .letters) (levelOf (place .surface)) y
+-- the place after pair p, part by part
+pub record Moved (image : List ℕ) (place : Place) (p : ℕ) (after : Place) : Type 0 where
+  pub from-is : after .from ≡ lettersAnd (place .from) (pairAt image p .lexical)
+  pub to-is : after .to ≡ place .to
+  pub onward-is : after .onward ≡ place .onward
+  pub nulls-are : after .nulls ≡ nullsAnd (place .nulls) (pairAt image p .lexical)
+  pub level-is : levelOf (after .surface) ≡ levelGoBy (levelOf (place .surface)) (pairAt image p .surface)
+  pub states-are : take (grammarOf image .rules) (after .states) ≡ stepOf (grammarOf image) (place .states) p
+  pub nulls-in : after .nulls ≤ 8
+  pub level-in : Bounded (after .surface)
+  pub states-live : Live image (after .states)
 
-    abbrev rulesLet : Bool
-    rulesLet = alive (g .rules) (g .next) (g .final) (stepAll (g .rules) (g .next) (g .final) (take (g .rules) (place .states)) p)
+-- pair p spells on where the search stands
+pub record SpellsOn (image : List ℕ) (place : Place) (p : ℕ) : Type 0 where
+  pub stands : Standing image place
+  pub spells-on : T (spells (restOf image place) (pairAt image p .lexical))
 
-    -- not taken
-    refused : (fewNulls && levelLets && rulesLet) ≡ false → Took image q place p false place
-    refused e = record { may-is = λ n m h. sym (pair-tests n m h ∙ e); node-is = λ f. absurd (false≢true f); stands = λ f. absurd (false≢true f) }
+module _ {image : List ℕ} {place : Place} {p : ℕ} (q : Query) (here : SpellsOn image place p) where
+  pair-tests : (n m : ℕ) → m < 40 → mayAt (grammarOf image) q false (nodeOf image place n m) p ≡ (nullsLet image place p && levelLets image q place p && rulesLet image place p)
+  unfolding mayAt nodeOf grammarOf levelMayBy
+  pair-tests n m h = rw (true-of (spells (restOf image place) (pairAt image p .lexical)) (here .spells-on), lt-ltb m 40 h) refl
 
-    pub refused-nulls : fewNulls ≡ false → Took image q place p false place
-    refused-nulls e = refused (rw e refl)
+  -- not taken, by the first test that fails
+  refused : (nullsLet image place p && levelLets image q place p && rulesLet image place p) ≡ false → Took image q place p false place
+  refused e = record { may-is = λ n m h. sym (pair-tests n m h ∙ e); node-is = λ f. absurd (false≢true f); stands = λ f. absurd (false≢true f) }
 
-    pub refused-level : fewNulls ≡ true → levelLets ≡ false → Took image q place p false place
-    refused-level a e = refused (rw (a, e) refl)
+  pub refused-nulls : nullsLet image place p ≡ false → Took image q place p false place
+  refused-nulls e = refused (rw e refl)
 
-    pub refused-rules : fewNulls ≡ true → levelLets ≡ true → rulesLet ≡ false → Took image q place p false place
-    refused-rules a b e = refused (rw (a, b, e) refl)
+  pub refused-level : nullsLet image place p ≡ true → levelLets image q place p ≡ false → Took image q place p false place
+  refused-level a e = refused (rw (a, e) refl)
 
-    module _ (from nulls : ℕ) (level : Level) (states : List ℕ) (f1 : from ≡ lettersAnd (place .from) x) (f2 : nulls ≡ nullsAnd (place .nulls) x) (f3 : levelOf level ≡ levelGoBy (levelOf (place .surface)) y) (f4 : take (g .rules) states ≡ stepAll (g .rules) (g .next) (g .final) (take (g .rules) (place .states)) p) where
-      abbrev taken : Place
-      taken = record { from = from; to = place .to; onward = place .onward; nulls = nulls; surface = level; states = states }
+  pub refused-rules : nullsLet image place p ≡ true → levelLets image q place p ≡ true → rulesLet image place p ≡ false → Took image q place p false place
+  refused-rules a b e = refused (rw (a, b, e) refl)
 
-      rest-is : restOf image taken ≡ left (restOf image place) x
-      rest-is = ap (λ (i : ℕ). take (place .to - i) (drop i image)) f1 ∙ left-part image (place .from) (place .to) (stands .in-image) x candidate
+  -- taken
+  module _ {after : Place} (moved : Moved image place p after) where
+    rest-is : restOf image after ≡ left (restOf image place) (pairAt image p .lexical)
+    rest-is =
+        ap₂ (λ (i j : ℕ). take (j - i) (drop i image)) (moved .from-is) (moved .to-is)
+        ∙ left-part image (place .from) (place .to) (here .stands .in-image) (pairAt image p .lexical) (here .spells-on)
 
-      pub taken-node : (n m : ℕ) → nodeOf image taken n (suc m) ≡ goAt g q false (nodeOf image place n m) p
-      unfolding nodeOf goAt grammarOf levelGoBy
-      taken-node n m = λ i.
-          record {
-            rest = (rest-is ∙ ap (left (restOf image place)) e1) i;
-            ways = inLexicon image (place .onward);
-            ended = eqb (place .onward) 255;
-            entries = n;
-            pairs = suc m;
-            nulls = (f2 ∙ ap (nullsAnd (place .nulls)) e1) i;
-            surface = (f3 ∙ ap (levelGoBy (levelOf (place .surface))) e2) i;
-            states = f4 i;
-          }
+    after-node : (n m : ℕ) → nodeOf image after n (suc m) ≡ goAt (grammarOf image) q false (nodeOf image place n m) p
+    unfolding nodeOf goAt grammarOf levelGoBy
+    after-node n m = λ i.
+        record {
+          rest = rest-is i;
+          ways = inLexicon image (moved .onward-is i);
+          ended = eqb (moved .onward-is i) 255;
+          entries = n;
+          pairs = suc m;
+          nulls = moved .nulls-are i;
+          surface = moved .level-is i;
+          states = moved .states-are i;
+        }
 
-      pub taken-stands : nulls ≤ 8 → Bounded level → Live image states → Standing image taken
-      taken-stands h b l =
-          record {
-            in-order = subst (λ (i : ℕ). i ≤ place .to) (sym f1) (left-order image (place .from) (place .to) (stands .in-image) x (stands .in-order) candidate);
-            in-image = stands .in-image;
-            letters-right = subst (λ (l : List ℕ). T (every (within 2 (header image .letters)) l)) (sym rest-is) (left-letters image (place .from) (place .to) (stands .in-image) (within 2 (header image .letters)) x (stands .letters-right));
-            onward-right = stands .onward-right;
-            nulls-in = h;
-            surface-in = b;
-            states-live = l;
-          }
+    after-stands : Standing image after
+    after-stands =
+        record {
+          in-order = rw (moved .from-is, moved .to-is) (left-order image (place .from) (place .to) (here .stands .in-image) (pairAt image p .lexical) (here .stands .in-order) (here .spells-on));
+          in-image = rw (moved .to-is) (here .stands .in-image);
+          letters-right = rw rest-is (left-letters image (place .from) (place .to) (here .stands .in-image) (within 2 (header image .letters)) (pairAt image p .lexical) (here .stands .letters-right));
+          onward-right = rw (moved .onward-is) (here .stands .onward-right);
+          nulls-in = moved .nulls-in;
+          surface-in = moved .level-in;
+          states-live = moved .states-live;
+        }
 
-      -- taken
-      pub took : fewNulls ≡ true → levelLets ≡ true → rulesLet ≡ true → nulls ≤ 8 → Bounded level → Live image states → Took image q place p true taken
-      took a b c h i l = record { may-is = λ n m k. sym (pair-tests n m k ∙ rw (a, b, c) refl); node-is = λ f. taken-node; stands = λ f. taken-stands h i l }
+    pub took : nullsLet image place p ≡ true → levelLets image q place p ≡ true → rulesLet image place p ≡ true → Took image q place p true after
+    took a b c = record { may-is = λ n m k. sym (pair-tests n m k ∙ rw (a, b, c) refl); node-is = λ f. after-node; stands = λ f. after-stands }
 
--- the end of a reading
-module _ (image : List ℕ) (q : Query) (place : Place) (done : place .from ≡ place .to) (ended : place .onward ≡ 255) (n m : ℕ) where
-  abbrev gr : Grammar
-  gr = grammarOf image
-
+-- the tests that are left for the end of a reading, where every letter is paired and the path has ended
+module _ (image : List ℕ) (q : Query) (place : Place) (n m : ℕ) (here : (place .from ≡ place .to) × (place .onward ≡ 255)) where
   nothing-left : isNil (restOf image place) ≡ true
-  nothing-left = let z : place .to - place .from ≡ 0 = omega arith in rw z refl
+  nothing-left = let z : place .to - place .from ≡ 0 = omega (arith, here .0) in rw z refl
 
-  complete-is : complete gr q (nodeOf image place n m) ≡ (q .entries .mayEnd n && (ltb 0 (place .surface .letters) && q .letters .mayEnd (place .surface .letters)) && finish (gr .rules) (gr .next) (gr .final) (take (gr .rules) (place .states)) (gr .pairs))
+  pub end-tests : complete (grammarOf image) q (nodeOf image place n m) ≡ (q .entries .mayEnd n && (ltb 0 (place .surface .letters) && q .letters .mayEnd (place .surface .letters)) && finishOf (grammarOf image) (place .states))
   unfolding complete nodeOf grammarOf
-  complete-is = rw (nothing-left, ended) refl
-
-  pub end-entries : q .entries .mayEnd n ≡ false → false ≡ complete gr q (nodeOf image place n m)
-  end-entries e = sym (complete-is ∙ rw e refl)
-
-  pub end-empty : q .entries .mayEnd n ≡ true → place .surface .letters ≡ 0 → false ≡ complete gr q (nodeOf image place n m)
-  end-empty a e = sym (complete-is ∙ rw (a, e) refl)
-
-  pub end-letters : q .entries .mayEnd n ≡ true → (place .surface .letters ≡ 0 → ⊥) → q .letters .mayEnd (place .surface .letters) ≡ false → false ≡ complete gr q (nodeOf image place n m)
-  end-letters a f e = let h : 0 < place .surface .letters = omega arith in sym (complete-is ∙ rw (a, lt-ltb 0 (place .surface .letters) h, e) refl)
-
-  pub end-rules : q .entries .mayEnd n ≡ true → (place .surface .letters ≡ 0 → ⊥) → q .letters .mayEnd (place .surface .letters) ≡ true → finish (gr .rules) (gr .next) (gr .final) (take (gr .rules) (place .states)) (gr .pairs) ≡ complete gr q (nodeOf image place n m)
-  end-rules a f b = let h : 0 < place .surface .letters = omega arith in sym (complete-is ∙ rw (a, lt-ltb 0 (place .surface .letters) h, b) refl)
+  end-tests = rw (nothing-left, here .1) refl

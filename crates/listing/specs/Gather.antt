@@ -22,6 +22,10 @@ module _ (g : Grammar) (q : Query) where
       given (complete g q n) (r ∷ [])
       ++ flatMap (λ x. let l = gather k (goAt g q (opens n) n x) (grow (opens n) r x) in given (mayAt g q (opens n) n x) l) (below (countAt g q (opens n) n))
 
--- how many entries and pairs a node has left: each step takes one
-unfoldable pub room : Node → ℕ
-room n = (16 - n .entries) + (40 - n .pairs)
+-- how many steps are left after so many entries and pairs: each takes one of either
+abbrev pub stepsLeft : ℕ → ℕ → ℕ
+stepsLeft entries pairs = (16 - entries) + (40 - pairs)
+
+-- from a node
+unfoldable pub stepsFrom : Node → ℕ
+stepsFrom n = stepsLeft (n .entries) (n .pairs)

@@ -8,7 +8,7 @@ use Rattle.model.specs.Tree.{Node}
 use Rattle.rows.specs.declared.Trail.{Trail}
 use Rattle.rows.specs.Trail.{readingOf}
 use Rattle.listing.specs.declared.place.Place.{Place}
-use Rattle.listing.specs.Gather.{gather, room}
+use Rattle.listing.specs.Gather.{gather, stepsFrom}
 use Rattle.listing.specs.Places.{nodeOf}
 
 abbrev pub nodeAt : List ℕ → Place → Trail → Node
@@ -19,6 +19,6 @@ abbrev pub headOf : List ℕ → ℕ
 headOf [] = 0
 headOf (x ∷ xs) = x
 
--- all that is found in the room that is left
+-- all that is found in the steps that are left
 unfoldable pub foundAt : List ℕ → Query → Place → Trail → List Reading
-foundAt image q place trail = let n = nodeAt image place trail in gather (grammarOf image) q (room n) n (readingOf trail)
+foundAt image q place trail = let n = nodeAt image place trail in gather (grammarOf image) q (stepsFrom n) n (readingOf trail)

@@ -20,7 +20,8 @@ pub fn allows_letter(d: Direction, asked: &[u8], i: usize, x: Surface) -> bool
             if asked.len() <= i {
                 return false;
             }
-            asked[i] == x.0
+            let own = letters::surface_at(asked, i);
+            letters::same_surface(own, x)
         }
     }
 }

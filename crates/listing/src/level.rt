@@ -17,12 +17,12 @@ pub struct Level {
 }
 
 // A level after one more pair, where the pair may come next.
-pub struct Passed {
+pub struct SurfaceAfter {
     pub may: bool,
     pub level: Level,
 }
 
-pub fn pass(d: Direction, asked: &[u8], level: Level, x: Surface) -> Passed
+pub fn pass(d: Direction, asked: &[u8], level: Level, x: Surface) -> SurfaceAfter
     requires { ⌜ Bounded level ⌝ }
     ensures may { λ r. ⌜ r .may ≡ levelMayBy (queryOf (requestOf d (now (asked .entry))) .letters) (levelOf level) (x .0) ⌝ }
     ensures go { λ r. ⌜ (r .may ≡ true → (levelOf (r .level) ≡ levelGoBy (levelOf level) (x .0)) × Bounded (r .level)) ⌝ }
@@ -34,13 +34,13 @@ pub fn pass(d: Direction, asked: &[u8], level: Level, x: Surface) -> Passed
             letters: letters,
             nulls: nulls + 1,
         };
-        return Passed {
+        return SurfaceAfter {
             may: nulls < 8,
             level: more,
         };
     }
     if !crate::asked::allows_letter(d, asked, letters, x) {
-        return Passed {
+        return SurfaceAfter {
             may: false,
             level: level,
         };
@@ -49,32 +49,32 @@ pub fn pass(d: Direction, asked: &[u8], level: Level, x: Surface) -> Passed
         letters: letters + 1,
         nulls: nulls,
     };
-    Passed {
+    SurfaceAfter {
         may: letters < 32,
         level: more,
     }
 }
 
 // The lexical level after one more pair: where the letters left begin, and its nulls.
-pub struct Spelled {
+pub struct LexicalAfter {
     pub may: bool,
     pub from: usize,
     pub nulls: usize,
 }
 
-pub fn spell(from: usize, nulls: usize, x: Lexical) -> Spelled
+pub fn spell(from: usize, nulls: usize, x: Lexical) -> LexicalAfter
     requires { ⌜ (nulls ≤ 8) × (from < 65536) ⌝ }
     ensures may { λ r. ⌜ r .may ≡ leb (nullsAnd nulls (x .0)) 8 ⌝ }
     ensures go { λ r. ⌜ (r .may ≡ true → (r .from ≡ lettersAnd from (x .0)) × ((r .nulls ≡ nullsAnd nulls (x .0)) × (r .nulls ≤ 8))) ⌝ }
 {
     if x.0 == 0 {
-        return Spelled {
+        return LexicalAfter {
             may: nulls < 8,
             from: from,
             nulls: nulls + 1,
         };
     }
-    Spelled {
+    LexicalAfter {
         may: true,
         from: from + 1,
         nulls: nulls,

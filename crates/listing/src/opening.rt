@@ -1,7 +1,6 @@
 // Which entries may open at a place: those of the next lexicon, and in generation the one that the path names.
 ghost use mathlib.Core.Path.{_≡_};
-ghost use Prim.Native.Nat.{_+_, _*_, _/_, _<_, _≤_};
-ghost use lib.ListN.{length};
+ghost use Prim.Native.Nat.{_+_, _*_, _/_, _<_};
 ghost use Rattle.model.specs.Lexicon.{firstEntry, entryCount};
 ghost use Rattle.model.specs.Query.{queryOf};
 ghost use Rattle.image.specs.Header.{headerOf};

@@ -1,13 +1,13 @@
 // A pair taken at a place, where the rules and what is asked let it pass; and the end of a reading.
 ghost use mathlib.Core.Path.{_≡_};
 ghost use mathlib.Core.Bool.{true, false};
-ghost use Prim.Native.Nat.{ℕ, suc, _<_};
+ghost use Prim.Native.Nat.{ℕ, _<_};
 ghost use lib.ListN.{getD};
 ghost use lib.Dec.{T};
 ghost use Rattle.model.specs.RuleTables.{pairs, boundaryPair};
 ghost use Rattle.model.specs.GrammarOf.{grammarOf};
 ghost use Rattle.model.specs.Query.{queryOf};
-ghost use Rattle.model.specs.Tree.{spells, mayAt, goAt, complete};
+ghost use Rattle.model.specs.Tree.{spells, complete};
 ghost use Rattle.image.specs.Header.{headerOf};
 ghost use Rattle.image.specs.Accepted.{Accepted};
 ghost use Rattle.image.specs.Index.{indexOf};

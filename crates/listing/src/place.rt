@@ -1,6 +1,6 @@
 // Where a search stands: the letters left of the last entry, the lexicon that comes next, counts, and the rules' states.
 ghost use mathlib.Core.Path.{_≡_};
-ghost use mathlib.Core.Bool.{true, false};
+ghost use mathlib.Core.Bool.{true};
 ghost use Prim.Native.Nat.{ℕ, suc, _<_};
 ghost use Rattle.model.specs.GrammarOf.{grammarOf};
 ghost use Rattle.model.specs.Query.{Query};

@@ -15,7 +15,7 @@ use Rattle.model.specs.Readings.{nulls, spelled, fewNulls, wordLength, pairingL
 use Rattle.model.specs.Query.{entryNumbers}
 use Rattle.model.proofs.Booleans.{and-out, and-in, true-of}
 use Rattle.lexicon.proofs.Laws.{within-below, within-above, within-true}
-use Rattle.rules.specs.Judge.{Listed, formsOf, levelsRight, readingOf}
+use Rattle.rules.specs.Judge.{Listed, formsOf, levelsRight, judgedReading}
 use Rattle.rules.proofs.PathLaws.{lengthRight}
 use Rattle.rules.proofs.PairingLaws.{pairingRight, length-spelled}
 
@@ -94,7 +94,7 @@ module _ (image path pairing : List ℕ) (t11 : T (lengthRight path)) (t12 : T (
   unfolding grammarOf
   pairs-listed = true-of (every (λ p. ltb p (header image .pairs)) pairing) is-listed
 
-  pub reading-is : isReading (grammarOf image) (readingOf path pairing) ≡ (levelsRight image path pairing && passes (grammarOf image) pairing)
+  pub reading-is : isReading (grammarOf image) (judgedReading path pairing) ≡ (levelsRight image path pairing && passes (grammarOf image) pairing)
   unfolding isReading
   reading-is =
       let long = true-of (pairingLength pairing) (and-out (pairingLength pairing) (every (λ p. ltb p (header image .pairs)) pairing) t13 .0) in

@@ -9,7 +9,7 @@ use lib.ListN.{length, getD, drop, replicate, length-append, length-take, length
 use lib.Seq.{getD-take, getD-drop, getD-append-add}
 use lib.Dec.{T, leb, ltb, eqb}
 use borrow.Author.Tests.{lt-ltb, le-leb}
-use Rattle.model.specs.Lists.{below, given, flatMap, within, isZero, byte, number, numberBytes}
+use Rattle.model.specs.Lists.{below, given, flatMap, isZero, byte, number, numberBytes}
 use Rattle.model.specs.Blocks.{Header, header, blockTotal}
 use Rattle.model.specs.RuleTables.{pairs, boundaryPair, table, columnCount, stateCount, rowsAt, isFinal, nextState, isTable, columnsOf}
 use Rattle.model.specs.Lexicon.{firstEntry}

@@ -1,5 +1,5 @@
 -- Pairings as the code reads them, pair by pair: the letters and nulls of one level, given by the side of each pair, and the rules' states.
-use Prim.Native.Nat.{ℕ, zero, suc, _+_, _-_, _<_, _≤_}
+use Prim.Native.Nat.{ℕ, zero, suc, _+_, _<_, _≤_}
 use native.Mathlib.Omega.{arith}
 use native.Mathlib.Decide.{decLt}
 use mathlib.Core.Bool.{Bool, true, false, _&&_}
@@ -45,16 +45,17 @@ module _ (pairs : ℕ) (ps : List ℕ) where
   pub pairing-some : 1 ≤ length ps → length ps ≤ 40 → every (λ p. ltb p pairs) ps ≡ pairingRight
   pairing-some h k = ap (λ (b : Bool). b && every (λ p. ltb p pairs) ps) (sym (within-true 1 40 (length ps) h k))
 
+-- x is a side of the pair that stands in a pairing
+module _ (image : List ℕ) {x p q : ℕ} (same : p ≡ q) where
+  pub lexical-is : x ≡ getD (pairs image) p boundaryPair .lexical → x ≡ grammarOf image .lexical q
+  unfolding grammarOf
+  lexical-is e = rw same at e
+
+  pub surface-is : x ≡ getD (pairs image) p boundaryPair .surface → x ≡ grammarOf image .surface q
+  unfolding grammarOf
+  surface-is e = rw same at e
+
 -- one level of a pairing
-module _ (image : List ℕ) (p : ℕ) where
-  pub grammar-lexical : grammarOf image .lexical p ≡ getD (pairs image) p boundaryPair .lexical
-  unfolding grammarOf
-  grammar-lexical = refl
-
-  pub grammar-surface : grammarOf image .surface p ≡ getD (pairs image) p boundaryPair .surface
-  unfolding grammarOf
-  grammar-surface = refl
-
 module _ (side : ℕ → ℕ) (ps : List ℕ) where
   pub length-spelled : length (spelled side ps) + nulls (map side ps) ≡ length ps
   length-spelled = go (map side ps) ∙ length-map ps side
@@ -68,7 +69,7 @@ module _ (side : ℕ → ℕ) (ps : List ℕ) where
     sides-end : length ps ≤ i → map side (drop i ps) ≡ []
     sides-end h = ap (map side) (drop-of-length-le ps h)
 
-    pub nulls-end : length ps ≤ i → nulls (map side (drop i ps)) ≡ 0
+    nulls-end : length ps ≤ i → nulls (map side (drop i ps)) ≡ 0
     nulls-end h = ap nulls (sides-end h)
 
     module _ (inside : i < length ps) where
@@ -77,7 +78,7 @@ module _ (side : ℕ → ℕ) (ps : List ℕ) where
 
       -- the pair has a null there
       module _ (e : side (getD ps i 0) ≡ 0) where
-        pub nulls-more : nulls (map side (drop i ps)) ≡ suc (nulls (map side (drop (i + 1) ps)))
+        nulls-more : nulls (map side (drop i ps)) ≡ suc (nulls (map side (drop (i + 1) ps)))
         nulls-more = ap nulls (sides-step 0 e)
 
         pub spelled-same : spelled side (drop i ps) ≡ spelled side (drop (i + 1) ps)
@@ -85,7 +86,7 @@ module _ (side : ℕ → ℕ) (ps : List ℕ) where
 
       -- the pair has a letter there
       module _ (some : side (getD ps i 0) ≡ 0 → ⊥) where
-        pub nulls-same : nulls (map side (drop i ps)) ≡ nulls (map side (drop (i + 1) ps))
+        nulls-same : nulls (map side (drop i ps)) ≡ nulls (map side (drop (i + 1) ps))
         nulls-same = go (side (getD ps i 0)) refl
           where
             go : (a : ℕ) → side (getD ps i 0) ≡ a → nulls (map side (drop i ps)) ≡ nulls (map side (drop (i + 1) ps))
@@ -98,6 +99,28 @@ module _ (side : ℕ → ℕ) (ps : List ℕ) where
             go : (a : ℕ) → side (getD ps i 0) ≡ a → spelled side (drop i ps) ≡ side (getD ps i 0) ∷ spelled side (drop (i + 1) ps)
             go zero e = absurd (some e)
             go (suc a) e = ap withoutNulls (sides-step (suc a) e) ∙ ap {B = List ℕ} (λ x. x ∷ spelled side (drop (i + 1) ps)) (sym e)
+
+-- a loop that counts the nulls of one level: those of the i pairs passed and those that are left are all of them
+pub record Counted (side : ℕ → ℕ) (ps : List ℕ) (count i : ℕ) : Type 0 where
+  pub in-pairs : i ≤ length ps
+  pub in-passed : count ≤ i
+  pub all : count + nulls (map side (drop i ps)) ≡ nulls (map side ps)
+
+module _ (side : ℕ → ℕ) (ps : List ℕ) where
+  pub counted-none : Counted side ps 0 0
+  counted-none = record { in-pairs = omega arith; in-passed = omega arith; all = omega arith }
+
+  module _ {count i : ℕ} (c : Counted side ps count i) where
+    -- one more pair, whose side is x
+    module _ {x : ℕ} (inside : i < length ps) (this : x ≡ side (getD ps i 0)) where
+      pub counted-null : {more : ℕ} → more ≡ count + 1 → x ≡ 0 → Counted side ps more (i + 1)
+      counted-null m e = record { in-pairs = omega arith; in-passed = omega (arith, c .in-passed); all = omega (arith, c .all, nulls-more side ps i inside (sym this ∙ e)) }
+
+      pub counted-letter : {same : ℕ} → same ≡ count → (x ≡ 0 → ⊥) → Counted side ps same (i + 1)
+      counted-letter m some = record { in-pairs = omega arith; in-passed = omega (arith, c .in-passed); all = omega (arith, c .all, nulls-same side ps i inside (λ e. some (this ∙ e))) }
+
+    pub counted-all : length ps ≤ i → (count ≡ nulls (map side ps)) × (count ≤ length ps)
+    counted-all end = (omega (arith, c .all, nulls-end side ps i end), omega (arith, c .in-passed, c .in-pairs))
 
 -- the letters spelled and the letters asked for, of which t are passed
 module _ (side : ℕ → ℕ) (ps asked : List ℕ) (i t : ℕ) where

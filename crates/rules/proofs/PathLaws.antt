@@ -60,24 +60,24 @@ module _ (image : List ℕ) (x e entries : ℕ) where
   abbrev pub mayOpen : Bool
   mayOpen = not (eqb x 255) && inLexicon image x e && ltb e entries
 
-  pub opens-nowhere : x ≡ 255 → mayOpen ≡ false
-  opens-nowhere h = ap (λ (b : Bool). not b && inLexicon image x e && ltb e entries) (eq-eqb x 255 h)
+  pub may-open-nowhere : x ≡ 255 → mayOpen ≡ false
+  may-open-nowhere h = ap (λ (b : Bool). not b && inLexicon image x e && ltb e entries) (eq-eqb x 255 h)
 
   module _ (some : x ≡ 255 → ⊥) where
     in-some : mayOpen ≡ (inLexicon image x e && ltb e entries)
     in-some = ap (λ (b : Bool). not b && inLexicon image x e && ltb e entries) (ne-eqb x 255 some)
 
-    pub opens-before : e < firstEntry image x → mayOpen ≡ false
+    pub may-open-before : e < firstEntry image x → mayOpen ≡ false
     unfolding inLexicon
-    opens-before h = in-some ∙ ap (λ (b : Bool). b && ltb e (firstEntry image x + entryCount image x) && ltb e entries) (lt-leb (firstEntry image x) e h)
+    may-open-before h = in-some ∙ ap (λ (b : Bool). b && ltb e (firstEntry image x + entryCount image x) && ltb e entries) (lt-leb (firstEntry image x) e h)
 
-    pub opens-after : firstEntry image x ≤ e → firstEntry image x + entryCount image x ≤ e → mayOpen ≡ false
+    pub may-open-after : firstEntry image x ≤ e → firstEntry image x + entryCount image x ≤ e → mayOpen ≡ false
     unfolding inLexicon
-    opens-after h k = in-some ∙ ap₂ (λ (a b : Bool). a && b && ltb e entries) (le-leb (firstEntry image x) e h) (le-ltb e (firstEntry image x + entryCount image x) k)
+    may-open-after h k = in-some ∙ ap₂ (λ (a b : Bool). a && b && ltb e entries) (le-leb (firstEntry image x) e h) (le-ltb e (firstEntry image x + entryCount image x) k)
 
-    pub opens-inside : firstEntry image x ≤ e → e < firstEntry image x + entryCount image x → mayOpen ≡ ltb e entries
+    pub may-open-inside : firstEntry image x ≤ e → e < firstEntry image x + entryCount image x → mayOpen ≡ ltb e entries
     unfolding inLexicon
-    opens-inside h k = in-some ∙ ap₂ (λ (a b : Bool). a && b && ltb e entries) (le-leb (firstEntry image x) e h) (lt-ltb e (firstEntry image x + entryCount image x) k)
+    may-open-inside h k = in-some ∙ ap₂ (λ (a b : Bool). a && b && ltb e entries) (le-leb (firstEntry image x) e h) (lt-ltb e (firstEntry image x + entryCount image x) k)
 
   -- one that may open is one of the image
   pub may-open-entry : mayOpen ≡ true → e < entries

@@ -98,17 +98,17 @@ every-same f h [] e = refl
 every-same f h (x ∷ xs) e = ap₂ (λ (a b : Bool). a && b) (e x (List·Memᴰ·head refl)) (every-same f h xs (λ y m. e y (List·Memᴰ·tail m)))
 
 -- after rules 0 to k - 1 have taken pair p
-pub record Passed (image states : List ℕ) (p k : ℕ) (after : List ℕ) : Type 0 where
+pub record RulesTook (image states : List ℕ) (p k : ℕ) (after : List ℕ) : Type 0 where
   pub size : length after ≡ length states
   pub new : (j : ℕ) → j < k → getD after j 0 ≡ grammarOf image .next j (getD states j 0) p
   pub lives : (j : ℕ) → j < k → 1 ≤ getD after j 0
   pub old : (j : ℕ) → k ≤ j → getD after j 0 ≡ getD states j 0
 
-pub none-passed : (image states : List ℕ) (p : ℕ) → Passed image states p 0 states
-none-passed image states p = record { size = refl; new = λ j h. absurd (omega arith); lives = λ j h. absurd (omega arith); old = λ j h. refl }
+pub rules-took-none : (image states : List ℕ) (p : ℕ) → RulesTook image states p 0 states
+rules-took-none image states p = record { size = refl; new = λ j h. absurd (omega arith); lives = λ j h. absurd (omega arith); old = λ j h. refl }
 
-pub one-passed : (image states : List ℕ) (p k : ℕ) (after : List ℕ) (s : ℕ) → k < length states → Passed image states p k after → s ≡ grammarOf image .next k (getD states k 0) p → (s ≡ 0 → ⊥) → Passed image states p (k + 1) (set after k s)
-one-passed image states p k after s h q e some =
+pub rules-took-one : (image states : List ℕ) (p k : ℕ) (after : List ℕ) (s : ℕ) → k < length states → RulesTook image states p k after → s ≡ grammarOf image .next k (getD states k 0) p → (s ≡ 0 → ⊥) → RulesTook image states p (k + 1) (set after k s)
+rules-took-one image states p k after s h q e some =
     record {
       size = length-set after k s ∙ q .size;
       new = λ j l. new (ℕ-discrete j k) l;
@@ -173,7 +173,7 @@ start-states n h =
 
 module _ {image : List ℕ} (ok : Accepted image (header image)) where
   -- no rule comes to 0
-  pub step-lives : (states : List ℕ) (p : ℕ) (after : List ℕ) → length states ≡ 32 → p ≤ header image .pairs → Live image states → Passed image states p (header image .rules) after → StepOf image states p true after
+  pub step-lives : (states : List ℕ) (p : ℕ) (after : List ℕ) → length states ≡ 32 → p ≤ header image .pairs → Live image states → RulesTook image states p (header image .rules) after → StepOf image states p true after
   unfolding alive stepAll
   step-lives states p after size pair live q =
       record {

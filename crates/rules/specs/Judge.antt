@@ -29,5 +29,6 @@ levelsRight image path pairing =
     && wordLength (spelled (grammarOf image .surface) pairing)
     && fewNulls (grammarOf image .surface) pairing
 
-abbrev pub readingOf : List ℕ → List ℕ → Reading
-readingOf path pairing = record { path = entryNumbers path; pairing = pairing }
+-- path and pairing as the reading that is judged
+abbrev pub judgedReading : List ℕ → List ℕ → Reading
+judgedReading path pairing = record { path = entryNumbers path; pairing = pairing }

@@ -15,7 +15,7 @@ ghost use Rattle.image.specs.Header.{headerOf};
 ghost use Rattle.image.specs.Laid.{Laid};
 ghost use Rattle.image.specs.Accepted.{Accepted};
 ghost use Rattle.image.specs.Index.{indexOf};
-ghost use Rattle.rules.specs.Judge.{Listed, Entered, formsOf, levelsRight, readingOf};
+ghost use Rattle.rules.specs.Judge.{Listed, Entered, formsOf, levelsRight, judgedReading};
 use image::Header;
 
 // Test 13: 1 to 40 pairs of the image.
@@ -148,7 +148,7 @@ pub fn is_reading(image: &[u8], index: &[u8], h: Header, path: &[u8], pairing: &
     requires { ⌜ now index ≡ indexOf (now image) ⌝ }
     requires { ⌜ T (eqb (length (now path) % 2) 0 && pathLength (entryNumbers (now path))) × T (isLinked (grammarOf (now image)) (entryNumbers (now path))) ⌝ }
     requires { ⌜ T (pairingLength (now pairing) && every (λ p. ltb p (header (now image) .pairs)) (now pairing)) ⌝ }
-    ensures { λ r. ⌜ r ≡ isReading (grammarOf (now (image .entry))) (readingOf (now (path .entry)) (now (pairing .entry))) ⌝ }
+    ensures { λ r. ⌜ r ≡ isReading (grammarOf (now (image .entry))) (judgedReading (now (path .entry)) (now (pairing .entry))) ⌝ }
 {
     if levels_right(image, h, path, pairing) {
         return pairing_passes(image, index, h, pairing);

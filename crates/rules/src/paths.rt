@@ -31,7 +31,7 @@ pub fn path_length_right(path: &[u8]) -> bool
 }
 
 // Whether entry e may open in lexicon x, where 255 is the end of a path.
-fn opens(image: &[u8], h: Header, x: usize, e: usize) -> bool
+fn may_open(image: &[u8], h: Header, x: usize, e: usize) -> bool
     requires { ⌜ Laid (now image) (headerOf h) ⌝ }
     requires { ⌜ (x < h .lexicons) ⊎ (x ≡ 255) ⌝ }
     ensures { λ r. ⌜ r ≡ (not (eqb x 255) && inLexicon (now (image .entry)) x e && ltb e (h .entries)) ⌝ }
@@ -59,7 +59,7 @@ pub fn path_linked(image: &[u8], h: Header, path: &[u8]) -> bool
     let mut i: usize = 0;
     while i < count {
         let e = image::number_at(path, 2 * i);
-        if !opens(image, h, x, e) {
+        if !may_open(image, h, x, e) {
             return false;
         }
         x = lexicon::continuation_of(image, h, e);
@@ -74,8 +74,7 @@ fn form_letter(image: &[u8], h: Header, e: usize, t: usize) -> Lexical
     requires { ⌜ (e < h .entries) × (t < formLength (entry (now image) e)) ⌝ }
     ensures { λ r. ⌜ r .0 ≡ getD (formOf (entry (now (image .entry)) e)) t 0 ⌝ }
 {
-    let at = lexicon::entry_start(h, e) + (1 + t);
-    Lexical(image[at])
+    letters::lexical_at(image, lexicon::entry_start(h, e) + (1 + t))
 }
 
 // Letter t of the joined forms of a path, or 0 after the last.

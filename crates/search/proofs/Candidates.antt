@@ -17,7 +17,7 @@ use Rattle.listing.specs.Search.{headOf}
 use Rattle.listing.proofs.Loops.{only-passes}
 use Rattle.listing.proofs.Searching.{spells-so}
 
-module _ (image index : List ℕ) (h : Header) (ok : Accepted image h) (indexed : index ≡ indexOf image) (a : ℕ) (letter : a ≤ h .letters) where
+module _ {image index : List ℕ} {h : Header} {a : ℕ} (ok : Accepted image h) (indexed : index ≡ indexOf image) (letter : a ≤ h .letters) where
   here : Accepted image (header image)
   here = subst (Accepted image) (ok .laid .header-is) ok
 
@@ -36,7 +36,7 @@ module _ (image index : List ℕ) (h : Header) (ok : Accepted image h) (indexed 
   pub count-is : byte index (256 * (32 + a)) ≡ length (candidates image a)
   count-is = ap (λ (l : List ℕ). byte l (256 * (32 + a))) indexed ∙ candidate-count here a (omega (arith, letters-are))
 
-  module _ (k : ℕ) (inside : k < length (candidates image a)) where
+  module _ {k : ℕ} (inside : k < length (candidates image a)) where
     pub pair-few : k < 250
     pair-few = omega (arith, candidates-most image a, pairs-are, ok .laid .limits .pairs-most)
 
@@ -49,11 +49,16 @@ module _ (image index : List ℕ) (h : Header) (ok : Accepted image h) (indexed 
     pub pair-below : getD (candidates image a) k 0 < h .pairs
     pair-below = omega (arith, candidate-at image a k inside, pairs-are)
 
--- each of them spells on where its letter comes next
-pub candidate-spells : (image rest : List ℕ) (a : ℕ) → a ≡ headOf rest → (k : ℕ) → k < length (candidates image a) → (p : ℕ) → p ≡ getD (candidates image a) k 0 → T (spells rest (getD (pairs image) p boundaryPair .lexical))
+-- candidate k of letter a is pair p
+pub record Candidate (image : List ℕ) (a k p : ℕ) : Type 0 where
+  pub inside : k < length (candidates image a)
+  pub this : p ≡ getD (candidates image a) k 0
+
+-- it spells on where its letter comes next
+pub candidate-spells : {image : List ℕ} {a k p : ℕ} (rest : List ℕ) → a ≡ headOf rest → Candidate image a k p → T (spells rest (getD (pairs image) p boundaryPair .lexical))
 unfolding candidates
-candidate-spells image rest a letter k inside p e =
+candidate-spells {image} {a} {k} {p} rest letter c =
+    let side = getD (pairs image) p boundaryPair .lexical in
     let test : ℕ → Bool = λ p. isZero (getD (pairs image) p boundaryPair .lexical) || eqb (getD (pairs image) p boundaryPair .lexical) a in
-    spells-so rest (getD (pairs image) p boundaryPair .lexical)
-    (subst (λ (x : ℕ). (isZero (getD (pairs image) p boundaryPair .lexical) || eqb (getD (pairs image) p boundaryPair .lexical) x) ≡ true) letter
-    (subst (λ (p : ℕ). test p ≡ true) (sym e) (only-passes test (below (header image .pairs)) k inside)))
+    let passes : test p ≡ true = rw (c .this) (only-passes test (below (header image .pairs)) k (c .inside)) in
+    spells-so rest side (subst (λ (x : ℕ). (isZero side || eqb side x) ≡ true) letter passes)

@@ -27,13 +27,14 @@ use Rattle.lexicon.proofs.Laws.{entryStart}
 use Rattle.rows.specs.declared.Trail.{Trail}
 use Rattle.rows.specs.Trail.{readingOf}
 use Rattle.listing.specs.declared.place.Place.{Place}
-use Rattle.listing.specs.Gather.{grow, gather, room}
+use Rattle.listing.specs.Gather.{grow, gather, stepsFrom}
 use Rattle.listing.specs.Places.{restOf, nodeOf, Took}
 use Rattle.listing.specs.Search.{nodeAt, headOf}
 use Rattle.listing.proofs.Gather.{branch, gather-last}
 use Rattle.listing.proofs.Searching.{openOne, full-shut, gather-candidates}
 use Rattle.search.specs.FirstLetters.{startsAt, seenAt}
 use Rattle.search.proofs.Standing.{head-within}
+use Rattle.search.proofs.Candidates.{Candidate}
 
 -- the first letter of an entry's form, from the bytes of the entry: where the form is empty, the byte after its length is 0
 head-byte : (l : List ℕ) → T (every isZero (drop (1 + byte l 0) (take 13 l))) → byte l 1 ≡ headOf (take (byte l 0) (drop 1 l))
@@ -76,22 +77,23 @@ module _ (image : List ℕ) (q : Query) (place : Place) (a : ℕ) where
   pub left-all : (k : ℕ) → length (candidates image a) ≤ k → Left image q place a k → (n m : ℕ) → m < 40 → false ≡ startsAt image q (nodeOf image place n m) a
   left-all k past l n m h = sym (l n m h ∙ any-done (candidates image a) k past (mayAt (grammarOf image) q false (nodeOf image place n m)))
 
-  module _ (k : ℕ) (inside : k < length (candidates image a)) (p : ℕ) (e : p ≡ getD (candidates image a) k 0) (may : Bool) (next : Place) (took : Took image q place p may next) (l : Left image q place a k) where
-    may-is : (n m : ℕ) → m < 40 → mayAt (grammarOf image) q false (nodeOf image place n m) (getD (candidates image a) k 0) ≡ may
-    may-is n m h = ap (mayAt (grammarOf image) q false (nodeOf image place n m)) (sym e) ∙ sym (took .may-is n m h)
+-- one more of them is tried
+module _ {image : List ℕ} {q : Query} {place : Place} {a k p : ℕ} {may : Bool} {next : Place} (c : Candidate image a k p) (took : Took image q place p may next) (left : Left image q place a k) where
+  may-is : (n m : ℕ) → m < 40 → mayAt (grammarOf image) q false (nodeOf image place n m) (getD (candidates image a) k 0) ≡ may
+  may-is n m h = ap (mayAt (grammarOf image) q false (nodeOf image place n m)) (sym (c .this)) ∙ sym (took .may-is n m h)
 
-    pub left-more : may ≡ false → Left image q place a (k + 1)
-    left-more f n m h = l n m h ∙ any-on (candidates image a) 0 k inside (mayAt (grammarOf image) q false (nodeOf image place n m)) (may-is n m h ∙ f)
+  pub left-more : may ≡ false → Left image q place a (k + 1)
+  left-more f n m h = left n m h ∙ any-on (candidates image a) 0 k (c .inside) (mayAt (grammarOf image) q false (nodeOf image place n m)) (may-is n m h ∙ f)
 
-    pub left-found : may ≡ true → (n m : ℕ) → m < 40 → true ≡ startsAt image q (nodeOf image place n m) a
-    left-found t n m h = sym (l n m h ∙ any-found (candidates image a) 0 k inside (mayAt (grammarOf image) q false (nodeOf image place n m)) (may-is n m h ∙ t))
+  pub left-found : may ≡ true → (n m : ℕ) → m < 40 → true ≡ startsAt image q (nodeOf image place n m) a
+  left-found t n m h = sym (left n m h ∙ any-found (candidates image a) 0 k (c .inside) (mayAt (grammarOf image) q false (nodeOf image place n m)) (may-is n m h ∙ t))
 
 -- what is seen where an entry opens
 module _ (image : List ℕ) (q : Query) (place : Place) (e a : ℕ) where
-  abbrev Entered : Place → Type 0
-  Entered next = (q : Query) (n m : ℕ) → nodeOf image next (suc n) m ≡ goAt (grammarOf image) q true (nodeOf image place n m) e
+  abbrev Enters : Place → Type 0
+  Enters next = (q : Query) (n m : ℕ) → nodeOf image next (suc n) m ≡ goAt (grammarOf image) q true (nodeOf image place n m) e
 
-  pub entered-head : (next : Place) → Entered next → a ≡ headOf (grammarOf image .form e) → a ≡ headOf (restOf image next)
+  pub entered-head : (next : Place) → Enters next → a ≡ headOf (grammarOf image .form e) → a ≡ headOf (restOf image next)
   unfolding nodeOf goAt
   entered-head next go first = first ∙ ap headOf (sym (ap (λ (n : Node). n .rest) (go q 0 0)))
 
@@ -102,7 +104,7 @@ module _ (image : List ℕ) (q : Query) (place : Place) (e a : ℕ) where
   unfolding seenAt
   seen-empty z n m h = rw z refl
 
-  module _ (letter : a ≡ 0 → ⊥) (next : Place) (go : Entered next) (b : Bool) (starts : (n m : ℕ) → m < 40 → b ≡ startsAt image q (nodeOf image next n m) a) where
+  module _ (letter : a ≡ 0 → ⊥) (next : Place) (go : Enters next) (b : Bool) (starts : (n m : ℕ) → m < 40 → b ≡ startsAt image q (nodeOf image next n m) a) where
     starts-is : (n m : ℕ) → m < 40 → startsAt image q (goAt (grammarOf image) q true (nodeOf image place n m) e) a ≡ b
     starts-is n m h = ap (λ (n : Node). startsAt image q n a) (sym (go q n m)) ∙ sym (starts (suc n) m h)
 
@@ -221,9 +223,9 @@ module _ (image : List ℕ) (q : Query) (place : Place) (trail : Trail) where
   opened-full a e h = starts-full image q (opened e) a h
 
   -- what is seen of a letter at one entry is known for all that begin with it
-  pub seen-barren : (e a r : ℕ) → a ≡ headOf (grammarOf image .form e) → ((n m : ℕ) → m < 40 → r ≡ seenAt image q (nodeOf image place n m) e a) → r ≡ 1 → Barren image q place trail a
+  seen-barren : (e a r : ℕ) → a ≡ headOf (grammarOf image .form e) → ((n m : ℕ) → m < 40 → r ≡ seenAt image q (nodeOf image place n m) e a) → r ≡ 1 → Barren image q place trail a
   unfolding seenAt
-  seen-barren e a r first seen one low i y = nothing-found image q (opened (low + i)) a letter (opened-head a (low + i) y) (go (decLt (trail .pairs) 40)) (pred (room (nodeAt image place trail))) (grow true (readingOf trail) (low + i))
+  seen-barren e a r first seen one low i y = nothing-found image q (opened (low + i)) a letter (opened-head a (low + i) y) (go (decLt (trail .pairs) 40)) (pred (stepsFrom (nodeAt image place trail))) (grow true (readingOf trail) (low + i))
     where
       letter : a ≡ 0 → ⊥
       letter = one-out a (startsAt image q (goAt (grammarOf image) q true (nodeOf image place 0 0) e) a) (sym (seen 0 0 (omega arith)) ∙ one) .0
@@ -234,12 +236,14 @@ module _ (image : List ℕ) (q : Query) (place : Place) (trail : Trail) where
           ∙ one-out a (startsAt image q (opened e) a) (sym (seen (trail .entries) (trail .pairs) h) ∙ one) .1
       go (no h) = opened-full a (low + i) (omega arith)
 
+module _ {image : List ℕ} {q : Query} {place : Place} {trail : Trail} where
   pub known-none : Known image q place trail (replicate 128 0)
   known-none = record { long = refl; barren = λ a e. absurd (omega (arith, none-known 128 a, e)) }
 
-  pub known-more : (known : List ℕ) (a v : ℕ) → Known image q place trail known → a < 128 → (v ≡ 1 → Barren image q place trail a) → Known image q place trail (set known a v)
-  known-more known a v k h s = record { long = length-set known a v ∙ k .long; barren = λ b e. go b (ℕ-discrete b a) e }
+  -- a letter more: r is seen of a, with which entry e begins
+  pub known-more : {known : List ℕ} → Known image q place trail known → (e a r : ℕ) → a < 128 → a ≡ headOf (grammarOf image .form e) → ((n m : ℕ) → m < 40 → r ≡ seenAt image q (nodeOf image place n m) e a) → Known image q place trail (set known a r)
+  known-more {known} k e a r few first seen = record { long = length-set known a r ∙ k .long; barren = λ b s. go b (ℕ-discrete b a) s }
     where
-      go : (b : ℕ) → Dec (b ≡ a) → getD (set known a v) b 0 ≡ 1 → Barren image q place trail b
-      go b (yes f) e = rw f (s (sym (getD-set-same known a v 0 (omega (arith, k .long))) ∙ ap (λ (x : ℕ). getD (set known a v) x 0) (sym f) ∙ e))
-      go b (no f) e = k .barren b (sym (getD-set-other known a b v 0 f) ∙ e)
+      go : (b : ℕ) → Dec (b ≡ a) → getD (set known a r) b 0 ≡ 1 → Barren image q place trail b
+      go b (yes f) s = rw f (seen-barren image q place trail e a r first seen (sym (getD-set-same known a r 0 (omega (arith, k .long))) ∙ ap (λ (x : ℕ). getD (set known a r) x 0) (sym f) ∙ s))
+      go b (no f) s = k .barren b (sym (getD-set-other known a b r 0 f) ∙ s)

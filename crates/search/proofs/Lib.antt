@@ -1,4 +1,4 @@
-pub mod Passing
+pub mod Turns
 pub mod Standing
 pub mod Candidates
 pub mod Heads

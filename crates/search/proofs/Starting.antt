@@ -19,22 +19,22 @@ use Rattle.rules.proofs.Stepping.{start-states, start-live}
 use Rattle.rows.specs.declared.Trail.{Trail}
 use Rattle.rows.specs.Trail.{Holds}
 use Rattle.listing.specs.declared.place.Place.{Place}
-use Rattle.listing.specs.Gather.{gather, room}
+use Rattle.listing.specs.Gather.{gather, stepsFrom}
 use Rattle.listing.specs.Places.{nodeOf}
 use Rattle.listing.specs.Search.{nodeAt, foundAt}
 use Rattle.listing.proofs.Gather.{readings-gathered}
-use Rattle.search.specs.Here.{Ready}
+use Rattle.search.specs.Here.{Underway}
 
 -- the root, with these states
 abbrev pub root : List ℕ → Place
 root states = record { from = 0; to = 0; onward = 0; nulls = 0; surface = record { letters = 0; nulls = 0 }; states = states }
 
-module _ (image index : List ℕ) (h : Header) (ok : Accepted image h) (indexed : index ≡ indexOf image) (request : Request) (states : List ℕ) (ones : states ≡ replicate 32 1) (trail : Trail) (holds : Holds trail (record { path = []; pairing = [] }) 0 0) where
+module _ {image index : List ℕ} {h : Header} {states : List ℕ} {trail : Trail} (ok : Accepted image h) (indexed : index ≡ indexOf image) (ones : states ≡ replicate 32 1) (holds : Holds trail (record { path = []; pairing = [] }) 0 0) where
   here : Accepted image (header image)
   here = subst (Accepted image) (ok .laid .header-is) ok
 
-  pub start-ready : Ready image index h (root states) trail
-  start-ready = record {
+  pub start-underway : Underway image index h (root states) trail
+  start-underway = record {
     accepted = ok;
     indexed = indexed;
     stands = record {
@@ -49,9 +49,9 @@ module _ (image index : List ℕ) (h : Header) (ok : Accepted image h) (indexed 
     short = holds .short;
   }
 
-  root-node : nodeOf image (root states) 0 0 ≡ start (grammarOf image) (queryOf request)
+  root-node : (request : Request) → nodeOf image (root states) 0 0 ≡ start (grammarOf image) (queryOf request)
   unfolding nodeOf start grammarOf
-  root-node = λ i. record {
+  root-node request = λ i. record {
     rest = [];
     ways = inLexicon image 0;
     ended = false;
@@ -62,16 +62,16 @@ module _ (image index : List ℕ) (h : Header) (ok : Accepted image h) (indexed 
     states = (ap (take (header image .rules)) ones ∙ start-states (header image .rules) (here .laid .limits .rules-most)) i;
   }
 
-  root-room : room (start (grammarOf image) (queryOf request)) ≡ 56
-  unfolding room start
-  root-room = refl
+  root-steps : (request : Request) → stepsFrom (start (grammarOf image) (queryOf request)) ≡ 56
+  unfolding stepsFrom start
+  root-steps request = refl
 
-  pub start-found : foundAt image (queryOf request) (root states) trail ≡ allReadings image request
+  pub start-found : (request : Request) → foundAt image (queryOf request) (root states) trail ≡ allReadings image request
   unfolding foundAt allReadings
-  start-found =
+  start-found request =
       let g = grammarOf image in
       let q = queryOf request in
-      let e : nodeAt image (root states) trail ≡ start g q = ap₂ (nodeOf image (root states)) (holds .entries-are) (holds .pairs-are) ∙ root-node in
-      ap₂ (λ (n : Node) (r : Reading). gather g q (room n) n r) e (holds .reading)
-      ∙ ap (λ (k : ℕ). gather g q k (start g q) (record { path = []; pairing = [] })) root-room
+      let e : nodeAt image (root states) trail ≡ start g q = ap₂ (nodeOf image (root states)) (holds .entries-are) (holds .pairs-are) ∙ root-node request in
+      ap₂ (λ (n : Node) (r : Reading). gather g q (stepsFrom n) n r) e (holds .reading)
+      ∙ ap (λ (k : ℕ). gather g q k (start g q) (record { path = []; pairing = [] })) (root-steps request)
       ∙ sym (readings-gathered g q)

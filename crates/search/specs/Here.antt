@@ -16,7 +16,7 @@ use Rattle.listing.specs.Places.{Standing}
 unfoldable pub opensAt : Place → Bool
 opensAt place = leb (place .to) (place .from) && not (eqb (place .onward) 255)
 
-pub record Ready (image index : List ℕ) (h : Header) (place : Place) (trail : Trail) : Type 0 where
+pub record Underway (image index : List ℕ) (h : Header) (place : Place) (trail : Trail) : Type 0 where
   pub accepted : Accepted image h
   pub indexed : index ≡ indexOf image
   pub stands : Standing image place

@@ -18,14 +18,15 @@ ghost use Rattle.rows.specs.Fill.{putAll};
 ghost use Rattle.listing.specs.Asked.{requestOf};
 ghost use Rattle.listing.specs.Places.{restOf, Standing};
 ghost use Rattle.listing.specs.Search.{nodeAt, headOf};
-ghost use Rattle.search.specs.Here.{opensAt, Ready};
+ghost use Rattle.search.specs.Here.{opensAt, Underway};
 use image::Header;
+use letters::Lexical;
 use listing::asked::Direction;
 use listing::place::Place;
 use rows::Trail;
 
 // Whether an entry opens here: every letter is paired, and the path goes on.
-pub fn opens(place: Place) -> bool
+pub fn opens_at(place: Place) -> bool
     ensures { λ r. ⌜ r ≡ opensAt place ⌝ }
 {
     if place.from < place.to {
@@ -35,7 +36,7 @@ pub fn opens(place: Place) -> bool
 }
 
 // Puts the reading that ends here, where one does.
-pub fn finish(
+pub fn put_ended(
     image: &[u8],
     index: &[u8],
     h: Header,
@@ -46,7 +47,7 @@ pub fn finish(
     out: &mut [u8],
     found: usize,
 ) -> usize
-    requires { ⌜ Ready (now image) (now index) (headerOf h) place trail ⌝ }
+    requires { ⌜ Underway (now image) (now index) (headerOf h) place trail ⌝ }
     requires { ⌜ opensAt place ≡ false ⌝ }
     requires { ⌜ found ≤ rowCount (now out) ⌝ }
     ensures { λ r. ⌜ (now (out .exit), r) ≡ putAll (rowCount (now (out .entry))) (now (out .entry), found) (given (complete (grammarOf (now (image .entry))) (queryOf (requestOf d (now (asked .entry)))) (nodeAt (now (image .entry)) place trail)) (readingOf trail ∷ [])) ⌝ }
@@ -61,33 +62,33 @@ pub fn finish(
 }
 
 // The next letter to be paired, 0 where none is left.
-pub fn next_letter(image: &[u8], place: Place) -> usize
+pub fn next_letter(image: &[u8], place: Place) -> Lexical
     requires { ⌜ Standing (now image) place ⌝ }
-    ensures { λ r. ⌜ (r ≡ headOf (restOf (now (image .entry)) place)) × (r ≤ header (now (image .entry)) .letters) ⌝ }
+    ensures { λ r. ⌜ (r .0 ≡ headOf (restOf (now (image .entry)) place)) × (r .0 ≤ header (now (image .entry)) .letters) ⌝ }
 {
     let from = place.from;
     if from < place.to {
-        return image::byte_at(image, from);
+        return letters::lexical_at(image, from);
     }
-    0
+    Lexical(0)
 }
 
 // How many pairs may pair the letter a or stand before it.
-pub fn candidate_count(image: &[u8], index: &[u8], h: Header, a: usize) -> usize
+pub fn candidate_count(image: &[u8], index: &[u8], h: Header, a: Lexical) -> usize
     requires { ⌜ Accepted (now image) (headerOf h) ⌝ }
     requires { ⌜ now index ≡ indexOf (now image) ⌝ }
-    requires { ⌜ a ≤ h .letters ⌝ }
-    ensures { λ r. ⌜ r ≡ length (candidates (now (image .entry)) a) ⌝ }
+    requires { ⌜ a .0 ≤ h .letters ⌝ }
+    ensures { λ r. ⌜ r ≡ length (candidates (now (image .entry)) (a .0)) ⌝ }
 {
-    image::byte_at(index, 256 * (32 + a))
+    image::byte_at(index, 256 * (32 + a.0 as usize))
 }
 
 // Pair k of them.
-pub fn candidate(image: &[u8], index: &[u8], h: Header, a: usize, k: usize) -> usize
+pub fn candidate(image: &[u8], index: &[u8], h: Header, a: Lexical, k: usize) -> usize
     requires { ⌜ Accepted (now image) (headerOf h) ⌝ }
     requires { ⌜ now index ≡ indexOf (now image) ⌝ }
-    requires { ⌜ (a ≤ h .letters) × (k < length (candidates (now image) a)) ⌝ }
-    ensures { λ r. ⌜ (r ≡ getD (candidates (now (image .entry)) a) k 0) × (r < h .pairs) ⌝ }
+    requires { ⌜ (a .0 ≤ h .letters) × (k < length (candidates (now image) (a .0))) ⌝ }
+    ensures { λ r. ⌜ (r ≡ getD (candidates (now (image .entry)) (a .0)) k 0) × (r < h .pairs) ⌝ }
 {
-    image::byte_at(index, 256 * (32 + a) + 1 + k)
+    image::byte_at(index, 256 * (32 + a.0 as usize) + 1 + k)
 }

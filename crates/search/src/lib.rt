@@ -15,7 +15,7 @@ ghost use Rattle.image.specs.Index.{indexOf};
 ghost use Rattle.rows.specs.Fill.{putAll};
 ghost use Rattle.listing.specs.Asked.{requestOf};
 ghost use Rattle.listing.specs.Search.{foundAt};
-ghost use Rattle.search.specs.Here.{opensAt, Ready};
+ghost use Rattle.search.specs.Here.{opensAt, Underway};
 use image::Header;
 use listing::asked::Direction;
 use listing::level::Level;
@@ -36,7 +36,7 @@ pub fn open(
     capacity: usize,
     found: usize,
 ) -> usize
-    requires { ⌜ Ready (now image) (now index) (headerOf h) place trail ⌝ }
+    requires { ⌜ Underway (now image) (now index) (headerOf h) place trail ⌝ }
     requires { ⌜ opensAt place ≡ true ⌝ }
     requires { ⌜ (capacity ≡ rowCount (now out)) × (found ≤ capacity) ⌝ }
     ensures { λ r. ⌜ (now (out .exit), r) ≡ putAll (rowCount (now (out .entry))) (now (out .entry), found) (foundAt (now (image .entry)) (queryOf (requestOf d (now (asked .entry)))) place trail) ⌝ }
@@ -64,10 +64,11 @@ pub fn open(
         }
         let e = low + k;
         let letter = crate::starts::first_letter(image, h, e);
-        if known[letter] == 0 {
-            known[letter] = crate::starts::look(image, index, h, d, asked, place, e, letter);
+        let at = letter.0 as usize;
+        if known[at] == 0 {
+            known[at] = crate::starts::look(image, index, h, d, asked, place, e, letter);
         }
-        if known[letter] != 1 {
+        if known[at] != 1 {
             let next = listing::place::enter(image, h, place, e);
             let longer = rows::with_entry(trail, e as u16);
             n = pair(image, index, h, d, asked, next, longer, out, capacity, n);
@@ -90,11 +91,11 @@ pub fn pair(
     capacity: usize,
     found: usize,
 ) -> usize
-    requires { ⌜ Ready (now image) (now index) (headerOf h) place trail ⌝ }
+    requires { ⌜ Underway (now image) (now index) (headerOf h) place trail ⌝ }
     requires { ⌜ (capacity ≡ rowCount (now out)) × (found ≤ capacity) ⌝ }
     ensures { λ r. ⌜ (now (out .exit), r) ≡ putAll (rowCount (now (out .entry))) (now (out .entry), found) (foundAt (now (image .entry)) (queryOf (requestOf d (now (asked .entry)))) place trail) ⌝ }
 {
-    if crate::here::opens(place) {
+    if crate::here::opens_at(place) {
         return open(
             image,
             index,
@@ -108,7 +109,7 @@ pub fn pair(
             found,
         );
     }
-    let ended = crate::here::finish(image, index, h, d, asked, place, trail, out, found);
+    let ended = crate::here::put_ended(image, index, h, d, asked, place, trail, out, found);
     if trail.pairs >= 40 {
         return ended;
     }

@@ -11,16 +11,17 @@ ghost use Rattle.listing.specs.Places.{restOf, nodeOf, Standing};
 ghost use Rattle.listing.specs.Search.{headOf};
 ghost use Rattle.search.specs.FirstLetters.{startsAt, seenAt};
 use image::Header;
+use letters::Lexical;
 use listing::asked::Direction;
 use listing::place::Place;
 
 // The first letter of the form of entry e, 0 where it has none: the bytes after a form are 0.
-pub fn first_letter(image: &[u8], h: Header, e: usize) -> usize
+pub fn first_letter(image: &[u8], h: Header, e: usize) -> Lexical
     requires { ⌜ Accepted (now image) (headerOf h) ⌝ }
     requires { ⌜ e < h .entries ⌝ }
-    ensures { λ r. ⌜ (r ≡ headOf (grammarOf (now (image .entry)) .form e)) × (r ≤ h .letters) ⌝ }
+    ensures { λ r. ⌜ (r .0 ≡ headOf (grammarOf (now (image .entry)) .form e)) × (r .0 ≤ h .letters) ⌝ }
 {
-    image::byte_at(image, lexicon::entry_start(h, e) + 1)
+    letters::lexical_at(image, lexicon::entry_start(h, e) + 1)
 }
 
 // Whether some candidate pair of the next letter may be taken here.
@@ -31,13 +32,13 @@ fn can_start(
     d: Direction,
     asked: &[u8],
     place: Place,
-    letter: usize,
+    letter: Lexical,
 ) -> bool
     requires { ⌜ Accepted (now image) (headerOf h) ⌝ }
     requires { ⌜ now index ≡ indexOf (now image) ⌝ }
     requires { ⌜ Standing (now image) place ⌝ }
-    requires { ⌜ (letter ≡ headOf (restOf (now image) place)) × (letter ≤ h .letters) ⌝ }
-    ensures { λ r. ⌜ ((n m : ℕ) → m < 40 → r ≡ startsAt (now (image .entry)) (queryOf (requestOf d (now (asked .entry)))) (nodeOf (now (image .entry)) place n m) letter) ⌝ }
+    requires { ⌜ (letter .0 ≡ headOf (restOf (now image) place)) × (letter .0 ≤ h .letters) ⌝ }
+    ensures { λ r. ⌜ ((n m : ℕ) → m < 40 → r ≡ startsAt (now (image .entry)) (queryOf (requestOf d (now (asked .entry)))) (nodeOf (now (image .entry)) place n m) (letter .0)) ⌝ }
 {
     let many = crate::here::candidate_count(image, index, h, letter);
     let mut k: usize = 0;
@@ -61,15 +62,15 @@ pub fn look(
     asked: &[u8],
     place: Place,
     e: usize,
-    letter: usize,
+    letter: Lexical,
 ) -> u8
     requires { ⌜ Accepted (now image) (headerOf h) ⌝ }
     requires { ⌜ now index ≡ indexOf (now image) ⌝ }
     requires { ⌜ Standing (now image) place ⌝ }
-    requires { ⌜ (e < h .entries) × ((letter ≡ headOf (grammarOf (now image) .form e)) × (letter ≤ h .letters)) ⌝ }
-    ensures { λ r. ⌜ ((n m : ℕ) → m < 40 → r ≡ seenAt (now (image .entry)) (queryOf (requestOf d (now (asked .entry)))) (nodeOf (now (image .entry)) place n m) e letter) ⌝ }
+    requires { ⌜ (e < h .entries) × ((letter .0 ≡ headOf (grammarOf (now image) .form e)) × (letter .0 ≤ h .letters)) ⌝ }
+    ensures { λ r. ⌜ ((n m : ℕ) → m < 40 → r ≡ seenAt (now (image .entry)) (queryOf (requestOf d (now (asked .entry)))) (nodeOf (now (image .entry)) place n m) e (letter .0)) ⌝ }
 {
-    if letter == 0 {
+    if letter.0 == 0 {
         return 2;
     }
     let next = listing::place::enter(image, h, place, e);

@@ -3,11 +3,10 @@ use borrow.Author.Needs.{needs}
 use native.Mathlib.Omega.{arith}
 use mathlib.Core.Path.{refl, ap, _∙_}
 use Rattle.model.specs.Rows.{rowCount}
-use Rattle.image.specs.Header.{headerOf}
 use Rattle.rows.specs.Fill.{putAll}
 use Rattle.listing.specs.Asked.{requestOf}
 use Rattle.search.specs.Here.{opensAt}
-use Rattle.search.proofs.Starting.{start-ready, start-found}
+use Rattle.search.proofs.Starting.{start-underway, start-found}
 use Rattle.search.proofs.search.Statement.{statement}
 use Rattle.search.proofs.search.Tie as tie
 
@@ -21,9 +20,7 @@ open-requires : tie.Need-open-requires
 unfolding opensAt
 open-requires c κs =
     let s = c .before .before .before .before .before .before .before in
-    let a = s .args in
-    let ready = start-ready (a .image .now) (a .index .now) (headerOf (a .h)) (s .pre .0) (s .pre .1) (requestOf (a .d) (a .asked .now)) (c .before .before .start-states .result) (c .before .before .start-states .ensures) (c .before .no-trail .result) (c .before .no-trail .ensures) in
-    (ready, (refl, (refl, omega arith)))
+    (start-underway (s .pre .0) (s .pre .1) (c .before .before .start-states .ensures) (c .before .no-trail .ensures), (refl, (refl, omega arith)))
 
 same-length : tie.Need-same-length
 same-length c = search needs
@@ -34,7 +31,7 @@ returns c =
     let s = w .before .before .before .before .before .before in
     let a = s .args in
     c .before .before .«open» .ensures
-    ∙ ap (putAll (rowCount (a .out .now)) (a .out .now, 0)) (start-found (a .image .now) (a .index .now) (headerOf (a .h)) (s .pre .0) (s .pre .1) (requestOf (a .d) (a .asked .now)) (w .before .start-states .result) (w .before .start-states .ensures) (w .no-trail .result) (w .no-trail .ensures))
+    ∙ ap (putAll (rowCount (a .out .now)) (a .out .now, 0)) (start-found (s .pre .0) (s .pre .1) (w .before .start-states .ensures) (w .no-trail .ensures) (requestOf (a .d) (a .asked .now)))
 
 pub search-spec : {M : Type 1} → statement M
 search-spec = tie.close (tie.spec start-states-requires no-trail-requires open-requires same-length returns)

@@ -9,12 +9,11 @@ use lib.ListN.{length, getD, drop}
 use lib.Dec.{eqb}
 use Rattle.model.specs.Lists.{sameList}
 use Rattle.model.specs.GrammarOf.{grammarOf}
-use Rattle.model.specs.RuleTables.{pairs, boundaryPair}
 use Rattle.model.specs.Readings.{spelled}
 use Rattle.letters.proofs.Laws.{laid-here}
 use Rattle.rules.specs.Judge.{formsOf}
 use Rattle.rules.proofs.PathLaws.{forms-letters}
-use Rattle.rules.proofs.PairingLaws.{listed-at, grammar-lexical, spells-null, spells-other, spells-letter, spells-end}
+use Rattle.rules.proofs.PairingLaws.{listed-at, lexical-is, spells-null, spells-other, spells-letter, spells-end}
 use Rattle.rules.proofs.judge.spells_forms.Statement.{statement}
 use Rattle.rules.proofs.judge.spells_forms.Tie as tie
 
@@ -36,11 +35,7 @@ module _ (c : tie.After-lexical-side Inv-loop μ-loop) where
   inside = c .before .before .loop-test .taken
 
   this : c .lexical-side .result .0 ≡ grammarOf (start .args .image .now) .lexical (getD (start .args .pairing .now) (at .loop .i) 0)
-  this =
-      let image = start .args .image .now in
-      c .lexical-side .ensures
-      ∙ ap (λ (p : ℕ). getD (pairs image) p boundaryPair .lexical) (c .before .byte-at .ensures .0)
-      ∙ sym (grammar-lexical image (getD (start .args .pairing .now) (at .loop .i) 0))
+  this = lexical-is (start .args .image .now) (c .before .byte-at .ensures .0) (c .lexical-side .ensures)
 
 loop-holds : tie.Need-loop-holds Inv-loop μ-loop
 loop-holds c = (search needs, (search needs, refl))

@@ -10,18 +10,22 @@ use Rattle.rules.proofs.paths.form_letter.Tie as tie
 entry-start-requires : tie.Need-entry-start-requires
 entry-start-requires c κs = let s = c .before in (omega (arith, s .pre .1 .0, s .pre .0 .laid .limits .entries-most), s .pre .0 .laid .limits .rules-most)
 
-add-at : tie.Need-add-at
-add-at c = let s = c .before .before in omega (arith, letter-inside (s .pre .0) (s .args .e) (s .args .t) (s .pre .1 .0) (s .pre .1 .1), c .entry-start .ensures, s .good)
+add-lexical-at : tie.Need-add-lexical-at
+add-lexical-at c = let s = c .before .before in omega (arith, letter-inside (s .pre .0) (s .args .e) (s .args .t) (s .pre .1 .0) (s .pre .1 .1), c .entry-start .ensures, s .good)
 
-add-at-2 : tie.Need-add-at-2
-add-at-2 c = let s = c .before .before in omega (arith, letter-inside (s .pre .0) (s .args .e) (s .args .t) (s .pre .1 .0) (s .pre .1 .1), c .entry-start .ensures, s .good)
+add-lexical-at-2 : tie.Need-add-lexical-at-2
+add-lexical-at-2 c = let s = c .before .before in omega (arith, letter-inside (s .pre .0) (s .args .e) (s .args .t) (s .pre .1 .0) (s .pre .1 .1), c .entry-start .ensures, s .good)
 
-shared-slice-read-t9 : tie.Need-shared-slice-read-t9
-shared-slice-read-t9 c = let s = c .before .before .before in omega (arith, letter-inside (s .pre .0) (s .args .e) (s .args .t) (s .pre .1 .0) (s .pre .1 .1), c .before .entry-start .ensures)
+lexical-at-requires : tie.Need-lexical-at-requires
+lexical-at-requires c κs = let s = c .before .before in omega (arith, letter-inside (s .pre .0) (s .args .e) (s .args .t) (s .pre .1 .0) (s .pre .1 .1), c .entry-start .ensures)
 
 returns : tie.Need-returns
-returns c = let s = c .before .before .before in ap (λ (n : ℕ). byte (s .args .image .now) (n + (1 + s .args .t))) (c .before .entry-start .ensures) ∙ letter-byte (s .pre .0) (s .args .e) (s .args .t) (s .pre .1 .0) (s .pre .1 .1)
+returns c =
+    let s = c .before .before .before in
+    c .lexical-at .ensures
+    ∙ ap (λ (n : ℕ). byte (s .args .image .now) (n + (1 + s .args .t))) (c .before .entry-start .ensures)
+    ∙ letter-byte (s .pre .0) (s .args .e) (s .args .t) (s .pre .1 .0) (s .pre .1 .1)
 
 pub form-letter-spec : {M : Type 1} → statement M
 form-letter-spec =
-    tie.close (tie.spec entry-start-requires add-at add-at-2 shared-slice-read-t9 returns)
+    tie.close (tie.spec entry-start-requires add-lexical-at add-lexical-at-2 lexical-at-requires returns)

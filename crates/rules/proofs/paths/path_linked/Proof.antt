@@ -27,33 +27,33 @@ abbrev μ-loop : tie.MeasureT-loop
 μ-loop image h path count x₀ i₀ x i = count - i
 
 -- the entry that is tried
-module _ (c : tie.After-opens Inv-loop μ-loop) where
-  abbrev before-opens : tie.At-loop Inv-loop μ-loop
-  before-opens = c .before .before .before
+module _ (c : tie.After-may-open Inv-loop μ-loop) where
+  abbrev before-may-open : tie.At-loop Inv-loop μ-loop
+  before-may-open = c .before .before .before
 
   abbrev path : List ℕ
-  path = before-opens .before .before .before .args .path .now
+  path = before-may-open .before .before .before .args .path .now
 
-  inside : before-opens .loop .i < length (entryNumbers path)
+  inside : before-may-open .loop .i < length (entryNumbers path)
   inside = omega (arith, length-entryNumbers path)
 
-  this : getD (entryNumbers path) (before-opens .loop .i) 0 ≡ c .before .number-at .result
-  this = entry-number path (before-opens .loop .i) (omega arith) ∙ sym (c .before .number-at .ensures .0)
+  this : getD (entryNumbers path) (before-may-open .loop .i) 0 ≡ c .before .number-at .result
+  this = entry-number path (before-may-open .loop .i) (omega arith) ∙ sym (c .before .number-at .ensures .0)
 
   abbrev start : tie.Start Inv-loop μ-loop
-  start = before-opens .before .before .before
+  start = before-may-open .before .before .before
 
-  tried : c .opens .result ≡ mayOpen (start .args .image .now) (before-opens .loop .x) (c .before .number-at .result) (start .args .h .entries)
-  tried = c .opens .ensures
+  tried : c .may-open .result ≡ mayOpen (start .args .image .now) (before-may-open .loop .x) (c .before .number-at .result) (start .args .h .entries)
+  tried = c .may-open .ensures
 
-  opened : c .opens .result ≡ mayOpen (start .args .image .now) (before-opens .loop .x) (c .before .number-at .result) (header (start .args .image .now) .entries)
-  opened = tried ∙ ap (mayOpen (start .args .image .now) (before-opens .loop .x) (c .before .number-at .result)) (laid-entries (start .pre .laid))
+  opened : c .may-open .result ≡ mayOpen (start .args .image .now) (before-may-open .loop .x) (c .before .number-at .result) (header (start .args .image .now) .entries)
+  opened = tried ∙ ap (mayOpen (start .args .image .now) (before-may-open .loop .x) (c .before .number-at .result)) (laid-entries (start .pre .laid))
 
-is-entry : (c : tie.Else1 Inv-loop μ-loop) → c .before .before .number-at .result < before-opens (c .before) .before .before .before .args .h .entries
+is-entry : (c : tie.Else1 Inv-loop μ-loop) → c .before .before .number-at .result < before-may-open (c .before) .before .before .before .args .h .entries
 is-entry c =
-    let at = before-opens (c .before) in
+    let at = before-may-open (c .before) in
     let s = at .before .before .before in
-    may-open-entry (s .args .image .now) (at .loop .x) (c .before .before .number-at .result) (s .args .h .entries) (sym (tried (c .before)) ∙ not-false (c .before .opens .result) (c .if1 .left))
+    may-open-entry (s .args .image .now) (at .loop .x) (c .before .before .number-at .result) (s .args .h .entries) (sym (tried (c .before)) ∙ not-false (c .before .may-open .result) (c .if1 .left))
 
 loop-holds : tie.Need-loop-holds Inv-loop μ-loop
 loop-holds c =
@@ -66,19 +66,19 @@ mul-number-at c = search needs
 number-at-requires : tie.Need-number-at-requires Inv-loop μ-loop
 number-at-requires c κs = search needs
 
-opens-requires : tie.Need-opens-requires Inv-loop μ-loop
-opens-requires c κs = let s = c .before .before .before .before .before in (s .pre .laid, c .before .before .loop .inv .1 .0)
+may-open-requires : tie.Need-may-open-requires Inv-loop μ-loop
+may-open-requires c κs = let s = c .before .before .before .before .before in (s .pre .laid, c .before .before .loop .inv .1 .0)
 
 returns : tie.Need-returns Inv-loop μ-loop
 returns c =
-    let at = before-opens (c .before) in
+    let at = before-may-open (c .before) in
     let s = at .before .before .before in
     let e = c .before .before .number-at .result in
-    sym (linked-fails (s .args .image .now) (entryNumbers (s .args .path .now)) (at .loop .i) (at .loop .x) e (inside (c .before)) (this (c .before)) (sym (opened (c .before)) ∙ not-true (c .before .opens .result) (c .if1 .taken)))
+    sym (linked-fails (s .args .image .now) (entryNumbers (s .args .path .now)) (at .loop .i) (at .loop .x) e (inside (c .before)) (this (c .before)) (sym (opened (c .before)) ∙ not-true (c .before .may-open .result) (c .if1 .taken)))
     ∙ at .loop .inv .1 .1
 
 continuation-of-requires : tie.Need-continuation-of-requires Inv-loop μ-loop
-continuation-of-requires c κs = let s = before-opens (c .before) .before .before .before in (s .pre .laid, is-entry c)
+continuation-of-requires c κs = let s = before-may-open (c .before) .before .before .before in (s .pre .laid, is-entry c)
 
 add-i : tie.Need-add-i Inv-loop μ-loop
 add-i c = search needs
@@ -89,7 +89,7 @@ loop-less c = search needs
 loop-again : tie.Need-loop-again Inv-loop μ-loop
 loop-again c =
     let d = c .before .before in
-    let at = before-opens d in
+    let at = before-may-open d in
     let s = at .before .before .before in
     let e = d .before .number-at .result in
     let image = s .args .image .now in
@@ -100,7 +100,7 @@ loop-again c =
       (
         subst (λ (n : ℕ). (n < s .args .h .lexicons) ⊎ (n ≡ 255)) (sym x) right,
         ap (λ (n : ℕ). linkedFrom image n (drop (at .loop .i + 1) es)) x
-            ∙ sym (linked-on image es (at .loop .i) (at .loop .x) e (inside d) (this d) (sym (opened d) ∙ not-false (d .opens .result) (c .before .if1 .left)))
+            ∙ sym (linked-on image es (at .loop .i) (at .loop .x) e (inside d) (this d) (sym (opened d) ∙ not-false (d .may-open .result) (c .before .if1 .left)))
             ∙ at .loop .inv .1 .1,
       ),
     )
@@ -121,7 +121,7 @@ path-linked-spec =
     loop-holds
     mul-number-at
     number-at-requires
-    opens-requires
+    may-open-requires
     returns
     continuation-of-requires
     add-i

@@ -9,12 +9,12 @@ use Rattle.model.specs.RuleTables.{table, stateCount}
 use Rattle.model.specs.GrammarOf.{grammarOf}
 use Rattle.rules.proofs.Laws.{accepted-here, laid-rules}
 use Rattle.letters.proofs.Laws.{laid-pairs}
-use Rattle.rules.proofs.Stepping.{Passed, none-passed, one-passed, step-fails, step-lives}
+use Rattle.rules.proofs.Stepping.{RulesTook, rules-took-none, rules-took-one, step-fails, step-lives}
 use Rattle.rules.proofs.states.step_all.Statement.{statement}
 use Rattle.rules.proofs.states.step_all.Tie as tie
 
 abbrev Inv-loop : tie.InvT-loop
-Inv-loop image index p rules after₀ r₀ after r = (r ≤ rules) × Passed image after₀ p r after
+Inv-loop image index p rules after₀ r₀ after r = (r ≤ rules) × RulesTook image after₀ p r after
 
 abbrev μ-loop : tie.MeasureT-loop
 μ-loop image index p rules after₀ r₀ after r = rules - r
@@ -37,7 +37,7 @@ module _ (c : tie.After-next-state Inv-loop μ-loop) where
   size = start .good .1 .1 .1 .0 .1 .0 .1
 
 loop-holds : tie.Need-loop-holds Inv-loop μ-loop
-loop-holds c = (search needs, none-passed (c .before .before .args .image .now) (c .before .before .args .states) (c .before .before .args .p))
+loop-holds c = (search needs, rules-took-none (c .before .before .args .image .now) (c .before .before .args .states) (c .before .before .args .p))
 
 array-read-next-state : tie.Need-array-read-next-state Inv-loop μ-loop
 array-read-next-state c = search needs
@@ -70,7 +70,7 @@ loop-again : tie.Need-loop-again Inv-loop μ-loop
 loop-again c =
     let s = start (c .before) in
     let a = at (c .before) in
-    (omega arith, one-passed (s .args .image .now) (s .args .states) (s .args .p) (a .loop .r) (a .loop .after) (c .before .next-state .result) (omega (arith, size (c .before), inside (c .before), s .pre .0 .laid .limits .rules-most)) (a .loop .inv .1) (stepped (c .before)) (c .if1 .left))
+    (omega arith, rules-took-one (s .args .image .now) (s .args .states) (s .args .p) (a .loop .r) (a .loop .after) (c .before .next-state .result) (omega (arith, size (c .before), inside (c .before), s .pre .0 .laid .limits .rules-most)) (a .loop .inv .1) (stepped (c .before)) (c .if1 .left))
 
 returns-2 : tie.Need-returns-2 Inv-loop μ-loop
 returns-2 c =
@@ -79,7 +79,7 @@ returns-2 c =
     let image = s .args .image .now in
     let done : a .loop .r ≡ header image .rules = omega (arith, laid-rules (s .pre .0 .laid)) in
     step-lives (accepted-here (s .pre .0)) (s .args .states) (s .args .p) (a .loop .after) (s .good .1 .1 .1 .0 .1 .0 .1) (omega (arith, s .pre .1 .1 .0, laid-pairs (s .pre .0 .laid))) (s .pre .1 .1 .1)
-    (subst (λ (n : ℕ). Passed image (s .args .states) (s .args .p) n (a .loop .after)) done (a .loop .inv .1))
+    (subst (λ (n : ℕ). RulesTook image (s .args .states) (s .args .p) n (a .loop .after)) done (a .loop .inv .1))
 
 pub step-all-spec : {M : Type 1} → statement M
 step-all-spec =

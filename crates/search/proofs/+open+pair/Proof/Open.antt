@@ -1,185 +1,182 @@
--- The needs of `open`.
-use Prim.Native.Nat.{ℕ, _<_, _≤_, _+_, _*_, _-_, _/_}
+-- The needs of `open`. At its loop's head an `Opening` is known; each turn puts what one entry finds, or passes over an entry that finds nothing.
+use Prim.Native.Nat.{ℕ, _<_, _+_, _-_}
 use native.Mathlib.Omega.{arith}
 use borrow.Author.Needs.{needs}
 use mathlib.Core.Logic.{⊎-elim}
-use mathlib.Core.Path.{_≡_, sym, ap, _∙_, subst}
-use lib.ListN.{length}
+use mathlib.Core.Path.{sym, _∙_}
 use Rattle.model.specs.Query.{Query, queryOf}
 use Rattle.image.specs.Header.{headerOf}
 use Rattle.rows.proofs.Fill.{putAll-none}
 use Rattle.listing.specs.Asked.{requestOf}
-use Rattle.listing.proofs.Searching.{open-full}
-use Rattle.search.proofs.Passing.{passed-none, passed-more, passed-skip, passed-stop, passed-all, passed-is}
-use Rattle.search.proofs.Standing.{opens-is}
-use Rattle.search.proofs.Heads.{onward-in, range-end, entry-few, open-found, open-ready, open-less, open-turn}
-use Rattle.search.proofs.FirstLetters.{Known, seen-barren, known-none, known-more}
-use Rattle.search.proofs.open.Reads as «open»
+use Rattle.search.proofs.Turns.{turns-none, turns-more, turns-skip, turns-stop, turns-all, turns-is, turns-rows}
+use Rattle.search.proofs.Heads.{Opening, onward-in, open-last, range-end, entry-few, open-found, open-underway, open-less, open-turn}
+use Rattle.search.proofs.FirstLetters.{Known, known-none, known-more}
 use Rattle.search.proofs.+open+pair.Lts-open as lts
-use Rattle.search.proofs.+open+pair.Proof.Shared.{open-at as at, open-claims as claims, open-Inv-loop as Inv, open-μ-loop as μ}
+use Rattle.search.proofs.+open+pair.Proof.Shared.{OfOpen}
 
 module _ (t : ℕ) where
-  -- where the loop begins
+  -- the places that the needs speak of: where the range of entries is known, a turn with rows to spare, its entry's first letter, and what is known of it
   abbrev Head : Type 0
-  Head = lts.After-struct-known2 (claims t) (at t) open.Post Inv μ
+  Head = OfOpen t lts.After-struct-known2
 
-  abbrev start : Head → lts.Start (claims t) (at t) open.Post Inv μ
+  abbrev Turn : Type 0
+  Turn = OfOpen t lts.Else2
+
+  abbrev First : Type 0
+  First = OfOpen t lts.After-struct-known3
+
+  abbrev Looked : Type 0
+  Looked = OfOpen t lts.Joined3
+
+  -- from each of them back to the one before
+  abbrev start : Head → OfOpen t lts.Start
   start w = w .before .before .before .before .before .before .before .before
 
-  abbrev query : lts.Start (claims t) (at t) open.Post Inv μ → Query
+  abbrev head : Turn → Head
+  head c = c .before .before .before
+
+  abbrev turn : First → Turn
+  turn c = c .before .before
+
+  abbrev query : OfOpen t lts.Start → Query
   query s = queryOf (requestOf (s .args .d) (s .args .asked .now))
 
-  pub returns : lts.Need-returns (claims t) (at t) open.Post Inv μ
-  returns c =
-      let s = c .before .before .before .before .before .before in
-      let a = s .args in
-      rw (open-full (a .image .now) (query s) (a .place) (a .trail) (opens-is (a .image .now) (a .place) (s .pre .1 .0 .stands) (a .trail .entries) (a .trail .pairs) ∙ s .pre .1 .1 .0) (c .if1 .taken)) (sym (putAll-none _ _))
-
-  pub open-range-requires : lts.Need-open-range-requires (claims t) (at t) open.Post Inv μ
-  open-range-requires c κs =
-      let s = c .before .before .before .before .before .before in
-      let a = s .args in
-      let ready = s .pre .1 .0 in
-      (ready .accepted, (ready .indexed, onward-in (a .image .now) (a .index .now) (headerOf (a .h)) (query s) (a .place) (a .trail) ready (s .pre .1 .1 .0)))
-
-  pub sub-count : lts.Need-sub-count (claims t) (at t) open.Post Inv μ
-  sub-count c = c .before .open-range .ensures .in-order
-
-  pub loop-holds : lts.Need-loop-holds (claims t) (at t) open.Post Inv μ
-  loop-holds c = let a = start c .args in (search needs, (passed-none, known-none (a .image .now) (query (start c)) (a .place) (a .trail)))
-
-  pub same-length : lts.Need-same-length (claims t) (at t) open.Post Inv μ
-  same-length c = search needs
-
-  -- what is found, once the range is known
   abbrev low : Head → ℕ
   low w = w .before .open-range .result .low
 
   abbrev high : Head → ℕ
   high w = w .before .open-range .result .high
 
-  pub returns-2 : lts.Need-returns-2 (claims t) (at t) open.Post Inv μ
+  opening : (w : Head) → let a = start w .args in Opening (a .image .now) (a .index .now) (headerOf (a .h)) (query (start w)) (a .place) (a .trail) (low w) (high w)
+  opening w = let s = start w in record { underway = s .pre .1 .0; open-here = s .pre .1 .1 .0; spare = w .before .before .if1 .left; ranged = w .before .open-range .ensures }
+
+  -- before the loop
+  pub returns : OfOpen t lts.Need-returns
+  returns c = let s = c .before .before .before .before .before .before in rw (open-last (s .pre .1 .0) (query s) (s .pre .1 .1 .0) (c .if1 .taken)) (sym (putAll-none _ _))
+
+  pub open-range-requires : OfOpen t lts.Need-open-range-requires
+  open-range-requires c κs =
+      let s = c .before .before .before .before .before .before in
+      let underway = s .pre .1 .0 in
+      (underway .accepted, (underway .indexed, onward-in underway (s .pre .1 .1 .0)))
+
+  pub sub-count : OfOpen t lts.Need-sub-count
+  sub-count c = c .before .open-range .ensures .in-order
+
+  pub loop-holds : OfOpen t lts.Need-loop-holds
+  loop-holds c = (search needs, (turns-none, known-none))
+
+  pub same-length : OfOpen t lts.Need-same-length
+  same-length c = search needs
+
+  -- the rows are full
+  pub returns-2 : OfOpen t lts.Need-returns-2
   returns-2 c =
       let w = c .before .before .before in
-      let s = start w in
-      let a = s .args in
-      rw (open-found (a .image .now) (a .index .now) (headerOf (a .h)) (query s) (a .place) (a .trail) (s .pre .1 .0) (w .before .before .if1 .left) (low w) (high w) (w .before .open-range .ensures) (s .pre .1 .1 .0))
-      (passed-stop (high w - low w) (c .before .before .loop .inv .1 .0) (c .before .before .loop .inv .0) (omega (arith, c .if2 .taken, s .pre .1 .1 .1 .0)))
+      let loop = c .before .before .loop in
+      rw (open-found (opening w)) (turns-stop (high w - low w) (loop .inv .1 .0) (loop .inv .0) (omega (arith, c .if2 .taken, start w .pre .1 .1 .1 .0)))
 
-  pub add-e : lts.Need-add-e (claims t) (at t) open.Post Inv μ
-  add-e c =
-      let w = c .before .before .before in
-      let s = start w in
-      let a = s .args in
-      omega (arith, entry-few (a .image .now) (a .index .now) (headerOf (a .h)) (query s) (a .place) (a .trail) (s .pre .1 .0) (w .before .before .if1 .left) (low w) (high w) (w .before .open-range .ensures) (c .before .before .loop .k) (c .before .loop-test .taken))
+  -- the entry of a turn
+  pub add-e : OfOpen t lts.Need-add-e
+  add-e c = omega (arith, entry-few (opening (head c)) (c .before .before .loop .k) (c .before .loop-test .taken))
 
-  -- entry low + k is there
-  inside : (c : lts.Else2 (claims t) (at t) open.Post Inv μ) → low (c .before .before .before) + c .before .before .loop .k < start (c .before .before .before) .args .h .entries
-  inside c =
-      let w = c .before .before .before in
-      let s = start w in
-      let a = s .args in
-      omega (arith, c .before .loop-test .taken, range-end (a .image .now) (a .index .now) (headerOf (a .h)) (query s) (a .place) (a .trail) (s .pre .1 .0) (w .before .before .if1 .left) (low w) (high w) (w .before .open-range .ensures))
+  inside : (c : Turn) → low (head c) + c .before .before .loop .k < start (head c) .args .h .entries
+  inside c = omega (arith, c .before .loop-test .taken, range-end (opening (head c)))
 
-  pub first-letter-requires : lts.Need-first-letter-requires (claims t) (at t) open.Post Inv μ
-  first-letter-requires c κs = (start (c .before .before .before) .pre .1 .0 .accepted, inside c)
+  pub first-letter-requires : OfOpen t lts.Need-first-letter-requires
+  first-letter-requires c κs = (opening (head c) .underway .accepted, inside c)
 
-  -- where the first letter of an entry is known
-  abbrev First : Type 0
-  First = lts.After-first-letter (claims t) (at t) open.Post Inv μ
+  -- what is known of its first letter
+  letter-few : (c : First) → c .before .first-letter .result .0 < 128
+  letter-few c = omega (arith, c .before .first-letter .ensures .1, opening (head (turn c)) .underway .accepted .laid .limits .letters-most)
 
-  letter-few : (c : First) → c .first-letter .result < 128
-  letter-few c = omega (arith, c .first-letter .ensures .1, start (c .before .before .before .before) .pre .1 .0 .accepted .laid .limits .letters-most)
+  pub cast-at : OfOpen t lts.Need-cast-at
+  cast-at c = search needs
 
-  pub array-read-if3 : lts.Need-array-read-if3 (claims t) (at t) open.Post Inv μ
+  pub array-read-if3 : OfOpen t lts.Need-array-read-if3
   array-read-if3 c = letter-few c
 
-  pub look-requires : lts.Need-look-requires (claims t) (at t) open.Post Inv μ
+  pub look-requires : OfOpen t lts.Need-look-requires
   look-requires c κs =
-      let ready = start (c .before .before .before .before .before) .pre .1 .0 in
-      (ready .accepted, (ready .indexed, (ready .stands, (inside (c .before .before), c .before .first-letter .ensures))))
+      let here = turn (c .before) in
+      let underway = opening (head here) .underway in
+      (underway .accepted, (underway .indexed, (underway .stands, (inside here, c .before .before .first-letter .ensures))))
 
-  pub array-write-known : lts.Need-array-write-known (claims t) (at t) open.Post Inv μ
+  pub array-write-known : OfOpen t lts.Need-array-write-known
   array-write-known c = letter-few (c .before .before)
 
-  -- what is known of its first letter after it is looked at
-  looked : (c : lts.Joined3 (claims t) (at t) open.Post Inv μ) → let s = start (c .before .before .before .before .before) in Known (s .args .image .now) (query s) (s .args .place) (s .args .trail) (c .if3 .known)
+  looked : (c : Looked) → let s = start (head (turn (c .before))) in Known (s .args .image .now) (query s) (s .args .place) (s .args .trail) (c .if3 .known)
   looked c =
       let first = c .before in
-      let at = first .before .before .before in
-      let w = at .before in
-      let s = start w in
-      let a = s .args in
-      let letter = first .first-letter .result in
+      let w = head (turn first) in
+      let loop = turn first .before .before .loop in
+      let letter = first .before .first-letter in
       ⊎-elim
-      (λ v. subst (Known (a .image .now) (query s) (a .place) (a .trail)) (sym (v .2)) (known-more (a .image .now) (query s) (a .place) (a .trail) (at .loop .known) letter (v .1 .result) (at .loop .inv .1 .1) (letter-few first) (seen-barren (a .image .now) (query s) (a .place) (a .trail) (low w + at .loop .k) letter (v .1 .result) (first .first-letter .ensures .0) (v .1 .ensures))))
-      (λ v. subst (Known (a .image .now) (query s) (a .place) (a .trail)) (sym (v .1)) (at .loop .inv .1 .1))
+      (λ v. rw (v .2) (known-more (loop .inv .1 .1) (low w + loop .k) (letter .result .0) (v .1 .result) (letter-few first) (letter .ensures .0) (v .1 .ensures)))
+      (λ v. rw (v .1) (loop .inv .1 .1))
       (c .if3 .came)
 
-  pub array-read-if4 : lts.Need-array-read-if4 (claims t) (at t) open.Post Inv μ
+  pub array-read-if4 : OfOpen t lts.Need-array-read-if4
   array-read-if4 c = letter-few (c .before)
 
-  pub enter-requires : lts.Need-enter-requires (claims t) (at t) open.Post Inv μ
+  -- its entry opens
+  pub enter-requires : OfOpen t lts.Need-enter-requires
   enter-requires c κs =
-      let ready = start (c .before .before .before .before .before .before) .pre .1 .0 in
-      (ready .accepted, (ready .stands, inside (c .before .before .before)))
+      let here = turn (c .before .before) in
+      let underway = opening (head here) .underway in
+      (underway .accepted, (underway .stands, inside here))
 
-  pub cast-with-entry : lts.Need-cast-with-entry (claims t) (at t) open.Post Inv μ
+  pub cast-with-entry : OfOpen t lts.Need-cast-with-entry
   cast-with-entry c =
-      let at = c .before .before .before .before .before .before in
-      let w = at .before in
-      let s = start w in
-      let a = s .args in
-      omega (arith, entry-few (a .image .now) (a .index .now) (headerOf (a .h)) (query s) (a .place) (a .trail) (s .pre .1 .0) (w .before .before .if1 .left) (low w) (high w) (w .before .open-range .ensures) (at .loop .k) (c .before .before .before .before .before .loop-test .taken))
+      let here = turn (c .before .before .before) in
+      omega (arith, entry-few (opening (head here)) (here .before .before .loop .k) (here .before .loop-test .taken))
 
-  pub with-entry-requires : lts.Need-with-entry-requires (claims t) (at t) open.Post Inv μ
-  with-entry-requires c κs = let w = c .before .before .before .before .before .before .before in (start w .pre .1 .0 .short, w .before .before .if1 .left)
+  pub with-entry-requires : OfOpen t lts.Need-with-entry-requires
+  with-entry-requires c κs = let o = opening (head (turn (c .before .before .before))) in (o .underway .short, o .spare)
 
-  pub pair-requires : lts.Need-pair-requires (claims t) (at t) open.Post Inv μ
+  pub pair-requires : OfOpen t lts.Need-pair-requires
   pair-requires c κs =
-      let at = c .before .before .before .before .before .before .before .before in
-      let w = at .before in
+      let here = turn (c .before .before .before .before .before) in
+      let w = head here in
       let s = start w in
-      let a = s .args in
-      let k = at .loop .k in
-      let next = c .before .before .enter in
+      let loop = here .before .before .loop in
       let longer = c .before .with-entry in
-      let ready = open-ready (a .image .now) (a .index .now) (headerOf (a .h)) (query s) (a .place) (a .trail) (s .pre .1 .0) (w .before .before .if1 .left) (low w) (high w) (w .before .open-range .ensures) k (next .result) (longer .result) (longer .ensures) (next .ensures .1) in
-      let less = open-less (a .image .now) (a .index .now) (headerOf (a .h)) (query s) (a .place) (a .trail) (s .pre .1 .0) (w .before .before .if1 .left) (low w) (high w) (w .before .open-range .ensures) k (next .result) (longer .result) (longer .ensures) in
-      (omega (arith, s .pre .0, less), (ready, (s .pre .1 .1 .1 .0 ∙ ap (λ (n : ℕ). n / 116) (sym (at .loop .inv .1 .0 .long)), c .before .before .before .before .before .before .if2 .left)))
+      let less = open-less (opening w) (loop .k) (longer .ensures) in
+      (omega (arith, s .pre .0, less), (open-underway (opening w) (loop .k) (longer .ensures) (c .before .before .enter .ensures .1), (s .pre .1 .1 .1 .0 ∙ turns-rows (loop .inv .1 .0), here .if2 .left)))
 
-  pub add-k : lts.Need-add-k (claims t) (at t) open.Post Inv μ
+  pub add-k : OfOpen t lts.Need-add-k
   add-k c = search needs
 
-  pub loop-less : lts.Need-loop-less (claims t) (at t) open.Post Inv μ
+  pub loop-less : OfOpen t lts.Need-loop-less
   loop-less c = search needs
 
-  pub loop-again : lts.Need-loop-again (claims t) (at t) open.Post Inv μ
+  -- after a turn: the entry that opened put what it finds, or the one passed over finds nothing
+  pub loop-again : OfOpen t lts.Need-loop-again
   loop-again c =
       let joined = c .before in
-      let first = joined .before in
-      let at = first .before .before .before in
-      let w = at .before in
-      let s = start w in
-      let a = s .args in
-      let more : at .loop .k + 1 ≤ high w - low w = omega (arith, first .before .before .loop-test .taken) in (
-        more,
+      let here = turn (joined .before) in
+      let w = head here in
+      let loop = here .before .before .loop in
+      let letter = joined .before .before .first-letter in (
+        omega (arith, here .before .loop-test .taken),
         (
           ⊎-elim
-              (λ v. passed-is (passed-more _ (at .loop .inv .1 .0) (v .4 .kept .1 .1 .1 .1 .1 .1 .1 .0) (v .4 .ensures) (open-turn (a .image .now) (a .index .now) (headerOf (a .h)) (query s) (a .place) (a .trail) (s .pre .1 .0) (w .before .before .if1 .left) (low w) (high w) (w .before .open-range .ensures) (at .loop .k) (v .1 .result) (v .2 .result) (v .2 .ensures) (v .1 .ensures .0))) (v .7) (v .8))
-              (λ v. passed-is (passed-skip (at .loop .inv .1 .0) (looked joined .barren (first .first-letter .result) (v .0 .left) (low w) (at .loop .k) (sym (first .first-letter .ensures .0)))) (v .1) (v .2))
+              (λ v.
+              let next = v .1 in
+              let longer = v .2 in
+              let call = v .4 in
+              turns-is (turns-more _ (loop .inv .1 .0) (call .kept .1 .1 .1 .1 .1 .1 .1 .0) (call .ensures) (open-turn (opening w) (loop .k) (longer .ensures) (next .result) (next .ensures .0))) (v .7) (v .8))
+              (λ v. turns-is (turns-skip (loop .inv .1 .0) (looked joined .barren (letter .result .0) (v .0 .left) (low w) (loop .k) (sym (letter .ensures .0)))) (v .1) (v .2))
               (c .if4 .came),
           looked joined,
         ),
       )
 
-  pub same-length-2 : lts.Need-same-length-2 (claims t) (at t) open.Post Inv μ
+  pub same-length-2 : OfOpen t lts.Need-same-length-2
   same-length-2 c = search needs
 
-  pub returns-3 : lts.Need-returns-3 (claims t) (at t) open.Post Inv μ
+  pub returns-3 : OfOpen t lts.Need-returns-3
   returns-3 c =
       let w = c .before .before in
-      let s = start w in
-      let a = s .args in
-      rw (open-found (a .image .now) (a .index .now) (headerOf (a .h)) (query s) (a .place) (a .trail) (s .pre .1 .0) (w .before .before .if1 .left) (low w) (high w) (w .before .open-range .ensures) (s .pre .1 .1 .0))
-      (passed-all (high w - low w) (c .before .loop .inv .1 .0) (omega (arith, c .loop-test .left, c .before .loop .inv .0)))
+      let loop = c .before .loop in
+      rw (open-found (opening w)) (turns-all (high w - low w) (loop .inv .1 .0) (omega (arith, c .loop-test .left, loop .inv .0)))

@@ -1,5 +1,5 @@
--- The needs of `pair`.
-use Prim.Native.Nat.{ℕ, _<_, _≤_, _+_, _*_, _-_, _/_}
+-- The needs of `pair`. At its loop's head a `Pairing` is known; each turn tries a candidate of the next letter, and puts what it finds where it is taken.
+use Prim.Native.Nat.{ℕ, _<_, _/_}
 use native.Mathlib.Omega.{arith}
 use borrow.Author.Needs.{needs}
 use mathlib.Core.Bool.{false}
@@ -11,177 +11,181 @@ use Rattle.image.specs.Header.{headerOf}
 use Rattle.image.specs.Index.{candidates}
 use Rattle.listing.specs.Asked.{requestOf}
 use Rattle.listing.specs.Places.{restOf}
-use Rattle.listing.proofs.Searching.{pair-full}
 use Rattle.search.specs.Here.{opensAt}
-use Rattle.search.proofs.Candidates.{candidate-spells}
-use Rattle.search.proofs.Passing.{passed-none, passed-more, passed-skip, passed-stop, passed-all, passed-is}
-use Rattle.search.proofs.Standing.{opens-is}
-use Rattle.search.proofs.Heads.{letter-in, pair-put, pair-none, pair-ready, pair-less, pair-turn}
-use Rattle.search.proofs.pair.Reads as pair
+use Rattle.search.proofs.Candidates.{Candidate, candidate-spells}
+use Rattle.search.proofs.Turns.{turns-none, turns-more, turns-skip, turns-stop, turns-all, turns-is, turns-rows}
+use Rattle.search.proofs.Heads.{Pairing, letter-in, pair-last, pair-put, pair-none, pair-underway, pair-less, pair-turn}
 use Rattle.search.proofs.+open+pair.Lts-pair as lts
-use Rattle.search.proofs.+open+pair.Proof.Shared.{pair-at as at, pair-claims as claims, pair-Inv-loop as Inv, pair-μ-loop as μ}
+use Rattle.search.proofs.+open+pair.Proof.Shared.{OfPair}
 
 module _ (t : ℕ) where
-  -- where the loop begins
-  abbrev Head : Type 0
-  Head = lts.After-candidate-count (claims t) (at t) pair.Post Inv μ
-
-  -- where the reading that ends here has been put
+  -- the places that the needs speak of: where the reading that ends has been put, where the candidates are counted, a turn with rows to spare, its candidate, and whether it may be taken
   abbrev Ended : Type 0
-  Ended = lts.After-struct-known (claims t) (at t) pair.Post Inv μ
+  Ended = OfPair t lts.After-struct-known
 
-  abbrev first : Ended → lts.Start (claims t) (at t) pair.Post Inv μ
+  abbrev Head : Type 0
+  Head = OfPair t lts.After-candidate-count
+
+  abbrev Turn : Type 0
+  Turn = OfPair t lts.Else3
+
+  abbrev Chosen : Type 0
+  Chosen = OfPair t lts.After-candidate
+
+  abbrev Tried : Type 0
+  Tried = OfPair t lts.After-take
+
+  -- from each of them back to the one before
+  abbrev first : Ended → OfPair t lts.Start
   first w = w .before .before .before .before .before .before .before .before .before .before .before
 
-  abbrev start : Head → lts.Start (claims t) (at t) pair.Post Inv μ
+  abbrev start : Head → OfPair t lts.Start
   start w = first (w .before .before .before)
 
-  abbrev query : lts.Start (claims t) (at t) pair.Post Inv μ → Query
+  abbrev head : Turn → Head
+  head c = c .before .before .before
+
+  abbrev query : OfPair t lts.Start → Query
   query s = queryOf (requestOf (s .args .d) (s .args .asked .now))
 
-  pub opens-requires : lts.Need-opens-requires (claims t) (at t) pair.Post Inv μ
-  opens-requires c κs = search needs
-
-  pub open-requires : lts.Need-open-requires (claims t) (at t) pair.Post Inv μ
-  open-requires c κs =
-      let s = c .before .before .before .before .before .before .before in
-      (omega (arith, s .pre .0), (s .pre .1 .0, (sym (c .before .before .opens .ensures) ∙ c .before .if1 .taken, s .pre .1 .1)))
-
-  pub same-length : lts.Need-same-length (claims t) (at t) pair.Post Inv μ
-  same-length c = search needs
-
-  pub returns : lts.Need-returns (claims t) (at t) pair.Post Inv μ
-  returns c = c .before .before .«open» .ensures
-
-  pub finish-requires : lts.Need-finish-requires (claims t) (at t) pair.Post Inv μ
-  finish-requires c κs =
-      let s = c .before .before .before .before .before .before .before in
-      (s .pre .1 .0, (sym (c .before .before .opens .ensures) ∙ c .before .if1 .left, omega (arith, s .pre .1 .1)))
-
-  pub same-length-2 : lts.Need-same-length-2 (claims t) (at t) pair.Post Inv μ
-  same-length-2 c = search needs
+  abbrev letter : Head → ℕ
+  letter w = w .before .next-letter .result .0
 
   -- no entry opens
   shut : (w : Ended) → opensAt (first w .args .place) ≡ false
-  shut w = sym (w .before .before .before .before .before .before .opens .ensures) ∙ w .before .before .before .before .before .if1 .left
+  shut w = sym (w .before .before .before .before .before .before .opens-at .ensures) ∙ w .before .before .before .before .before .if1 .left
 
-  pub returns-2 : lts.Need-returns-2 (claims t) (at t) pair.Post Inv μ
+  pairing : (w : Head) → let a = start w .args in Pairing (a .image .now) (a .index .now) (headerOf (a .h)) (a .place) (a .trail) (letter w)
+  pairing w =
+      let underway = start w .pre .1 .0 in
+      record {
+        underway = underway;
+        shut = shut (w .before .before .before);
+        spare = w .before .before .if2 .left;
+        letter = w .before .next-letter .ensures .0;
+        in-letters = letter-in underway (w .before .next-letter .ensures .1);
+      }
+
+  -- before the loop
+  pub opens-at-requires : OfPair t lts.Need-opens-at-requires
+  opens-at-requires c κs = search needs
+
+  pub open-requires : OfPair t lts.Need-open-requires
+  open-requires c κs =
+      let s = c .before .before .before .before .before .before .before in
+      (omega (arith, s .pre .0), (s .pre .1 .0, (sym (c .before .before .opens-at .ensures) ∙ c .before .if1 .taken, s .pre .1 .1)))
+
+  pub same-length : OfPair t lts.Need-same-length
+  same-length c = search needs
+
+  pub returns : OfPair t lts.Need-returns
+  returns c = c .before .before .«open» .ensures
+
+  pub put-ended-requires : OfPair t lts.Need-put-ended-requires
+  put-ended-requires c κs =
+      let s = c .before .before .before .before .before .before .before in
+      (s .pre .1 .0, (sym (c .before .before .opens-at .ensures) ∙ c .before .if1 .left, omega (arith, s .pre .1 .1)))
+
+  pub same-length-2 : OfPair t lts.Need-same-length-2
+  same-length-2 c = search needs
+
+  pub returns-2 : OfPair t lts.Need-returns-2
   returns-2 c =
       let w = c .before in
       let s = first w in
-      let a = s .args in
-      rw (pair-full (a .image .now) (query s) (a .place) (a .trail) (opens-is (a .image .now) (a .place) (s .pre .1 .0 .stands) (a .trail .entries) (a .trail .pairs) ∙ shut w) (c .if2 .taken)) (w .before .before .before .finish .ensures)
+      rw (pair-last (s .pre .1 .0) (query s) (shut w) (c .if2 .taken)) (w .before .before .before .put-ended .ensures)
 
-  pub next-letter-requires : lts.Need-next-letter-requires (claims t) (at t) pair.Post Inv μ
+  pub next-letter-requires : OfPair t lts.Need-next-letter-requires
   next-letter-requires c κs = first (c .before) .pre .1 .0 .stands
 
-  pub candidate-count-requires : lts.Need-candidate-count-requires (claims t) (at t) pair.Post Inv μ
-  candidate-count-requires c κs =
-      let s = first (c .before .before) in
-      let a = s .args in
-      (s .pre .1 .0 .accepted, (s .pre .1 .0 .indexed, letter-in (a .image .now) (a .index .now) (headerOf (a .h)) (query s) (a .place) (a .trail) (s .pre .1 .0) (c .next-letter .result) (c .next-letter .ensures .1)))
+  pub candidate-count-requires : OfPair t lts.Need-candidate-count-requires
+  candidate-count-requires c κs = let underway = first (c .before .before) .pre .1 .0 in (underway .accepted, (underway .indexed, letter-in underway (c .next-letter .ensures .1)))
 
-  pub loop-holds : lts.Need-loop-holds (claims t) (at t) pair.Post Inv μ
-  loop-holds c = (search needs, passed-none)
+  pub loop-holds : OfPair t lts.Need-loop-holds
+  loop-holds c = (search needs, turns-none)
 
-  pub same-length-3 : lts.Need-same-length-3 (claims t) (at t) pair.Post Inv μ
+  pub same-length-3 : OfPair t lts.Need-same-length-3
   same-length-3 c = search needs
 
-  pub returns-3 : lts.Need-returns-3 (claims t) (at t) pair.Post Inv μ
+  -- the rows are full
+  pub returns-3 : OfPair t lts.Need-returns-3
   returns-3 c =
       let w = c .before .before .before in
       let s = start w in
-      let a = s .args in
-      let ended = w .before .before .before .before .before .before .finish in
-      pair-put (a .image .now) (a .index .now) (headerOf (a .h)) (query s) (a .place) (a .trail) (s .pre .1 .0) (w .before .before .if2 .left) (w .before .next-letter .result) (w .before .next-letter .ensures .0) (shut (w .before .before .before)) (a .out .now) _ _ (a .found) _ _
-      (ended .kept .1 .1 .1 .1 .1 .1 .1 .0)
-      (ended .ensures)
-      (passed-stop (length (candidates (a .image .now) (w .before .next-letter .result))) (c .before .before .loop .inv .1) (omega (arith, c .before .before .loop .inv .0, w .candidate-count .ensures)) (omega (arith, c .if3 .taken, s .pre .1 .1 .0, ended .kept .1 .1 .1 .1 .1 .1 .1 .0)))
+      let loop = c .before .before .loop in
+      let ended = w .before .before .before .before .before .before .put-ended in
+      pair-put (pairing w) (query s) (s .args .out .now) (s .args .found) (ended .kept .1 .1 .1 .1 .1 .1 .1 .0) (ended .ensures)
+      (turns-stop (length (candidates (s .args .image .now) (letter w))) (loop .inv .1) (omega (arith, loop .inv .0, w .candidate-count .ensures)) (omega (arith, c .if3 .taken, s .pre .1 .1 .0, ended .kept .1 .1 .1 .1 .1 .1 .1 .0)))
 
-  pub candidate-requires : lts.Need-candidate-requires (claims t) (at t) pair.Post Inv μ
-  candidate-requires c κs =
-      let w = c .before .before .before in
-      let s = start w in
-      let a = s .args in
-      (s .pre .1 .0 .accepted, (s .pre .1 .0 .indexed, (letter-in (a .image .now) (a .index .now) (headerOf (a .h)) (query s) (a .place) (a .trail) (s .pre .1 .0) (w .before .next-letter .result) (w .before .next-letter .ensures .1), omega (arith, c .before .loop-test .taken, w .candidate-count .ensures))))
+  -- the candidate of a turn
+  inside : (c : Turn) → c .before .before .loop .k < length (candidates (start (head c) .args .image .now) (letter (head c)))
+  inside c = omega (arith, c .before .loop-test .taken, head c .candidate-count .ensures)
 
-  pub take-requires : lts.Need-take-requires (claims t) (at t) pair.Post Inv μ
+  pub candidate-requires : OfPair t lts.Need-candidate-requires
+  candidate-requires c κs = let o = pairing (head c) in (o .underway .accepted, (o .underway .indexed, (o .in-letters, inside c)))
+
+  chosen : (c : Chosen) → let w = head (c .before) in Candidate (start w .args .image .now) (letter w) (c .before .before .before .loop .k) (c .candidate .result)
+  chosen c = record { inside = inside (c .before); this = c .candidate .ensures .0 }
+
+  pub take-requires : OfPair t lts.Need-take-requires
   take-requires c κs =
-      let w = c .before .before .before .before in
-      let s = start w in
-      let a = s .args in (
-        s .pre .1 .0 .accepted,
-        (
-          s .pre .1 .0 .indexed,
-          (
-            s .pre .1 .0 .stands,
-            (
-              c .candidate .ensures .1,
-              candidate-spells (a .image .now) (restOf (a .image .now) (a .place)) (w .before .next-letter .result) (w .before .next-letter .ensures .0) (c .before .before .before .loop .k) (omega (arith, c .before .before .loop-test .taken, w .candidate-count .ensures)) (c .candidate .result) (c .candidate .ensures .0),
-            ),
-          ),
-        ),
-      )
+      let w = head (c .before) in
+      let a = start w .args in
+      let o = pairing w in
+      (o .underway .accepted, (o .underway .indexed, (o .underway .stands, (c .candidate .ensures .1, candidate-spells (restOf (a .image .now) (a .place)) (o .letter) (chosen c)))))
 
-  pub cast-with-pair : lts.Need-cast-with-pair (claims t) (at t) pair.Post Inv μ
+  -- it may be taken
+  pub cast-with-pair : OfPair t lts.Need-cast-with-pair
   cast-with-pair c =
-      let s = start (c .before .before .before .before .before .before .before) in
-      omega (arith, c .before .before .before .candidate .ensures .1, s .pre .1 .0 .accepted .laid .limits .pairs-most)
+      let c = c .before .before .before in
+      omega (arith, c .candidate .ensures .1, pairing (head (c .before)) .underway .accepted .laid .limits .pairs-most)
 
-  pub with-pair-requires : lts.Need-with-pair-requires (claims t) (at t) pair.Post Inv μ
-  with-pair-requires c κs = let w = c .before .before .before .before .before .before .before in (start w .pre .1 .0 .short, w .before .before .if2 .left)
+  pub with-pair-requires : OfPair t lts.Need-with-pair-requires
+  with-pair-requires c κs = let o = pairing (head (c .before .before .before .before)) in (o .underway .short, o .spare)
 
-  pub pair-requires : lts.Need-pair-requires (claims t) (at t) pair.Post Inv μ
+  pub pair-requires : OfPair t lts.Need-pair-requires
   pair-requires c κs =
-      let at = c .before .before .before .before .before .before .before .before in
-      let w = at .before in
+      let tried = c .before .before .before .before in
+      let here = tried .before .before in
+      let w = head here in
       let s = start w in
-      let a = s .args in
-      let k = at .loop .k in
-      let candidate = c .before .before .before .before .before .candidate in
-      let taken = c .before .before .before .before .take in
+      let o = pairing w in
+      let may = c .before .before .before .if4 .taken in
       let longer = c .before .with-pair in
-      let inside : k < length (candidates (a .image .now) (w .before .next-letter .result)) = omega (arith, c .before .before .before .before .before .before .before .loop-test .taken, w .candidate-count .ensures) in (
-        omega (arith, s .pre .0, pair-less (a .image .now) (a .index .now) (headerOf (a .h)) (query s) (a .place) (a .trail) (s .pre .1 .0) (w .before .before .if2 .left) (w .before .next-letter .result) (w .before .next-letter .ensures .0) k inside (candidate .result) (candidate .ensures .0) (taken .result .may) (taken .result .place) (taken .ensures) (longer .result) (longer .ensures) (c .before .before .before .if4 .taken)),
-        (
-          pair-ready (a .image .now) (a .index .now) (headerOf (a .h)) (query s) (a .place) (a .trail) (s .pre .1 .0) (w .before .before .if2 .left) (w .before .next-letter .result) (w .before .next-letter .ensures .0) k inside (candidate .result) (candidate .ensures .0) (taken .result .may) (taken .result .place) (taken .ensures) (longer .result) (longer .ensures) (c .before .before .before .if4 .taken),
-          (s .pre .1 .1 .0 ∙ ap (λ (n : ℕ). n / 116) (sym (at .loop .inv .1 .long ∙ w .before .before .before .before .before .before .finish .kept .1 .1 .1 .1 .1 .1 .1 .0)), c .before .before .before .before .before .before .if3 .left),
-        ),
-      )
+      let ended = w .before .before .before .before .before .before .put-ended in
+      (omega (arith, s .pre .0, pair-less o (chosen (tried .before)) (tried .take .ensures) may (longer .ensures)), (pair-underway o (chosen (tried .before)) (tried .take .ensures) may (longer .ensures), (s .pre .1 .1 .0 ∙ ap (λ (n : ℕ). n / 116) (sym (ended .kept .1 .1 .1 .1 .1 .1 .1 .0)) ∙ turns-rows (here .before .before .loop .inv .1), here .if3 .left)))
 
-  pub add-k : lts.Need-add-k (claims t) (at t) pair.Post Inv μ
+  pub add-k : OfPair t lts.Need-add-k
   add-k c = search needs
 
-  pub loop-less : lts.Need-loop-less (claims t) (at t) pair.Post Inv μ
+  pub loop-less : OfPair t lts.Need-loop-less
   loop-less c = search needs
 
-  pub loop-again : lts.Need-loop-again (claims t) (at t) pair.Post Inv μ
+  -- after a turn: the candidate that was taken put what it finds, or finds nothing
+  pub loop-again : OfPair t lts.Need-loop-again
   loop-again c =
-      let at = c .before .before .before .before .before in
-      let w = at .before in
-      let s = start w in
-      let a = s .args in
-      let k = at .loop .k in
-      let candidate = c .before .before .candidate in
-      let taken = c .before .take in
-      let inside : k < length (candidates (a .image .now) (w .before .next-letter .result)) = omega (arith, c .before .before .before .before .loop-test .taken, w .candidate-count .ensures) in (
-        omega (arith, c .before .before .before .before .loop-test .taken),
+      let tried = c .before in
+      let here = tried .before .before in
+      let o = pairing (head here) in
+      let loop = here .before .before .loop in (
+        omega (arith, here .before .loop-test .taken),
         ⊎-elim
-            (λ v. passed-is (passed-more _ (at .loop .inv .1) (v .4 .kept .1 .1 .1 .1 .1 .1 .1 .0) (v .4 .ensures) (pair-turn (a .image .now) (a .index .now) (headerOf (a .h)) (query s) (a .place) (a .trail) (s .pre .1 .0) (w .before .before .if2 .left) (w .before .next-letter .result) (w .before .next-letter .ensures .0) k inside (candidate .result) (candidate .ensures .0) (taken .result .may) (taken .result .place) (taken .ensures) (v .2 .result) (v .2 .ensures) (v .0 .taken))) (v .7) (v .8))
-            (λ v. passed-is (passed-skip (at .loop .inv .1) (pair-none (a .image .now) (a .index .now) (headerOf (a .h)) (query s) (a .place) (a .trail) (s .pre .1 .0) (w .before .before .if2 .left) (w .before .next-letter .result) (w .before .next-letter .ensures .0) k inside (candidate .result) (candidate .ensures .0) (taken .result .may) (taken .result .place) (taken .ensures) (v .0 .left))) (v .1) (v .2))
+            (λ v.
+            let longer = v .2 in
+            let call = v .4 in
+            turns-is (turns-more _ (loop .inv .1) (call .kept .1 .1 .1 .1 .1 .1 .1 .0) (call .ensures) (pair-turn o (chosen (tried .before)) (tried .take .ensures) (v .0 .taken) (longer .ensures))) (v .7) (v .8))
+            (λ v. turns-is (turns-skip (loop .inv .1) (pair-none o (chosen (tried .before)) (tried .take .ensures) (v .0 .left))) (v .1) (v .2))
             (c .if4 .came),
       )
 
-  pub same-length-4 : lts.Need-same-length-4 (claims t) (at t) pair.Post Inv μ
+  pub same-length-4 : OfPair t lts.Need-same-length-4
   same-length-4 c = search needs
 
-  pub returns-4 : lts.Need-returns-4 (claims t) (at t) pair.Post Inv μ
+  pub returns-4 : OfPair t lts.Need-returns-4
   returns-4 c =
       let w = c .before .before in
       let s = start w in
-      let a = s .args in
-      let ended = w .before .before .before .before .before .before .finish in
-      pair-put (a .image .now) (a .index .now) (headerOf (a .h)) (query s) (a .place) (a .trail) (s .pre .1 .0) (w .before .before .if2 .left) (w .before .next-letter .result) (w .before .next-letter .ensures .0) (shut (w .before .before .before)) (a .out .now) _ _ (a .found) _ _
-      (ended .kept .1 .1 .1 .1 .1 .1 .1 .0)
-      (ended .ensures)
-      (passed-all (length (candidates (a .image .now) (w .before .next-letter .result))) (c .before .loop .inv .1) (omega (arith, c .loop-test .left, c .before .loop .inv .0, w .candidate-count .ensures)))
+      let loop = c .before .loop in
+      let ended = w .before .before .before .before .before .before .put-ended in
+      pair-put (pairing w) (query s) (s .args .out .now) (s .args .found) (ended .kept .1 .1 .1 .1 .1 .1 .1 .0) (ended .ensures)
+      (turns-all (length (candidates (s .args .image .now) (letter w))) (loop .inv .1) (omega (arith, c .loop-test .left, loop .inv .0, w .candidate-count .ensures)))

@@ -1,6 +1,6 @@
 -- What the two members of the cycle share: the measures, what each is given at the measure t and what a call of it asks below t, the invariants.
 use Prim.Native.Nat.{ℕ, _<_, _≤_, _+_, _*_, _-_}
-use borrow.Fn.Kinds.{In}
+use borrow.Fn.Kinds.{In, Out}
 use borrow.Fn.PlainCycle.{Measures, is, falls, and}
 use Rattle.model.specs.Query.{queryOf}
 use Rattle.listing.specs.Asked.{requestOf}
@@ -10,8 +10,8 @@ use Rattle.listing.proofs.pairing.take.Reads as take-reads
 use Rattle.listing.proofs.place.enter.Reads as enter-reads
 use Rattle.rows.proofs.with_entry.Reads as with-entry-reads
 use Rattle.rows.proofs.with_pair.Reads as with-pair-reads
-use Rattle.search.proofs.Passing.{Passed}
-use Rattle.search.proofs.Heads.{room, pairAt}
+use Rattle.search.proofs.Turns.{TurnsPut}
+use Rattle.search.proofs.Heads.{stepsAfter, candidateOne}
 use Rattle.search.proofs.FirstLetters.{Known}
 use Rattle.search.proofs.open.Reads as «open»
 use Rattle.search.proofs.open.Kinds as open-kinds
@@ -21,17 +21,17 @@ use Rattle.search.proofs.pair.Kinds as pair-kinds
 use Rattle.search.proofs.+open+pair.Lts-pair as pair-lts
 use Rattle.search.proofs.here.candidate.Reads as candidate-reads
 use Rattle.search.proofs.here.candidate_count.Reads as candidate-count-reads
-use Rattle.search.proofs.here.finish.Reads as finish-reads
+use Rattle.search.proofs.here.put_ended.Reads as put-ended-reads
 use Rattle.search.proofs.here.next_letter.Reads as next-letter-reads
-use Rattle.search.proofs.here.opens.Reads as opens-reads
+use Rattle.search.proofs.here.opens_at.Reads as opens-at-reads
 use Rattle.search.proofs.starts.first_letter.Reads as first-letter-reads
 use Rattle.search.proofs.starts.look.Reads as look-reads
 
 abbrev pub μ-open : Measures 4 open-kinds.ps ℕ
-μ-open κs a = 2 * room (a .1 .1 .1 .1 .1 .1 .0)
+μ-open κs a = 2 * stepsAfter (a .1 .1 .1 .1 .1 .1 .0)
 
 abbrev pub μ-pair : Measures 4 pair-kinds.ps ℕ
-μ-pair κs a = 2 * room (a .1 .1 .1 .1 .1 .1 .0) + 1
+μ-pair κs a = 2 * stepsAfter (a .1 .1 .1 .1 .1 .1 .0) + 1
 
 abbrev pub open-at : ℕ → In 4 open-kinds.ps
 open-at t = and 4 open-kinds.ps (is 4 open-kinds.ps μ-open t) open.Pre
@@ -63,12 +63,12 @@ open-claims t = (
 
 abbrev pub pair-claims : ℕ → pair-lts.Claims
 pair-claims t = (
-  opens-reads.Asked,
-  opens-reads.Learnt,
+  opens-at-reads.Asked,
+  opens-at-reads.Learnt,
   open-below t,
   open.Post,
-  finish-reads.Asked,
-  finish-reads.Learnt,
+  put-ended-reads.Asked,
+  put-ended-reads.Learnt,
   next-letter-reads.Asked,
   next-letter-reads.Learnt,
   candidate-count-reads.Asked,
@@ -85,14 +85,21 @@ pair-claims t = (
 
 abbrev pub open-Inv-loop : open-lts.InvT-loop
 open-Inv-loop image index h d asked place trail out₀ capacity found low count known₀ n₀ k₀ out known n k =
-    (k ≤ count) × (Passed (openOne image (queryOf (requestOf d asked)) place trail low) out₀ found out n k × Known image (queryOf (requestOf d asked)) place trail known)
+    (k ≤ count) × (TurnsPut (openOne image (queryOf (requestOf d asked)) place trail low) out₀ found out n k × Known image (queryOf (requestOf d asked)) place trail known)
 
 abbrev pub open-μ-loop : open-lts.MeasureT-loop
 open-μ-loop image index h d asked place trail out₀ capacity found low count known₀ n₀ k₀ out known n k = count - k
 
 abbrev pub pair-Inv-loop : pair-lts.InvT-loop
 pair-Inv-loop image index h d asked place trail out₀ capacity found ended letter many n₀ k₀ out n k =
-    (k ≤ many) × Passed (pairAt image (queryOf (requestOf d asked)) place trail letter) out₀ ended out n k
+    (k ≤ many) × TurnsPut (candidateOne image (queryOf (requestOf d asked)) place trail (letter .0)) out₀ ended out n k
 
 abbrev pub pair-μ-loop : pair-lts.MeasureT-loop
 pair-μ-loop image index h d asked place trail out₀ capacity found ended letter many n₀ k₀ out n k = many - k
+
+-- a need of either, or a place of its code, at the measure t. Where a need takes `.kept .1 .1 .1 .1 .1 .1 .1 .0` of a call, that is: the buffer keeps its length
+abbrev pub OfOpen : ℕ → (open-lts.Claims → In 4 open-kinds.ps → Out 4 open-kinds.ps open-kinds.r → open-lts.InvT-loop → open-lts.MeasureT-loop → Type 0) → Type 0
+OfOpen t f = f (open-claims t) (open-at t) open.Post open-Inv-loop open-μ-loop
+
+abbrev pub OfPair : ℕ → (pair-lts.Claims → In 4 pair-kinds.ps → Out 4 pair-kinds.ps pair-kinds.r → pair-lts.InvT-loop → pair-lts.MeasureT-loop → Type 0) → Type 0
+OfPair t f = f (pair-claims t) (pair-at t) pair.Post pair-Inv-loop pair-μ-loop

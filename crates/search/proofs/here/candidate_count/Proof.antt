@@ -1,10 +1,12 @@
 -- `candidate_count` meets its contract.
 use borrow.Author.Needs.{needs}
 use mathlib.Core.Path.{_∙_}
-use Rattle.image.specs.Header.{headerOf}
 use Rattle.search.proofs.Candidates.{count-inside, count-is}
 use Rattle.search.proofs.here.candidate_count.Statement.{statement}
 use Rattle.search.proofs.here.candidate_count.Tie as tie
+
+cast-byte-at : tie.Need-cast-byte-at
+cast-byte-at c = search needs
 
 add-byte-at : tie.Need-add-byte-at
 add-byte-at c = search needs
@@ -13,10 +15,10 @@ mul-byte-at : tie.Need-mul-byte-at
 mul-byte-at c = search needs
 
 byte-at-requires : tie.Need-byte-at-requires
-byte-at-requires c κs = let start = c .before .before in count-inside (start .args .image .now) (start .args .index .now) (headerOf (start .args .h)) (start .pre .0) (start .pre .1 .0) (start .args .a) (start .pre .1 .1)
+byte-at-requires c κs = let start = c .before .before .before in count-inside (start .pre .0) (start .pre .1 .0) (start .pre .1 .1)
 
 returns : tie.Need-returns
-returns c = let start = c .before .before .before in c .byte-at .ensures .0 ∙ count-is (start .args .image .now) (start .args .index .now) (headerOf (start .args .h)) (start .pre .0) (start .pre .1 .0) (start .args .a) (start .pre .1 .1)
+returns c = let start = c .before .before .before .before in c .byte-at .ensures .0 ∙ count-is (start .pre .0) (start .pre .1 .0) (start .pre .1 .1)
 
 pub candidate-count-spec : {M : Type 1} → statement M
-candidate-count-spec = tie.close (tie.spec add-byte-at mul-byte-at byte-at-requires returns)
+candidate-count-spec = tie.close (tie.spec cast-byte-at add-byte-at mul-byte-at byte-at-requires returns)

@@ -7,13 +7,13 @@ use Rattle.model.specs.Query.{queryOf}
 use Rattle.image.specs.Index.{candidates}
 use Rattle.listing.specs.Asked.{requestOf}
 use Rattle.listing.specs.Places.{restOf}
-use Rattle.search.proofs.Candidates.{candidate-spells}
+use Rattle.search.proofs.Candidates.{Candidate, candidate-spells}
 use Rattle.search.proofs.FirstLetters.{Left, left-none, left-more, left-found, left-all}
 use Rattle.search.proofs.starts.can_start.Statement.{statement}
 use Rattle.search.proofs.starts.can_start.Tie as tie
 
 abbrev Inv-loop : tie.InvT-loop
-Inv-loop image index h d asked place letter many k₀ k = (k ≤ many) × Left image (queryOf (requestOf d asked)) place letter k
+Inv-loop image index h d asked place letter many k₀ k = (k ≤ many) × Left image (queryOf (requestOf d asked)) place (letter .0) k
 
 abbrev μ-loop : tie.MeasureT-loop
 μ-loop image index h d asked place letter many k₀ k = many - k
@@ -29,31 +29,25 @@ candidate-count-requires : tie.Need-candidate-count-requires Inv-loop μ-loop
 candidate-count-requires c κs = let s = c .before .before .before in (s .pre .0, (s .pre .1 .0, s .pre .1 .1 .1 .1))
 
 loop-holds : tie.Need-loop-holds Inv-loop μ-loop
-loop-holds c = let a = start c .args in (search needs, left-none (a .image .now) (queryOf (requestOf (a .d) (a .asked .now))) (a .place) (a .letter))
+loop-holds c = let a = start c .args in (search needs, left-none (a .image .now) (queryOf (requestOf (a .d) (a .asked .now))) (a .place) (a .letter .0))
+
+-- the candidate of a turn
+inside : (c : tie.In-loop Inv-loop μ-loop) → let a = start (c .before .before) .args in c .before .loop .k < length (candidates (a .image .now) (a .letter .0))
+inside c = omega (arith, c .loop-test .taken, c .before .before .candidate-count .ensures)
 
 candidate-requires : tie.Need-candidate-requires Inv-loop μ-loop
-candidate-requires c κs =
-    let w = c .before .before in
-    let s = start w in
-    (s .pre .0, (s .pre .1 .0, (s .pre .1 .1 .1 .1, omega (arith, c .loop-test .taken, w .candidate-count .ensures))))
+candidate-requires c κs = let s = start (c .before .before) in (s .pre .0, (s .pre .1 .0, (s .pre .1 .1 .1 .1, inside c)))
+
+chosen : (c : tie.After-candidate Inv-loop μ-loop) → let a = start (c .before .before .before) .args in Candidate (a .image .now) (a .letter .0) (c .before .before .loop .k) (c .candidate .result)
+chosen c = record { inside = inside (c .before); this = c .candidate .ensures .0 }
 
 take-requires : tie.Need-take-requires Inv-loop μ-loop
 take-requires c κs =
-    let w = c .before .before .before in
-    let s = start w in
-    let a = s .args in
-    let inside : c .before .before .loop .k < length (candidates (a .image .now) (a .letter)) = omega (arith, c .before .loop-test .taken, w .candidate-count .ensures) in
-    (s .pre .0, (s .pre .1 .0, (s .pre .1 .1 .0, (c .candidate .ensures .1, candidate-spells (a .image .now) (restOf (a .image .now) (a .place)) (a .letter) (s .pre .1 .1 .1 .0) (c .before .before .loop .k) inside (c .candidate .result) (c .candidate .ensures .0)))))
+    let s = start (c .before .before .before) in
+    (s .pre .0, (s .pre .1 .0, (s .pre .1 .1 .0, (c .candidate .ensures .1, candidate-spells (restOf (s .args .image .now) (s .args .place)) (s .pre .1 .1 .1 .0) (chosen c)))))
 
 returns : tie.Need-returns Inv-loop μ-loop
-returns c =
-    let at = c .before .before .before .before in
-    let w = at .before in
-    let a = start w .args in
-    let candidate = c .before .before .candidate in
-    let taken = c .before .take in
-    let inside : at .loop .k < length (candidates (a .image .now) (a .letter)) = omega (arith, c .before .before .before .loop-test .taken, w .candidate-count .ensures) in
-    left-found (a .image .now) (queryOf (requestOf (a .d) (a .asked .now))) (a .place) (a .letter) (at .loop .k) inside (candidate .result) (candidate .ensures .0) (taken .result .may) (taken .result .place) (taken .ensures) (at .loop .inv .1) (c .if1 .taken)
+returns c = let tried = c .before in left-found (chosen (tried .before)) (tried .take .ensures) (tried .before .before .before .loop .inv .1) (c .if1 .taken)
 
 add-k : tie.Need-add-k Inv-loop μ-loop
 add-k c = search needs
@@ -62,20 +56,13 @@ loop-less : tie.Need-loop-less Inv-loop μ-loop
 loop-less c = search needs
 
 loop-again : tie.Need-loop-again Inv-loop μ-loop
-loop-again c =
-    let at = c .before .before .before .before in
-    let w = at .before in
-    let a = start w .args in
-    let candidate = c .before .before .candidate in
-    let taken = c .before .take in
-    let inside : at .loop .k < length (candidates (a .image .now) (a .letter)) = omega (arith, c .before .before .before .loop-test .taken, w .candidate-count .ensures) in
-    (search needs, left-more (a .image .now) (queryOf (requestOf (a .d) (a .asked .now))) (a .place) (a .letter) (at .loop .k) inside (candidate .result) (candidate .ensures .0) (taken .result .may) (taken .result .place) (taken .ensures) (at .loop .inv .1) (c .if1 .left))
+loop-again c = let tried = c .before in (search needs, left-more (chosen (tried .before)) (tried .take .ensures) (tried .before .before .before .loop .inv .1) (c .if1 .left))
 
 returns-2 : tie.Need-returns-2 Inv-loop μ-loop
 returns-2 c =
     let w = c .before .before in
     let a = start w .args in
-    left-all (a .image .now) (queryOf (requestOf (a .d) (a .asked .now))) (a .place) (a .letter) (c .before .loop .k) (omega (arith, c .loop-test .left, w .candidate-count .ensures)) (c .before .loop .inv .1)
+    left-all (a .image .now) (queryOf (requestOf (a .d) (a .asked .now))) (a .place) (a .letter .0) (c .before .loop .k) (omega (arith, c .loop-test .left, w .candidate-count .ensures)) (c .before .loop .inv .1)
 
 pub can-start-spec : {M : Type 1} → statement M
 can-start-spec =

@@ -11,11 +11,11 @@ use Rattle.search.proofs.starts.first_letter.Tie as tie
 entry-start-requires : tie.Need-entry-start-requires
 entry-start-requires c κs = search needs
 
-add-byte-at : tie.Need-add-byte-at
-add-byte-at c = search needs
+add-lexical-at : tie.Need-add-lexical-at
+add-lexical-at c = search needs
 
-byte-at-requires : tie.Need-byte-at-requires
-byte-at-requires c κs =
+lexical-at-requires : tie.Need-lexical-at-requires
+lexical-at-requires c κs =
     let start = c .before .before in
     let a = start .args in
     rw (c .entry-start .ensures) (first-inside (a .image .now) (headerOf (a .h)) (start .pre .0) (a .e) (start .pre .1))
@@ -26,8 +26,8 @@ returns c =
     let a = start .args in
     let image = a .image .now in
     let h = headerOf (a .h) in
-    let e = c .byte-at .ensures .0 ∙ ap (λ (i : ℕ). byte image (i + 1)) (c .before .entry-start .ensures) ∙ first-is image h (start .pre .0) (a .e) (start .pre .1) in
+    let e = c .lexical-at .ensures ∙ ap (λ (i : ℕ). byte image (i + 1)) (c .before .entry-start .ensures) ∙ first-is image h (start .pre .0) (a .e) (start .pre .1) in
     (e, subst (λ (x : ℕ). x ≤ h .letters) (sym e) (first-most image h (start .pre .0) (a .e) (start .pre .1)))
 
 pub first-letter-spec : {M : Type 1} → statement M
-first-letter-spec = tie.close (tie.spec entry-start-requires add-byte-at byte-at-requires returns)
+first-letter-spec = tie.close (tie.spec entry-start-requires add-lexical-at lexical-at-requires returns)

@@ -1,4 +1,4 @@
--- `finish` meets its contract: nothing ends while letters are left, and what ends is put.
+-- `put_ended` meets its contract: nothing ends while letters are left, and what ends is put.
 use borrow.Author.Needs.{needs}
 use borrow.Author.Tests.{not-true, not-false}
 use native.Mathlib.Omega.{arith}
@@ -7,8 +7,8 @@ use Rattle.model.specs.Query.{queryOf}
 use Rattle.rows.proofs.Fill.{putAll-none, putAll-one}
 use Rattle.listing.specs.Asked.{requestOf}
 use Rattle.search.proofs.Standing.{not-ended, ended-onward}
-use Rattle.search.proofs.here.finish.Statement.{statement}
-use Rattle.search.proofs.here.finish.Tie as tie
+use Rattle.search.proofs.here.put_ended.Statement.{statement}
+use Rattle.search.proofs.here.put_ended.Tie as tie
 
 returns : tie.Need-returns
 returns c =
@@ -19,8 +19,8 @@ returns c =
 ends-requires : tie.Need-ends-requires
 ends-requires c κs =
     let start = c .before .before .before .before .before .before in
-    let ready = start .pre .0 in
-    (ready .accepted, (ready .indexed, (ready .stands, (omega (arith, c .if1 .left, ready .stands .in-order), ended-onward (start .args .place) (start .pre .1 .0) (c .if1 .left)))))
+    let underway = start .pre .0 in
+    (underway .accepted, (underway .indexed, (underway .stands, (omega (arith, c .if1 .left, underway .stands .in-order), ended-onward (start .args .place) (start .pre .1 .0) (c .if1 .left)))))
 
 returns-2 : tie.Need-returns-2
 returns-2 c =
@@ -39,5 +39,5 @@ returns-3 c =
     let a = ended .before .before .before .before .before .before .before .args in
     c .before .before .emit .ensures ∙ rw (sym (ended .ends .ensures (a .trail .pairs)) ∙ not-false (ended .ends .result) (c .before .before .before .before .if2 .left)) (sym (putAll-one _ _ _))
 
-pub finish-spec : {M : Type 1} → statement M
-finish-spec = tie.close (tie.spec returns ends-requires returns-2 emit-requires same-length returns-3)
+pub put-ended-spec : {M : Type 1} → statement M
+put-ended-spec = tie.close (tie.spec returns ends-requires returns-2 emit-requires same-length returns-3)
