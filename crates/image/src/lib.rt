@@ -6,6 +6,7 @@ ghost use Rattle.model.specs.Lists.{byte, number};
 ghost use Rattle.model.specs.Blocks.{weightedSum, checkOf, header};
 ghost use Rattle.image.specs.Header.{headerOf};
 
+pub mod kinds;
 pub mod seal;
 
 // A byte as a number.

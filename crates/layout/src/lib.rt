@@ -11,11 +11,7 @@ ghost use Rattle.image.specs.Header.{headerOf};
 ghost use Rattle.image.specs.Laid.{Limited};
 ghost use Rattle.layout.specs.Kinds.{inAll, firstBlock};
 use image::Header;
-
-// By kind: the width of a record, and how many records a block holds at the most.
-const WIDTH: [usize; 7] = [0, 12, 2, 2, 506, 2, 16];
-
-const PER_BLOCK: [usize; 7] = [0, 42, 253, 253, 1, 253, 31];
+use image::kinds;
 
 fn right_block(block: &[u8], k: usize) -> bool
     requires { ⌜ length (now block) ≡ 512 ⌝ }
@@ -132,7 +128,7 @@ fn records_at(h: Header, k: usize) -> usize
     ensures { λ r. ⌜ (r ≡ recordsAt (headerOf h) k) × (r ≤ 253) ⌝ }
 {
     let kind = kind_at(h, k);
-    let most = PER_BLOCK[kind];
+    let most = kinds::per_block(kind);
     let all = in_all(h, kind);
     let before = most * (k - first_block(h, kind));
     if all < before {
@@ -155,7 +151,7 @@ fn laid_out(block: &[u8], h: Header, k: usize) -> bool
     if image::byte_at(block, 3) != records {
         return false;
     }
-    zeros(block, 4 + WIDTH[kind] * records, 510)
+    zeros(block, 4 + kinds::width(kind) * records, 510)
 }
 
 fn all_laid_out(image: &[u8], h: Header) -> bool
@@ -180,7 +176,7 @@ fn block_total(h: Header) -> usize
     requires { ⌜ Limited (headerOf h) ⌝ }
     ensures { λ r. ⌜ r ≡ blockTotal (headerOf h) ⌝ }
 {
-    4 + h.rules + (h.entries + 30) / 31
+    4 + h.rules + (h.entries + (kinds::ENTRIES_PER_BLOCK - 1)) / kinds::ENTRIES_PER_BLOCK
 }
 
 // Test 3.

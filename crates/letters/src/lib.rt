@@ -12,6 +12,7 @@ ghost use Rattle.image.specs.Header.{headerOf};
 ghost use Rattle.image.specs.Laid.{Laid};
 ghost use Rattle.letters.specs.Sides.{sidesOf};
 use image::Header;
+use image::kinds;
 
 // A letter of the lexical level.
 pub struct Lexical(pub u8);
@@ -24,7 +25,7 @@ fn code_point(image: &[u8], i: usize) -> usize
     requires { ⌜ Laid (now image) (header (now image)) × (i < header (now image) .letters) ⌝ }
     ensures { λ r. ⌜ r ≡ getD (codePoints (now (image .entry))) i 0 ⌝ }
 {
-    image::number_at(image, 516 + 2 * i)
+    image::number_at(image, 516 + kinds::LETTER_WIDTH * i)
 }
 
 fn is_code_point(n: usize) -> bool
@@ -102,7 +103,7 @@ pub fn lexical_side(image: &[u8], p: usize) -> Lexical
     requires { ⌜ Laid (now image) (header (now image)) × (p < header (now image) .pairs) ⌝ }
     ensures { λ r. ⌜ r .0 ≡ getD (pairs (now (image .entry))) p boundaryPair .lexical ⌝ }
 {
-    let at = 1028 + 2 * p;
+    let at = 1028 + kinds::PAIR_WIDTH * p;
     Lexical(image[at])
 }
 
@@ -111,7 +112,7 @@ pub fn surface_side(image: &[u8], p: usize) -> Surface
     requires { ⌜ Laid (now image) (header (now image)) × (p < header (now image) .pairs) ⌝ }
     ensures { λ r. ⌜ r .0 ≡ getD (pairs (now (image .entry))) p boundaryPair .surface ⌝ }
 {
-    let at = 1029 + 2 * p;
+    let at = 1029 + kinds::PAIR_WIDTH * p;
     Surface(image[at])
 }
 
