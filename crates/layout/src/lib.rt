@@ -2,9 +2,9 @@
 ghost use mathlib.Core.Path.{_≡_};
 ghost use mathlib.Core.Bool.{true, _&&_};
 ghost use Prim.Native.Nat.{_+_, _*_, _<_, _≤_};
-ghost use lib.ListN.{length, take, drop};
+ghost use lib.ListN.{length};
 ghost use lib.Dec.{eqb};
-ghost use Rattle.model.specs.Lists.{below, every, isZero};
+ghost use Rattle.model.specs.Lists.{below, every};
 ghost use Rattle.model.specs.Blocks.{block, blockCount, blockNumber, blockCheck, checkOf, kindAt, recordsAt, laidOut, withinLimits, blockTotal};
 ghost use Rattle.model.specs.Refusals.{rightLength, rightChecks, rightLayout};
 ghost use Rattle.image.specs.Header.{headerOf};
@@ -37,21 +37,6 @@ pub fn right_checks(image: &[u8]) -> bool
             return false;
         }
         k += 1;
-    }
-    true
-}
-
-// Every byte of a block from one place to another is 0.
-fn zeros(block: &[u8], from: usize, to: usize) -> bool
-    requires { ⌜ to ≤ length (now block) ⌝ }
-    ensures { λ r. ⌜ r ≡ every isZero (drop from (take to (now (block .entry)))) ⌝ }
-{
-    let mut i = from;
-    while i < to {
-        if image::byte_at(block, i) != 0 {
-            return false;
-        }
-        i += 1;
     }
     true
 }
@@ -151,7 +136,7 @@ fn laid_out(block: &[u8], h: Header, k: usize) -> bool
     if image::byte_at(block, 3) != records {
         return false;
     }
-    zeros(block, 4 + kinds::width(kind) * records, 510)
+    image::are_zeros(block, 4 + kinds::width(kind) * records, 510)
 }
 
 fn all_laid_out(image: &[u8], h: Header) -> bool

@@ -6,7 +6,7 @@ ghost use mathlib.Core.Bool.{_||_};
 ghost use Prim.Native.Nat.{_+_, _*_, _/_, _%_, _<_, _≤_};
 ghost use lib.ListN.{length, take, drop};
 ghost use lib.Dec.{ltb, eqb};
-ghost use Rattle.model.specs.Lists.{below, every, within, isZero};
+ghost use Rattle.model.specs.Lists.{below, every, within};
 ghost use Rattle.model.specs.Blocks.{entryBlock};
 ghost use Rattle.model.specs.Lexicon.{entryCount, firstEntry, entry, formLength, continuation, isEntry};
 ghost use Rattle.model.specs.Refusals.{rightEntries};
@@ -83,21 +83,6 @@ pub fn are_letters(bytes: &[u8], from: usize, end: usize, letters: usize) -> boo
     true
 }
 
-// Whether each byte from `from` up to `end` is 0.
-fn are_zeros(image: &[u8], from: usize, end: usize) -> bool
-    requires { ⌜ (from ≤ end) × (end ≤ length (now image)) ⌝ }
-    ensures { λ r. ⌜ r ≡ every isZero (drop from (take end (now (image .entry)))) ⌝ }
-{
-    let mut at = from;
-    while at < end {
-        if image::byte_at(image, at) != 0 {
-            return false;
-        }
-        at += 1;
-    }
-    true
-}
-
 // Whether a continuation is a lexicon or 255, the end of a path.
 fn is_continuation(continuation: usize, lexicons: usize) -> bool
     ensures { λ r. ⌜ r ≡ (ltb continuation lexicons || eqb continuation 255) ⌝ }
@@ -121,7 +106,7 @@ fn is_entry(image: &[u8], at: usize, letters: usize, lexicons: usize) -> bool
     if !are_letters(image, at + 1, form_end, letters) {
         return false;
     }
-    if !are_zeros(image, form_end, at + 13) {
+    if !image::are_zeros(image, form_end, at + 13) {
         return false;
     }
     is_continuation(image::byte_at(image, at + 13), lexicons)

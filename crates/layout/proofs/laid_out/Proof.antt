@@ -48,14 +48,14 @@ returns-2 c =
 width-requires : tie.Need-width-requires
 width-requires c κs = search needs
 
-mul-zeros : tie.Need-mul-zeros
-mul-zeros c = omega (arith, small c)
+mul-are-zeros : tie.Need-mul-are-zeros
+mul-are-zeros c = omega (arith, small c)
 
-add-zeros : tie.Need-add-zeros
-add-zeros c = omega (arith, small c)
+add-are-zeros : tie.Need-add-are-zeros
+add-are-zeros c = omega (arith, small c)
 
-zeros-requires : tie.Need-zeros-requires
-zeros-requires c κs = search needs
+are-zeros-requires : tie.Need-are-zeros-requires
+are-zeros-requires c κs = search needs
 
 returns-3 : tie.Need-returns-3
 returns-3 c =
@@ -66,7 +66,7 @@ returns-3 c =
     let b = start .args .block .now in
     let k = one .before .before .kind-at in
     let n = two .before .before .records-at in
-    c .zeros .ensures
+    c .are-zeros .ensures
     ∙ ap (λ (w : ℕ). every isZero (drop (4 + w * n .result) (take 510 b))) (width .ensures)
     ∙ ap₂ (λ (x y : ℕ). every isZero (drop (4 + recordWidth x * y) (take 510 b))) (k .ensures .0) (n .ensures .0)
     ∙ sym (laid-rest (headerOf (start .args .h)) (start .args .k) b (kind one) (sym (two .before .byte-at2 .ensures .0) ∙ two .if2 .left ∙ n .ensures .0))
@@ -82,7 +82,7 @@ laid-out-spec =
     byte-at-requires-2
     returns-2
     width-requires
-    mul-zeros
-    add-zeros
-    zeros-requires
+    mul-are-zeros
+    add-are-zeros
+    are-zeros-requires
     returns-3)
