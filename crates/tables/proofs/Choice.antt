@@ -10,9 +10,8 @@ use lib.Dec.{T, ltb, eqb}
 use borrow.Author.Count.{below-more}
 use borrow.Author.Tests.{eq-eqb, ne-eqb, lt-ltb, le-ltb}
 use Rattle.model.specs.Lists.{below, every, first}
-use Rattle.model.proofs.Booleans.{true-of, of-true}
-use Rattle.model.proofs.Lists.{every-in, below-from}
-use Rattle.tables.proofs.Lists.{left-false, right-false, left-true, every-below-fails}
+use Rattle.model.proofs.Booleans.{left-true, left-false, right-false, true-of, of-true}
+use Rattle.model.proofs.Lists.{every-in, every-fails, below-from}
 
 -- the first number that passes: of a list in two parts, where none passes, and where one does
 module _ (f : ℕ → Bool) where
@@ -85,7 +84,7 @@ module _ (matching : ℕ → Bool) (broad : ℕ → ℕ) where
     unmatched c e = left-false (matching c) (every (yields c) (below n)) e
 
     beaten : (c d : ℕ) → d < n → (d ≡ c → ⊥) → matching d ≡ true → broad d ≤ broad c → taken n c ≡ false
-    beaten c d h u m k = right-false (matching c) (every (yields c) (below n)) (every-below-fails (yields c) n d h (stands c d u m k))
+    beaten c d h u m k = right-false (matching c) (every (yields c) (below n)) (every-fails (yields c) n d h (stands c d u m k))
 
     wins : (c : ℕ) → matching c ≡ true → ((d : ℕ) → d < n → (d ≡ c → ⊥) → matching d ≡ true → broad c < broad d) → taken n c ≡ true
     wins c m less = left-true (matching c) (every (yields c) (below n)) m ∙ true-of (every (yields c) (below n)) (every-in (yields c) (below n) each)
