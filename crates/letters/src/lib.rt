@@ -10,7 +10,7 @@ ghost use Rattle.model.specs.RuleTables.{codePoints, isCodePoint, pairs, bounda
 ghost use Rattle.model.specs.Refusals.{rightLetters, rightPairs};
 ghost use Rattle.image.specs.Header.{headerOf};
 ghost use Rattle.image.specs.Laid.{Laid};
-ghost use Rattle.letters.specs.Sides.{sidesOf};
+ghost use Rattle.letters.specs.Sides.{pairOf};
 use image::Header;
 use image::kinds;
 
@@ -143,7 +143,7 @@ fn is_side(side: u8, letters: usize) -> bool
 }
 
 fn is_pair(lexical: Lexical, surface: Surface, letters: usize) -> bool
-    ensures { λ r. ⌜ r ≡ isPair letters (sidesOf lexical surface) ⌝ }
+    ensures { λ r. ⌜ r ≡ isPair letters (pairOf lexical surface) ⌝ }
 {
     if !is_side(lexical.0, letters) {
         return false;
