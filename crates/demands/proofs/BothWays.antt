@@ -18,14 +18,14 @@ use Rattle.model.specs.Rows.{Reply, padded, rowNumbers, rowBytes}
 use Rattle.model.specs.Calls.{allReadings}
 use Rattle.model.specs.Demand.{Demand3, IsMore, rowsHandedBack}
 use Rattle.model.proofs.Booleans.{and-out, and-in, true-of, of-true, eq→eqb, within-in}
-use Rattle.model.proofs.Lists.{length-map-below, getD-map-below, flatMap-append}
+use Rattle.model.proofs.Lists.{member-at, length-map-below, getD-map-below, flatMap-append}
 use Rattle.model.proofs.Parts.{length-parts}
 use Rattle.model.proofs.Demand.{tests-append}
 use Rattle.model.proofs.Converse.{converse}
 use Rattle.letters.proofs.Laws.{IsSide, right-pair}
 use Rattle.grammar.proofs.Verdicts.{accepted-image}
 use Rattle.print.specs.Text.{rowReading}
-use Rattle.print.proofs.Text.{TwoBytes, number-at, getD-in, row-reading}
+use Rattle.print.proofs.Text.{TwoBytes, number-at, row-reading}
 use Rattle.print.proofs.Small.{Small, reading-small}
 use Rattle.demands.specs.Words.{Asks, pathBytes}
 use Rattle.demands.proofs.Refusing.{Case}
@@ -43,7 +43,7 @@ module _ (es : List ℕ) where
       let n : length (pathBytes es) / 2 ≡ length es = omega (arith, length-pathBytes) in
       ap (λ (k : ℕ). map at (below k)) n
       ∙ ext-getD 0 (map at (below (length es))) es (length-map-below at (length es))
-      (λ i h. let k : i < length es = omega (arith, length-map-below at (length es)) in getD-map-below at (length es) i 0 k ∙ number-at es i (small (getD es i 0) (getD-in es i k)))
+      (λ i h. let k : i < length es = omega (arith, length-map-below at (length es)) in getD-map-below at (length es) i 0 k ∙ number-at es i (small (getD es i 0) (member-at es i 0 k)))
 
 -- letters that are no null
 letters-right : (letters : ℕ) (side : ℕ → ℕ) (pairs : ℕ) → ((p : ℕ) → p < pairs → IsSide letters (side p)) → (ps : List ℕ) → T (every (λ p. ltb p pairs) ps) → T (every (within 2 letters) (spelled side ps))

@@ -119,18 +119,32 @@ module _ (image : List ℕ) (e : ℕ) where
   unfolding formReply
   form-there f h = rw (view-accepted f, lt-ltb e (header image .entries) h) refl
 
+  -- the first n letters of the form's part; the view and its companion after a verdict
+  abbrev letters : ℕ → List ℕ
+  letters n = take n (drop (formStart image e) image)
+
+  abbrev view : Verdict → List ℕ
+  view v = viewAfter v (letters (formLength (entry image e)))
+
+  abbrev reply : Verdict → beside.FormReply
+  reply v = formReplyAfter v (formLength (entry image e))
+
   -- the two agree
-  view-of : (v : Verdict) → firstFailing (viewTests image e) ≡ v → ((k : ℕ) → formReplyAfter v (formLength (entry image e)) ≡ beside.FormReply.refused k → viewAfter v (take (formLength (entry image e)) (drop (formStart image e) image)) ≡ []) × ((n : ℕ) → formReplyAfter v (formLength (entry image e)) ≡ beside.FormReply.letters n → viewAfter v (take (formLength (entry image e)) (drop (formStart image e) image)) ≡ take n (drop (formStart image e) image))
-  view-of Verdict.accepted q = (λ k f. let z : _≡_ {A = ℕ} 0 1 = cc in absurd (omega arith), λ n f. let m : formLength (entry image e) ≡ n = cc in ap (λ (m : ℕ). take m (drop (formStart image e) image)) m)
-  view-of (Verdict.refused j) q = (λ k f. refl, λ n f. let z : _≡_ {A = ℕ} 0 1 = cc in absurd (omega arith))
+  none-viewed : (v : Verdict) (k : ℕ) → reply v ≡ beside.FormReply.refused k → view v ≡ []
+  none-viewed Verdict.accepted k f = let z : _≡_ {A = ℕ} 0 1 = cc in absurd (omega arith)
+  none-viewed (Verdict.refused j) k f = refl
+
+  letters-viewed : (v : Verdict) (n : ℕ) → reply v ≡ beside.FormReply.letters n → view v ≡ letters n
+  letters-viewed Verdict.accepted n f = let m : formLength (entry image e) ≡ n = cc in ap letters m
+  letters-viewed (Verdict.refused j) n f = let z : _≡_ {A = ℕ} 0 1 = cc in absurd (omega arith)
 
   pub view-none : (k : ℕ) → formReply image e ≡ beside.FormReply.refused k → [] ≡ viewed image e
   unfolding viewed formReply
-  view-none k f = sym ((view-of (firstFailing (viewTests image e)) refl) .0 k f)
+  view-none k f = sym (none-viewed (firstFailing (viewTests image e)) k f)
 
   pub view-letters : (n : ℕ) → formReply image e ≡ beside.FormReply.letters n → take n (drop (formStart image e) image) ≡ viewed image e
   unfolding viewed formReply
-  view-letters n f = sym ((view-of (firstFailing (viewTests image e)) refl) .1 n f)
+  view-letters n f = sym (letters-viewed (firstFailing (viewTests image e)) n f)
 
 -- what a companion that tells a length has shown
 pub record Viewed (image : List ℕ) (e n : ℕ) : Type 0 where

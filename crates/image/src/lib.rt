@@ -1,11 +1,12 @@
 // An image's bytes and two-byte numbers, the check of a block, the header, and sealing.
 ghost use mathlib.Core.Path.{_≡_};
 ghost use Prim.Native.Nat.{_+_, _<_, _≤_};
-ghost use lib.ListN.{length, take};
-ghost use Rattle.model.specs.Lists.{byte, number};
+ghost use lib.ListN.{length, take, drop};
+ghost use Rattle.model.specs.Lists.{every, isZero, byte, number};
 ghost use Rattle.model.specs.Blocks.{weightedSum, checkOf, header};
 ghost use Rattle.image.specs.Header.{headerOf};
 
+pub mod kinds;
 pub mod seal;
 
 // A byte as a number.
@@ -22,6 +23,21 @@ pub fn number_at(bytes: &[u8], at: usize) -> usize
     ensures { λ r. ⌜ (r ≡ number (now (bytes .entry)) at) × (r < 65536) ⌝ }
 {
     byte_at(bytes, at) + 256 * byte_at(bytes, at + 1)
+}
+
+// Whether each byte from `from` up to `end` is 0.
+pub fn are_zeros(bytes: &[u8], from: usize, end: usize) -> bool
+    requires { ⌜ end ≤ length (now bytes) ⌝ }
+    ensures { λ r. ⌜ r ≡ every isZero (drop from (take end (now (bytes .entry)))) ⌝ }
+{
+    let mut i = from;
+    while i < end {
+        if byte_at(bytes, i) != 0 {
+            return false;
+        }
+        i += 1;
+    }
+    true
 }
 
 // The weighted sum of a block's first 510 bytes. Each of its terms is at most 510 * 255, so the whole sum fits with no remainder taken on the way.

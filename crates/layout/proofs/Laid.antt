@@ -1,24 +1,19 @@
 -- From tests 1 and 3 to facts: the limits, and that an image is laid out.
 use Prim.Native.Nat.{ℕ, _+_, _*_, _/_, _≤_}
 use native.Mathlib.Omega.{arith}
+use native.Mathlib.Decide.{decLe}
 use mathlib.Core.Bool.{Bool, true, false, _&&_}
 use mathlib.Core.Path.{_≡_, refl, sym, ap, _∙_}
 use mathlib.Core.List.{List}
 use lib.ListN.{length}
-use lib.Dec.{T, leb, eqb, eqb→eq, leb·zero}
-use borrow.Author.Tests.{eq-eqb, ne-eqb}
+use lib.Dec.{T, leb, eqb, eqb→eq}
+use borrow.Author.Tests.{eq-eqb, ne-eqb, le-leb, lt-leb}
 use Rattle.model.specs.Lists.{below, every, within}
 use Rattle.model.specs.Blocks.{Header, header, block, blockCount, blockTotal, withinLimits, laidOut}
 use Rattle.model.specs.Refusals.{rightLength, rightLayout}
-use Rattle.model.proofs.Booleans.{out4, out5, within-out, true-of, of-true}
+use Rattle.model.proofs.Booleans.{in5, out4, out5, within-in, within-out, true-of, of-true}
 use Rattle.model.proofs.Sealing.{right-blocks}
 use Rattle.image.specs.Laid.{Limited, Laid}
-
--- every limit but the last
-pub limits-last : (h : Header) → leb 2 (h .letters) ≡ true → leb (h .letters) 120 ≡ true → leb 1 (h .pairs) ≡ true → leb (h .pairs) 250 ≡ true → leb (h .rules) 32 ≡ true → leb 1 (h .lexicons) ≡ true → leb (h .lexicons) 64 ≡ true → leb 1 (h .entries) ≡ true
-    → withinLimits h ≡ leb (h .entries) 2800
-unfolding withinLimits
-limits-last h a b c d e f g i = rw (a, b, c, d, leb·zero (h .rules), e, f, g, i) refl
 
 pub limited : (h : Header) → withinLimits h ≡ true → Limited h
 unfolding withinLimits
@@ -30,6 +25,34 @@ limited h e =
     let d = within-out 1 64 (h .lexicons) (t .3) in
     let f = within-out 1 2800 (h .entries) (t .4) in
     record { letters-least = a .0; letters-most = a .1; pairs-least = b .0; pairs-most = b .1; rules-most = c .1; lexicons-least = d .0; lexicons-most = d .1; entries-least = f .0; entries-most = f .1 }
+
+-- and back: counts that keep the limits pass, and a limit that is not kept fails
+module _ (h : Header) where
+  pub limits-kept : Limited h → withinLimits h ≡ true
+  unfolding withinLimits
+  limits-kept l =
+      true-of (withinLimits h)
+      (in5 (within 2 120 (h .letters)) (within 1 250 (h .pairs)) (within 0 32 (h .rules)) (within 1 64 (h .lexicons)) (within 1 2800 (h .entries))
+      (within-in 2 120 (h .letters) (l .letters-least) (l .letters-most))
+      (within-in 1 250 (h .pairs) (l .pairs-least) (l .pairs-most))
+      (within-in 0 32 (h .rules) (omega arith) (l .rules-most))
+      (within-in 1 64 (h .lexicons) (l .lexicons-least) (l .lexicons-most))
+      (within-in 1 2800 (h .entries) (l .entries-least) (l .entries-most)))
+
+  pub limits-broken : (Limited h → ⊥) → withinLimits h ≡ false
+  limits-broken f = go (withinLimits h) refl
+    where
+      go : (b : Bool) → withinLimits h ≡ b → withinLimits h ≡ false
+      go true e = absurd (f (limited h e))
+      go false e = e
+
+  -- where every other limit is kept, the last decides
+  pub limits-last : (h .entries ≤ 2800 → Limited h) → withinLimits h ≡ leb (h .entries) 2800
+  limits-last f = go (decLe (h .entries) 2800)
+    where
+      go : Dec (h .entries ≤ 2800) → withinLimits h ≡ leb (h .entries) 2800
+      go (yes m) = limits-kept (f m) ∙ sym (le-leb (h .entries) 2800 m)
+      go (no n) = limits-broken (λ l. n (l .entries-most)) ∙ sym (lt-leb (h .entries) 2800 (omega arith))
 
 -- the four parts of test 3, in the order of the tests, for a header that was read
 module _ (image : List ℕ) (h : Header) (e : h ≡ header image) where

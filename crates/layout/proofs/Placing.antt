@@ -11,7 +11,8 @@ use borrow.Author.Tests.{lt-ltb, le-ltb, eq-eqb, ne-eqb}
 use Rattle.model.specs.Blocks.{Header, kindAt, recordsAt, recordWidth, entryBlock, laidOut}
 use Rattle.model.specs.Lists.{every, isZero, byte}
 use Rattle.image.specs.Laid.{Limited}
-use Rattle.layout.specs.Kinds.{perBlock, inAll, firstBlock}
+use Rattle.image.specs.Kinds.{perBlock}
+use Rattle.layout.specs.Kinds.{inAll, firstBlock}
 
 module _ (h : Header) (k : ℕ) where
   pub kind-low : k < 3 → kindAt h k ≡ k + 1

@@ -1,11 +1,8 @@
--- Kinds as the code's tables have them: records in a block at the most, records in all, and the first block.
+-- By kind: records in all, and the first block.
 use Prim.Native.Nat.{ℕ, _+_}
 use mathlib.Core.List.{List, [], _∷_}
 use lib.ListN.{getD}
 use Rattle.model.specs.Blocks.{Header}
-
-unfoldable pub perBlock : ℕ → ℕ
-perBlock kind = getD (0 ∷ 42 ∷ 253 ∷ 253 ∷ 1 ∷ 253 ∷ 31 ∷ []) kind 0
 
 unfoldable pub inAll : Header → ℕ → ℕ
 inAll h kind = getD (0 ∷ 1 ∷ h .letters ∷ h .pairs ∷ h .rules ∷ h .lexicons ∷ h .entries ∷ []) kind 0

@@ -2,20 +2,16 @@
 ghost use mathlib.Core.Path.{_≡_};
 ghost use mathlib.Core.Bool.{true, _&&_};
 ghost use Prim.Native.Nat.{_+_, _*_, _<_, _≤_};
-ghost use lib.ListN.{length, take, drop};
+ghost use lib.ListN.{length};
 ghost use lib.Dec.{eqb};
-ghost use Rattle.model.specs.Lists.{below, every, isZero};
+ghost use Rattle.model.specs.Lists.{below, every};
 ghost use Rattle.model.specs.Blocks.{block, blockCount, blockNumber, blockCheck, checkOf, kindAt, recordsAt, laidOut, withinLimits, blockTotal};
 ghost use Rattle.model.specs.Refusals.{rightLength, rightChecks, rightLayout};
 ghost use Rattle.image.specs.Header.{headerOf};
 ghost use Rattle.image.specs.Laid.{Limited};
 ghost use Rattle.layout.specs.Kinds.{inAll, firstBlock};
 use image::Header;
-
-// By kind: the width of a record, and how many records a block holds at the most.
-const WIDTH: [usize; 7] = [0, 12, 2, 2, 506, 2, 16];
-
-const PER_BLOCK: [usize; 7] = [0, 42, 253, 253, 1, 253, 31];
+use image::kinds;
 
 fn right_block(block: &[u8], k: usize) -> bool
     requires { ⌜ length (now block) ≡ 512 ⌝ }
@@ -41,21 +37,6 @@ pub fn right_checks(image: &[u8]) -> bool
             return false;
         }
         k += 1;
-    }
-    true
-}
-
-// Every byte of a block from one place to another is 0.
-fn zeros(block: &[u8], from: usize, to: usize) -> bool
-    requires { ⌜ to ≤ length (now block) ⌝ }
-    ensures { λ r. ⌜ r ≡ every isZero (drop from (take to (now (block .entry)))) ⌝ }
-{
-    let mut i = from;
-    while i < to {
-        if image::byte_at(block, i) != 0 {
-            return false;
-        }
-        i += 1;
     }
     true
 }
@@ -132,7 +113,7 @@ fn records_at(h: Header, k: usize) -> usize
     ensures { λ r. ⌜ (r ≡ recordsAt (headerOf h) k) × (r ≤ 253) ⌝ }
 {
     let kind = kind_at(h, k);
-    let most = PER_BLOCK[kind];
+    let most = kinds::per_block(kind);
     let all = in_all(h, kind);
     let before = most * (k - first_block(h, kind));
     if all < before {
@@ -155,7 +136,7 @@ fn laid_out(block: &[u8], h: Header, k: usize) -> bool
     if image::byte_at(block, 3) != records {
         return false;
     }
-    zeros(block, 4 + WIDTH[kind] * records, 510)
+    image::are_zeros(block, 4 + kinds::width(kind) * records, 510)
 }
 
 fn all_laid_out(image: &[u8], h: Header) -> bool
@@ -180,7 +161,7 @@ fn block_total(h: Header) -> usize
     requires { ⌜ Limited (headerOf h) ⌝ }
     ensures { λ r. ⌜ r ≡ blockTotal (headerOf h) ⌝ }
 {
-    4 + h.rules + (h.entries + 30) / 31
+    4 + h.rules + (h.entries + (kinds::ENTRIES_PER_BLOCK - 1)) / kinds::ENTRIES_PER_BLOCK
 }
 
 // Test 3.

@@ -3,5 +3,5 @@ use Rattle.model.specs.RuleTables.{Sides}
 use Rattle.letters.specs.declared.Lexical.{Lexical}
 use Rattle.letters.specs.declared.Surface.{Surface}
 
-abbrev pub sidesOf : Lexical → Surface → Sides
-sidesOf l s = record { lexical = l .0; surface = s .0 }
+abbrev pub pairOf : Lexical → Surface → Sides
+pairOf l s = record { lexical = l .0; surface = s .0 }

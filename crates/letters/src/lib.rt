@@ -10,8 +10,9 @@ ghost use Rattle.model.specs.RuleTables.{codePoints, isCodePoint, pairs, bounda
 ghost use Rattle.model.specs.Refusals.{rightLetters, rightPairs};
 ghost use Rattle.image.specs.Header.{headerOf};
 ghost use Rattle.image.specs.Laid.{Laid};
-ghost use Rattle.letters.specs.Sides.{sidesOf};
+ghost use Rattle.letters.specs.Sides.{pairOf};
 use image::Header;
+use image::kinds;
 
 // A letter of the lexical level.
 pub struct Lexical(pub u8);
@@ -39,7 +40,7 @@ fn code_point(image: &[u8], i: usize) -> usize
     requires { ⌜ Laid (now image) (header (now image)) × (i < header (now image) .letters) ⌝ }
     ensures { λ r. ⌜ r ≡ getD (codePoints (now (image .entry))) i 0 ⌝ }
 {
-    image::number_at(image, 516 + 2 * i)
+    image::number_at(image, 516 + kinds::LETTER_WIDTH * i)
 }
 
 fn is_code_point(n: usize) -> bool
@@ -117,7 +118,7 @@ pub fn lexical_side(image: &[u8], p: usize) -> Lexical
     requires { ⌜ Laid (now image) (header (now image)) × (p < header (now image) .pairs) ⌝ }
     ensures { λ r. ⌜ r .0 ≡ getD (pairs (now (image .entry))) p boundaryPair .lexical ⌝ }
 {
-    lexical_at(image, 1028 + 2 * p)
+    lexical_at(image, 1028 + kinds::PAIR_WIDTH * p)
 }
 
 // The surface side of pair p.
@@ -125,7 +126,7 @@ pub fn surface_side(image: &[u8], p: usize) -> Surface
     requires { ⌜ Laid (now image) (header (now image)) × (p < header (now image) .pairs) ⌝ }
     ensures { λ r. ⌜ r .0 ≡ getD (pairs (now (image .entry))) p boundaryPair .surface ⌝ }
 {
-    surface_at(image, 1029 + 2 * p)
+    surface_at(image, 1029 + kinds::PAIR_WIDTH * p)
 }
 
 // Letters are compared within a level only.
@@ -155,7 +156,7 @@ fn is_side(side: u8, letters: usize) -> bool
 }
 
 fn is_pair(lexical: Lexical, surface: Surface, letters: usize) -> bool
-    ensures { λ r. ⌜ r ≡ isPair letters (sidesOf lexical surface) ⌝ }
+    ensures { λ r. ⌜ r ≡ isPair letters (pairOf lexical surface) ⌝ }
 {
     if !is_side(lexical.0, letters) {
         return false;

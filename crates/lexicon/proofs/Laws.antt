@@ -1,15 +1,15 @@
--- Entries as bytes of the image, tests over part of a list, what test 8 leaves for those that follow, and how the lexicons tile the entries.
+-- Entries as bytes of the image, what test 8 leaves for those that follow, and how the lexicons tile the entries.
 use Prim.Native.Nat.{ℕ, zero, suc, _+_, _*_, _/_, _%_, _<_, _≤_}
-use native.Mathlib.Nat.{add-assoc, zero-add, suc-add}
+use native.Mathlib.Nat.{add-assoc}
 use native.Mathlib.Numerals.{add-one}
 use native.Mathlib.Omega.{arith}
 use native.Mathlib.Decide.{decLt}
 use mathlib.Core.Bool.{Bool, true, false, _&&_, _||_}
-use mathlib.Core.Path.{_≡_, refl, sym, ap, ap₂, _∙_, subst}
+use mathlib.Core.Path.{_≡_, refl, sym, ap, _∙_, subst}
 use mathlib.Core.Logic.{_⊎_, inl, inr}
 use mathlib.Core.List.{List, [], _∷_, _++_, map, List·Memᴰ}
 use lib.ListN.{length, take, drop, length-take, length-drop}
-use lib.Seq.{take-nil, drop-cons, drop-drop, drop-length, take-take, getD-take, getD-drop, slice-cons, slice-empty}
+use lib.Seq.{drop-drop, take-take, getD-take, getD-drop}
 use lib.Dec.{T, leb, ltb, eqb, leb→le, le→leb, ltb→lt, lt→ltb, eqb→eq}
 use borrow.Author.Tests.{le-leb, lt-leb}
 use Rattle.model.specs.Lists.{below, every, sum, within, isZero, byte, number}
@@ -17,62 +17,19 @@ use Rattle.model.specs.Blocks.{Header, header, block, blockTotal, lexiconBlock,
 use Rattle.model.specs.Lexicon.{entryCount, firstEntry, inLexicon, entry, formLength, formOf, continuation, isEntry}
 use Rattle.model.specs.Refusals.{rightEntries}
 use Rattle.model.specs.Beside.{formStart}
-use Rattle.model.proofs.Booleans.{and-out, and-in, out4, true-of, within-out, within-in}
-use Rattle.model.proofs.Lists.{length-below, below-has, getD-below, every-at, map-below}
+use Rattle.model.proofs.Booleans.{and-out, and-in, left-false, right-false, out4, true-of, within-out, within-in}
+use Rattle.model.proofs.Lists.{below-has, drop-take, every-at, map-below}
+use Rattle.model.proofs.Rest.{every-getD}
 use Rattle.model.proofs.Blocks.{block-number}
 use Rattle.image.specs.Laid.{Laid}
-
--- parts of parts, and tests over them
-pub drop-take : (k n : ℕ) (l : List ℕ) → drop k (take (k + n) l) ≡ take n (drop k l)
-drop-take zero n l = ap (λ (m : ℕ). take m l) (zero-add n)
-drop-take (suc k) n [] = ap (drop (suc k)) (take-nil (suc k + n)) ∙ sym (take-nil n)
-drop-take (suc k) n (x ∷ l) = ap (λ (m : ℕ). drop (suc k) (take m (x ∷ l))) (suc-add k n) ∙ drop-take k n l
-
--- what is left of a part, and of the numbers below a bound, decides: a turn of a loop that tests each
-pub every-part : (f : ℕ → Bool) (at end : ℕ) (l : List ℕ) → at < end → end ≤ length l → every f (drop at (take end l)) ≡ (f (byte l at) && every f (drop (at + 1) (take end l)))
-every-part f at end l h k = ap (every f) (slice-cons at end l 0 h k) ∙ ap (λ (n : ℕ). f (byte l at) && every f (drop n (take end l))) (sym (add-one at))
-
-module _ (f : ℕ → Bool) (at end : ℕ) (l : List ℕ) (more : at < end) (inside : end ≤ length l) where
-  pub part-fails : f (byte l at) ≡ false → every f (drop at (take end l)) ≡ false
-  part-fails e = every-part f at end l more inside ∙ ap (λ (b : Bool). b && every f (drop (at + 1) (take end l))) e
-
-  pub part-goes-on : f (byte l at) ≡ true → every f (drop (at + 1) (take end l)) ≡ every f (drop at (take end l))
-  part-goes-on e = sym (every-part f at end l more inside ∙ ap (λ (b : Bool). b && every f (drop (at + 1) (take end l))) e)
-
-pub every-part-end : (f : ℕ → Bool) (end : ℕ) (l : List ℕ) → every f (drop end (take end l)) ≡ true
-every-part-end f end l = ap (every f) (slice-empty end l)
-
-pub every-byte : (f : ℕ → Bool) (l : List ℕ) (i : ℕ) → i < length l → T (every f l) → T (f (byte l i))
-every-byte f [] i h t = absurd (omega arith)
-every-byte f (x ∷ l) zero h t = (and-out (f x) (every f l) t) .0
-every-byte f (x ∷ l) (suc i) h t = every-byte f l i (omega arith) ((and-out (f x) (every f l) t) .1)
-
-pub every-below : (f : ℕ → Bool) (n e : ℕ) → e < n → every f (drop e (below n)) ≡ (f e && every f (drop (e + 1) (below n)))
-every-below f n e h =
-    ap (every f) (drop-cons (below n) e 0 (omega (arith, length-below n)))
-    ∙ ap₂ (λ (x k : ℕ). f x && every f (drop k (below n))) (getD-below n e h) (sym (add-one e))
-
-module _ (f : ℕ → Bool) (n e : ℕ) (more : e < n) where
-  pub below-fails : f e ≡ false → every f (drop e (below n)) ≡ false
-  below-fails q = every-below f n e more ∙ ap (λ (b : Bool). b && every f (drop (e + 1) (below n))) q
-
-  pub below-goes-on : f e ≡ true → every f (drop (e + 1) (below n)) ≡ every f (drop e (below n))
-  below-goes-on q = sym (every-below f n e more ∙ ap (λ (b : Bool). b && every f (drop (e + 1) (below n))) q)
-
-pub every-below-end : (f : ℕ → Bool) (n : ℕ) → every f (drop n (below n)) ≡ true
-every-below-end f n = ap (λ (k : ℕ). every f (drop k (below n))) (sym (length-below n)) ∙ ap (every f) (drop-length (below n))
 
 -- a range's test by the order
 module _ (low high n : ℕ) where
   pub within-below : n < low → within low high n ≡ false
-  within-below h = ap (λ (b : Bool). b && leb n high) (lt-leb low n h)
+  within-below h = left-false (leb low n) (leb n high) (lt-leb low n h)
 
   pub within-above : high < n → within low high n ≡ false
-  within-above h = ap (λ (b : Bool). leb low n && b) (lt-leb n high h) ∙ none (leb low n)
-    where
-      none : (b : Bool) → (b && false) ≡ false
-      none true = refl
-      none false = refl
+  within-above h = right-false (leb low n) (leb n high) (lt-leb n high h)
 
   pub within-true : low ≤ n → n ≤ high → within low high n ≡ true
   within-true h k = true-of (within low high n) (within-in low high n h k)
@@ -273,7 +230,7 @@ module _ (image : List ℕ) (h : Header) (laid : Laid image h) (right : T (right
     pub form-letter-at : (i : ℕ) → i < formLength (entry image e) → (2 ≤ byte image (formStart image e + i)) × (byte image (formStart image e + i) ≤ h .letters)
     form-letter-at i l =
         let n : i < length (formOf (entry image e)) = omega (arith, form-size image h laid e within-entries form-short) in
-        subst (λ (b : ℕ). (2 ≤ b) × (b ≤ h .letters)) (form-byte image h laid e i form-short l) (within-out 2 (h .letters) (byte (formOf (entry image e)) i) (every-byte (within 2 (h .letters)) (formOf (entry image e)) i n form-letters))
+        subst (λ (b : ℕ). (2 ≤ b) × (b ≤ h .letters)) (form-byte image h laid e i form-short l) (within-out 2 (h .letters) (byte (formOf (entry image e)) i) (every-getD (within 2 (h .letters)) (formOf (entry image e)) i 0 n form-letters))
 
     pub continuation-right : (continuation (entry image e) < h .lexicons) ⊎ (continuation (entry image e) ≡ 255)
     continuation-right = go (continuation (entry image e)) (ltb (continuation (entry image e)) (h .lexicons)) refl (entry-parts .3)

@@ -1,11 +1,12 @@
 // The lexicons of an image: how many entries each has, where an entry stands, and test 8 of the image check.
 use image::Header;
+use image::kinds;
 ghost use mathlib.Core.Path.{_≡_};
 ghost use mathlib.Core.Bool.{_||_};
 ghost use Prim.Native.Nat.{_+_, _*_, _/_, _%_, _<_, _≤_};
 ghost use lib.ListN.{length, take, drop};
 ghost use lib.Dec.{ltb, eqb};
-ghost use Rattle.model.specs.Lists.{below, every, within, isZero};
+ghost use Rattle.model.specs.Lists.{below, every, within};
 ghost use Rattle.model.specs.Blocks.{entryBlock};
 ghost use Rattle.model.specs.Lexicon.{entryCount, firstEntry, entry, formLength, continuation, isEntry};
 ghost use Rattle.model.specs.Refusals.{rightEntries};
@@ -18,7 +19,7 @@ pub fn entry_count(image: &[u8], h: Header, x: usize) -> usize
     requires { ⌜ x < h .lexicons ⌝ }
     ensures { λ r. ⌜ (r ≡ entryCount (now (image .entry)) x) × (r < 65536) ⌝ }
 {
-    image::number_at(image, 512 * (3 + h.rules) + (4 + 2 * x))
+    image::number_at(image, 512 * (3 + h.rules) + (4 + kinds::LEXICON_WIDTH * x))
 }
 
 // The first entry of lexicon x: all the entries of those before it, added up.
@@ -41,7 +42,8 @@ pub fn entry_start(h: Header, e: usize) -> usize
     requires { ⌜ (e < 2800) × (h .rules ≤ 32) ⌝ }
     ensures { λ r. ⌜ r ≡ 512 * (entryBlock (headerOf h) + e / 31) + (4 + 16 * (e % 31)) ⌝ }
 {
-    512 * (4 + h.rules + e / 31) + (4 + 16 * (e % 31))
+    512 * (4 + h.rules + e / kinds::ENTRIES_PER_BLOCK)
+        + (4 + kinds::ENTRY_WIDTH * (e % kinds::ENTRIES_PER_BLOCK))
 }
 
 // How many letters the form of entry e has.
@@ -81,21 +83,6 @@ pub fn are_letters(bytes: &[u8], from: usize, end: usize, letters: usize) -> boo
     true
 }
 
-// Whether each byte from `from` up to `end` is 0.
-fn are_zeros(image: &[u8], from: usize, end: usize) -> bool
-    requires { ⌜ (from ≤ end) × (end ≤ length (now image)) ⌝ }
-    ensures { λ r. ⌜ r ≡ every isZero (drop from (take end (now (image .entry)))) ⌝ }
-{
-    let mut at = from;
-    while at < end {
-        if image::byte_at(image, at) != 0 {
-            return false;
-        }
-        at += 1;
-    }
-    true
-}
-
 // Whether a continuation is a lexicon or 255, the end of a path.
 fn is_continuation(continuation: usize, lexicons: usize) -> bool
     ensures { λ r. ⌜ r ≡ (ltb continuation lexicons || eqb continuation 255) ⌝ }
@@ -119,13 +106,16 @@ fn is_entry(image: &[u8], at: usize, letters: usize, lexicons: usize) -> bool
     if !are_letters(image, at + 1, form_end, letters) {
         return false;
     }
-    if !are_zeros(image, form_end, at + 13) {
+    if !image::are_zeros(image, form_end, at + 13) {
         return false;
     }
     is_continuation(image::byte_at(image, at + 13), lexicons)
 }
 
-// Whether every entry is laid out as one. After the 31 of a block, 16 bytes lead to the first of the next: the block's end and the next one's beginning.
+// From the end of a block's last entry to the next block's first: the block's check and the next one's number, kind and count, with the bytes unused.
+const BETWEEN: usize = 512 - kinds::ENTRIES_PER_BLOCK * kinds::ENTRY_WIDTH;
+
+// Whether every entry is laid out as one.
 fn are_entries(image: &[u8], h: Header) -> bool
     requires { ⌜ Laid (now image) (headerOf h) ⌝ }
     ensures { λ r. ⌜ r ≡ every (λ e. isEntry (entry (now (image .entry)) e) (h .letters) (h .lexicons)) (below (h .entries)) ⌝ }
@@ -140,11 +130,11 @@ fn are_entries(image: &[u8], h: Header) -> bool
             return false;
         }
         left -= 1;
-        at += 16;
+        at += kinds::ENTRY_WIDTH;
         slot += 1;
-        if slot == 31 {
+        if slot == kinds::ENTRIES_PER_BLOCK {
             slot = 0;
-            at += 16;
+            at += BETWEEN;
         }
     }
     true

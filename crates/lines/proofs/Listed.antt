@@ -19,7 +19,7 @@ use Rattle.model.specs.Calls.{replyAfter, rowsAfter, requestVerdict, allReading
 use Rattle.model.specs.Demand.{replyRows, asRows}
 use Rattle.model.specs.Lines as lines
 use Rattle.model.specs.Lines.{printedReply, printedRow, printedLine}
-use Rattle.model.proofs.Lists.{below-from, getD-map-below}
+use Rattle.model.proofs.Lists.{member-at, below-from, getD-map-below}
 use Rattle.model.proofs.Parts.{flatMap-same}
 use Rattle.listing.proofs.Loops.{flatMap-places}
 use Rattle.model.proofs.Listing.{listing}
@@ -50,12 +50,7 @@ module _ (before : List ℕ) (l : List Reading) (small : AllSmall l) where
       getD-map (r ∷ m) (suc j) h = getD-map m j (omega arith)
 
   here : (j : ℕ) → j < length l → Small (getD l j nothing)
-  here j h = small (getD l j nothing) (member l j h)
-    where
-      member : (m : List Reading) (j : ℕ) → j < length m → List·Memᴰ (getD m j nothing) m
-      member [] j h = absurd (omega arith)
-      member (r ∷ m) zero h = List·Memᴰ·head refl
-      member (r ∷ m) (suc j) h = List·Memᴰ·tail (member m j (omega arith))
+  here j h = small (getD l j nothing) (member-at l j nothing h)
 
   pub rows-right : (j : ℕ) → j < length l → Row (rowAt (filled before l) j)
   rows-right j h = let s = here j h in subst Row (sym (row-at j h)) (row-right (getD l j nothing) (s .entries-most) (s .pairs-most))

@@ -13,7 +13,7 @@ use Rattle.model.specs.Blocks.{Header, header}
 use Rattle.model.specs.Lexicon.{firstEntry, entryCount, inLexicon}
 use Rattle.model.specs.Query.{Query, analysis, generation, queryOf, entryNumbers}
 use Rattle.model.specs.Refusals.{rightEntries}
-use Rattle.model.proofs.Booleans.{of-true}
+use Rattle.model.proofs.Booleans.{left-false, right-false, of-true}
 use Rattle.model.proofs.Lists.{length-map-below, getD-map-below}
 use Rattle.image.specs.Accepted.{Accepted}
 use Rattle.image.specs.Index.{indexOf}
@@ -33,14 +33,6 @@ module _ (image : List ℕ) (x : ℕ) where
   past-range : (e : ℕ) → firstEntry image x + entryCount image x ≤ e → inLexicon image x e ≡ false
   unfolding inLexicon
   past-range e h = let k : firstEntry image x ≤ e = omega arith in rw (le-leb (firstEntry image x) e k, le-ltb e (firstEntry image x + entryCount image x) h) refl
-
--- a && b, by one of them
-left-false : (a b : Bool) → a ≡ false → (a && b) ≡ false
-left-false a b e = rw e refl
-
-pub right-false : (a b : Bool) → b ≡ false → (a && b) ≡ false
-right-false true b e = e
-right-false false b e = refl
 
 module _ (image : List ℕ) (h : Header) (a : Accepted image h) (x : ℕ) (inside : x < h .lexicons) (low high : ℕ) (e1 : low ≡ firstEntry image x) (e2 : high ≡ firstEntry image x + entryCount image x) where
   within : high ≤ header image .entries

@@ -1,7 +1,7 @@
 -- Tests joined by &&, taken apart and put together; tests of numbers and lists.
 use Prim.Native.Nat.{ℕ, suc, _≤_, _<_}
 use mathlib.Core.Bool.{Bool, true, false, _&&_, _||_, not}
-use mathlib.Core.Path.{_≡_, refl, subst}
+use mathlib.Core.Path.{_≡_, refl, ap, subst}
 use mathlib.Core.List.{List, [], _∷_}
 use lib.Dec.{T, leb, ltb, eqb, eqb→eq, eqb-refl, leb→le, le→leb}
 use Rattle.model.specs.Lists.{sameList, within}
@@ -41,6 +41,18 @@ module _ (a b c d e f g h : Bool) where
 
   pub in8 : T a → T b → T c → T d → T e → T f → T g → T h → T (a && b && c && d && e && f && g && h)
   in8 s t u v w x y z = in4 (a && b && c && d && e) f g h (in5 a b c d e s t u v w) x y z
+
+-- a && b, by one of them
+module _ (a b : Bool) where
+  pub left-true : a ≡ true → (a && b) ≡ b
+  left-true e = ap (λ (x : Bool). x && b) e
+
+  pub left-false : a ≡ false → (a && b) ≡ false
+  left-false e = ap (λ (x : Bool). x && b) e
+
+pub right-false : (a b : Bool) → b ≡ false → (a && b) ≡ false
+right-false true b e = e
+right-false false b e = refl
 
 pub not-out : (b : Bool) → T (not b) → b ≡ false
 not-out true t = absurd t

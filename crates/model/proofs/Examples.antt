@@ -6,6 +6,7 @@ use mathlib.Core.List.{List, [], _∷_, _++_, map}
 use lib.ListN.{length, take, drop, replicate, set}
 use Rattle.model.specs.Lists.{below, joined, flatMap, numberBytes}
 use Rattle.model.specs.Blocks.{sealedImage}
+use Rattle.model.specs.RuleTables.{columnsOf}
 use Rattle.model.specs.Readings.{Reading}
 use Rattle.model.specs.Query.{analysis, generation}
 use Rattle.model.specs.Refusals.{Verdict, imageVerdict}
@@ -55,6 +56,11 @@ refusal-7 : map (λ t. imageVerdict (tcWith (2 ∷ 2 ∷ 4 ∷ 4 ∷ []) t)) ((3
     ≡ replicate 4 (Verdict.refused 7)
 unfolding computed
 refusal-7 = refl
+
+-- "the P pairs and the boundary pair together": columns t:t and any:any where t:t alone is listed; the boundary makes any:any the wider
+boundary-counted : let image = tcWith (2 ∷ 2 ∷ []) (2 ∷ 1 ∷ 2 ∷ 2 ∷ 255 ∷ 255 ∷ 1 ∷ 1 ∷ 1 ∷ []) in (columnsOf image 0 ≡ 0 ∷ 1 ∷ []) × (imageVerdict image ≡ Verdict.accepted)
+unfolding computed
+boundary-counted = (refl, refl)
 
 -- form length 13; a letter above L; a byte after the form; a continuation; counts that do not add up
 refusal-8 : (changed 2564 13 ∷ changed 2565 10 ∷ changed 2568 2 ∷ changed 2577 2 ∷ changed 2052 3 ∷ []) ≡ replicate 5 (Verdict.refused 8)

@@ -1,17 +1,18 @@
--- Laws of the lists' vocabulary: numbers below a bound, tests over them, maps and joins.
+-- Laws of the lists' vocabulary: numbers below a bound, places and parts of a list, tests over it, maps and joins.
 use Prim.Native.Nat.{ℕ, zero, suc, _+_, _<_, _≤_}
+use native.Mathlib.Nat.{zero-add, suc-add}
 use native.Mathlib.Numerals.{add-one}
-use mathlib.Core.Bool.{Bool, true, false, _&&_, true≢false}
+use mathlib.Core.Bool.{Bool, true, false, _&&_}
 use mathlib.Core.Path.{_≡_, refl, sym, ap, ap₂, _∙_, subst}
 use mathlib.Core.Logic.{_⊎_, inl, inr}
 use mathlib.Core.List.{List, [], _∷_, _++_, map, append-assoc, append-nil, List·Memᴰ, List·Memᴰ·head, List·Memᴰ·tail, List·Memᴰ·not-nil, List·Memᴰ·append-cases, List·Memᴰ·eq-of-singleton, Memᴰ·append-left, Memᴰ·append-right, Memᴰ·cast}
-use lib.ListN.{length, getD, length-append, List·getD-append}
-use lib.Seq.{getD-at}
+use lib.ListN.{length, getD, take, drop, length-append, List·getD-append}
+use lib.Seq.{getD-at, take-nil}
 use lib.Dec.{T}
 use native.Mathlib.Omega.{arith}
 use native.Mathlib.Decide.{ℕ-discrete}
 use Rattle.model.specs.Lists.{below, given, every, flatMap}
-use Rattle.model.proofs.Booleans.{and-out, and-in, true-of, of-true}
+use Rattle.model.proofs.Booleans.{and-out, and-in, left-false, right-false}
 
 pub length-below : (n : ℕ) → length (below n) ≡ n
 length-below zero = refl
@@ -34,6 +35,17 @@ below-from (suc n) x h = go (List·Memᴰ·append-cases (below n) h) (below-from
     go (inr k) r = let e = List·Memᴰ·eq-of-singleton k in omega arith
 
 module _ {A : Type 0} where
+  pub member-at : (xs : List A) (i : ℕ) (d : A) → i < length xs → List·Memᴰ (getD xs i d) xs
+  member-at [] i d h = absurd (omega arith)
+  member-at (x ∷ xs) zero d h = List·Memᴰ·head refl
+  member-at (x ∷ xs) (suc i) d h = List·Memᴰ·tail (member-at xs i d (omega arith))
+
+  -- a part by its start and end, and by its start and length
+  pub drop-take : (k n : ℕ) (l : List A) → drop k (take (k + n) l) ≡ take n (drop k l)
+  drop-take zero n l = ap (λ (m : ℕ). take m l) (zero-add n)
+  drop-take (suc k) n [] = ap (drop (suc k)) (take-nil (suc k + n)) ∙ sym (take-nil n)
+  drop-take (suc k) n (x ∷ l) = ap (λ (m : ℕ). drop (suc k) (take m (x ∷ l))) (suc-add k n) ∙ drop-take k n l
+
   pub given-from : (b : Bool) (l : List A) {x : A} → List·Memᴰ x (given b l) → T b × List·Memᴰ x l
   given-from true l h = (tt, h)
   given-from false l h = absurd (List·Memᴰ·not-nil h)
@@ -68,6 +80,11 @@ module _ {A : Type 0} where
   pub every-at : (f : A → Bool) (xs : List A) {x : A} → List·Memᴰ x xs → T (every f xs) → T (f x)
   every-at f (y ∷ xs) (List·Memᴰ·head e) t = rw e ((and-out (f y) (every f xs) t) .0)
   every-at f (y ∷ xs) (List·Memᴰ·tail m) t = every-at f xs m ((and-out (f y) (every f xs) t) .1)
+
+  -- one member that fails
+  pub every-not : (f : A → Bool) (xs : List A) {x : A} → List·Memᴰ x xs → f x ≡ false → every f xs ≡ false
+  every-not f (y ∷ xs) (List·Memᴰ·head e) h = left-false (f y) (every f xs) (ap f (sym e) ∙ h)
+  every-not f (y ∷ xs) (List·Memᴰ·tail m) h = right-false (f y) (every f xs) (every-not f xs m h)
 
   pub every-in : (f : A → Bool) (xs : List A) → ((x : A) → List·Memᴰ x xs → T (f x)) → T (every f xs)
   every-in f [] i = tt
@@ -140,8 +157,4 @@ module _ (f : ℕ → Bool) where
   every-more k e h = ap (λ (n : ℕ). every f (below n)) (add-one k) ∙ every-append f (below k) (k ∷ []) ∙ rw (e, h) refl
 
   pub every-fails : (n k : ℕ) → k < n → f k ≡ false → every f (below n) ≡ false
-  every-fails n k h e = go (every f (below n)) refl
-    where
-      go : (b : Bool) → every f (below n) ≡ b → every f (below n) ≡ false
-      go true p = absurd (true≢false (sym (true-of (f k) (every-at f (below n) (below-has n k h) (of-true (every f (below n)) p))) ∙ e))
-      go false p = p
+  every-fails n k h e = every-not f (below n) (below-has n k h) e

@@ -1,15 +1,15 @@
--- Loops over a list, where what is left decides: a step on, a failure, the end.
-use Prim.Native.Nat.{ℕ, zero, suc, _+_, _<_, _≤_}
+-- Loops over a list or a part of it, where what is left decides: a step on, a failure, the end.
+use Prim.Native.Nat.{ℕ, _+_, _<_, _≤_}
 use mathlib.Core.Bool.{Bool, true, false, not}
-use mathlib.Core.Path.{_≡_}
-use mathlib.Core.List.{List, [], _∷_}
-use lib.ListN.{length, getD, drop, drop-of-length-le}
-use lib.Seq.{drop-cons}
+use mathlib.Core.Path.{_≡_, ap, _∙_}
+use mathlib.Core.List.{List, _∷_}
+use lib.ListN.{length, getD, take, drop, length-take, drop-of-length-le}
+use lib.Seq.{drop-cons, getD-take, slice, slice-empty}
 use lib.Dec.{T}
 use native.Mathlib.Numerals.{add-one}
 use native.Mathlib.Omega.{arith}
 use Rattle.model.specs.Lists.{every, any, distinct}
-use Rattle.model.proofs.Booleans.{and-out}
+use Rattle.model.proofs.Lists.{member-at, every-at}
 
 module _ {A : Type 0} (xs : List A) (d : A) (i : ℕ) (inside : i < length xs) where
   -- the first of what is left, and the rest
@@ -47,8 +47,20 @@ module _ {A : Type 0} (xs : List A) (i : ℕ) (past : length xs ≤ i) where
   pub distinct-done : (same : A → A → Bool) → distinct same (drop i xs) ≡ true
   distinct-done same = rw (drop-of-length-le xs past)
 
+-- the part from `at` up to `end`
+module _ {A : Type 0} (f : A → Bool) (at end : ℕ) (l : List A) (d : A) (more : at < end) (inside : end ≤ length l) where
+  within : at < length (take end l)
+  within = omega (arith, length-take end l)
+
+  pub part-on : f (getD l at d) ≡ true → every f (slice at end l) ≡ every f (slice (at + 1) end l)
+  part-on e = every-on (take end l) d at within f (ap f (getD-take end l at d more) ∙ e)
+
+  pub part-fails : f (getD l at d) ≡ false → every f (slice at end l) ≡ false
+  part-fails e = every-fails (take end l) d at within f (ap f (getD-take end l at d more) ∙ e)
+
+pub part-done : {A : Type 0} (f : A → Bool) (end : ℕ) (l : List A) → every f (slice end end l) ≡ true
+part-done f end l = ap (every f) (slice-empty end l)
+
 -- what passes everywhere passes at each place
 pub every-getD : {A : Type 0} (f : A → Bool) (xs : List A) (i : ℕ) (d : A) → i < length xs → T (every f xs) → T (f (getD xs i d))
-every-getD f [] i d h t = absurd (omega arith)
-every-getD f (x ∷ xs) zero d h t = (and-out (f x) (every f xs) t) .0
-every-getD f (x ∷ xs) (suc i) d h t = every-getD f xs i d (omega arith) ((and-out (f x) (every f xs) t) .1)
+every-getD f xs i d h = every-at f xs (member-at xs i d h)

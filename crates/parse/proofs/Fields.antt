@@ -13,7 +13,7 @@ use borrow.Author.Tests.{le-leb, lt-leb, ne-eqb}
 use Rattle.model.specs.Lists.{every, within}
 use Rattle.model.specs.Lines as lines
 use Rattle.model.specs.Lines.{fieldsFrom, fieldsOf, valueFrom, valueOf, isNumber, lineOf}
-use Rattle.model.proofs.Lists.{every-append}
+use Rattle.model.proofs.Lists.{member-at, every-append, every-not}
 use Rattle.parse.specs.Fields.{EndsField, ValueTold, firstValues, wordAfter}
 
 -- the field that ends at `to`
@@ -114,16 +114,6 @@ module _ (line : List ℕ) (from at value : ℕ) (d : Digits line from at value)
         small = rw w (omega (arith, d .small));
       }
 
--- one that fails
-pub fails-at : (f : ℕ → Bool) (xs : List ℕ) (i : ℕ) → i < length xs → f (getD xs i 0) ≡ false → every f xs ≡ false
-fails-at f [] i h e = absurd (omega arith)
-fails-at f (x ∷ xs) zero h e = rw e refl
-fails-at f (x ∷ xs) (suc i) h e = go (f x) (fails-at f xs i (omega arith) e)
-  where
-    go : (b : Bool) → every f xs ≡ false → (b && every f xs) ≡ false
-    go true r = r
-    go false r = refl
-
 middle-false : (a b c : Bool) → b ≡ false → (a && b && c) ≡ false
 middle-false true b c e = rw e refl
 middle-false false b c e = refl
@@ -142,7 +132,7 @@ told-long field h = told-none field (rw (le-leb 1 (length field) (omega arith), 
 
 pub told-other : (field : List ℕ) (i : ℕ) → i < length field → within 48 57 (getD field i 0) ≡ false → ValueTold field 256
 unfolding isNumber
-told-other field i h e = told-none field (middle-false (within 1 3 (length field)) (every (within 48 57) field) (leb (valueOf field) 255) (fails-at (within 48 57) field i h e))
+told-other field i h e = told-none field (middle-false (within 1 3 (length field)) (every (within 48 57) field) (leb (valueOf field) 255) (every-not (within 48 57) field (member-at field i 0 h) e))
 
 pub told-value : (field : List ℕ) (value : ℕ) → 1 ≤ length field → length field ≤ 3 → every (within 48 57) field ≡ true → value ≡ valueOf field → ValueTold field value
 unfolding isNumber

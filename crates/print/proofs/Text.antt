@@ -3,14 +3,14 @@ use Prim.Native.Nat.{ℕ, zero, suc, _+_, _*_, _-_, _<_, _≤_}
 use native.Mathlib.Numerals.{add-one}
 use native.Mathlib.Omega.{arith}
 use mathlib.Core.Path.{_≡_, refl, sym, ap, _∙_}
-use mathlib.Core.List.{List, [], _∷_, _++_, append-assoc, append-nil, List·Memᴰ, List·Memᴰ·head, List·Memᴰ·tail}
+use mathlib.Core.List.{List, [], _∷_, _++_, append-assoc, append-nil, List·Memᴰ}
 use lib.ListN.{length, getD, set, take, drop, length-append, length-set}
 use lib.Seq.{take-suc-set, drop-set-lt, drop-drop, take-all, ext-getD}
 use Rattle.model.specs.Lists.{flatMap, number, numberBytes}
 use Rattle.model.specs.Readings.{Reading}
 use Rattle.model.specs.Rows.{padded, rowNumbers, rowBytes, rowAt}
 use Rattle.model.specs.Lines.{spaced, printedRow}
-use Rattle.model.proofs.Lists.{flatMap-below, length-map-below, getD-map-below}
+use Rattle.model.proofs.Lists.{member-at, flatMap-below, length-map-below, getD-map-below}
 use Rattle.model.proofs.Rows.{length-rowBytes}
 use Rattle.rows.specs.Trail.{rowNumber}
 use Rattle.rows.proofs.Places.{used, entry-count, entry-number, pair-count, pair-number}
@@ -73,11 +73,6 @@ number-at (n ∷ ns) (suc k) h =
 abbrev pub TwoBytes : List ℕ → Type 0
 TwoBytes ns = (n : ℕ) → List·Memᴰ n ns → n < 65536
 
-pub getD-in : (ns : List ℕ) (i : ℕ) → i < length ns → List·Memᴰ (getD ns i 0) ns
-getD-in [] i h = absurd (omega arith)
-getD-in (n ∷ ns) zero h = List·Memᴰ·head refl
-getD-in (n ∷ ns) (suc i) h = List·Memᴰ·tail (getD-in ns i (omega arith))
-
 -- a list that stands among others from place k on
 module _ (ns l : List ℕ) (k : ℕ) (same : (i : ℕ) → i < length l → getD ns (k + i) 0 ≡ getD l i 0) (small : TwoBytes l) where
   abbrev there : ℕ → ℕ
@@ -86,7 +81,7 @@ module _ (ns l : List ℕ) (k : ℕ) (same : (i : ℕ) → i < length l → getD
   there-is : (i : ℕ) → i < length l → there i ≡ getD l i 0
   there-is i h =
       let e : 2 * k + 2 * i ≡ 2 * (k + i) = omega arith in
-      ap (number (flatMap numberBytes ns)) e ∙ number-at ns (k + i) (omega (arith, same i h, small (getD l i 0) (getD-in l i h))) ∙ same i h
+      ap (number (flatMap numberBytes ns)) e ∙ number-at ns (k + i) (omega (arith, same i h, small (getD l i 0) (member-at l i 0 h))) ∙ same i h
 
   numbers-back : numbersFrom (flatMap numberBytes ns) (2 * k) (length l) ≡ l
   numbers-back =

@@ -1,8 +1,8 @@
 // What a search carries of a reading, the rows that it puts into a lent buffer, and the reply.
 ghost use mathlib.Core.Path.{_≡_};
 ghost use mathlib.Core.List.{[]};
-ghost use Prim.Native.Nat.{_+_, _*_, _/_, _%_, _^_, _<_, _≤_};
-ghost use lib.ListN.{length, set, getD};
+ghost use Prim.Native.Nat.{_+_, _^_, _<_, _≤_};
+ghost use lib.ListN.{length, getD};
 ghost use Rattle.model.specs.Rows.{padded, rowBytes, rowCount, replyNumber};
 ghost use Rattle.model.specs.Demand.{replyRows};
 ghost use Rattle.rows.specs.Trail.{readingOf, withEntry, withPair, Short, Holds, rowNumber};
@@ -89,16 +89,6 @@ fn row_number(t: Trail, k: usize) -> u16
     pair_place(t, k - 18)
 }
 
-// A two-byte number, the low byte first.
-fn put_number(row: &mut [u8], place: usize, n: u16)
-    requires { ⌜ 2 * place + 1 < length (now row) ⌝ }
-    ensures { λ _. ⌜ now (row .exit) ≡ set (set (now (row .entry)) (2 * place) (n % 256)) (2 * place + 1) (n / 256 % 256) ⌝ }
-{
-    let low = 2 * place;
-    row[low] = (n % 256) as u8;
-    row[low + 1] = (n / 256) as u8;
-}
-
 pub fn write_row(row: &mut [u8], t: Trail)
     requires { ⌜ (length (now row) ≡ 116) × Short t ⌝ }
     ensures { λ _. ⌜ now (row .exit) ≡ rowBytes (readingOf t) ⌝ }
@@ -106,7 +96,7 @@ pub fn write_row(row: &mut [u8], t: Trail)
     let mut k = 0;
     while k < 58 {
         let n = row_number(t, k);
-        put_number(row, k, n);
+        image::seal::put_number(row, 2 * k, n as usize);
         k += 1;
     }
 }

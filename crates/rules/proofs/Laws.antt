@@ -16,7 +16,7 @@ use Rattle.model.specs.Lexicon.{firstEntry}
 use Rattle.model.specs.GrammarOf.{grammarOf}
 use Rattle.model.specs.Refusals.{rightTables, rightColumns}
 use Rattle.model.proofs.Booleans.{of-true}
-use Rattle.model.proofs.Lists.{length-below, getD-below, below-from, getD-map-below}
+use Rattle.model.proofs.Lists.{member-at, length-below, getD-below, below-from, getD-map-below}
 use Rattle.model.proofs.Parts.{length-parts, part-at}
 use Rattle.model.proofs.Sealing.{number-back}
 use Rattle.tables.proofs.Laws.{length-columnsOf, right-table, right-column, row-before, next-most}
@@ -151,18 +151,13 @@ length-only {A} f (x ∷ xs) = go (f x) (length-only f xs)
     go true h = omega arith
     go false h = omega arith
 
-member-at : (xs : List ℕ) (i : ℕ) → i < length xs → List·Memᴰ (getD xs i 0) xs
-member-at [] i h = absurd (omega arith)
-member-at (x ∷ xs) zero h = List·Memᴰ·head refl
-member-at (x ∷ xs) (suc i) h = List·Memᴰ·tail (member-at xs i (omega arith))
-
 module _ (image : List ℕ) (a : ℕ) where
   pub candidate-below : {p : ℕ} → List·Memᴰ p (candidates image a) → p < header image .pairs
   unfolding candidates
   candidate-below {p} m = below-from (header image .pairs) p (only-from (λ p. let x = getD (pairs image) p boundaryPair .lexical in isZero x || eqb x a) (below (header image .pairs)) m)
 
   pub candidate-at : (i : ℕ) → i < length (candidates image a) → getD (candidates image a) i 0 < header image .pairs
-  candidate-at i h = candidate-below (member-at (candidates image a) i h)
+  candidate-at i h = candidate-below (member-at (candidates image a) i 0 h)
 
   pub candidates-most : length (candidates image a) ≤ header image .pairs
   unfolding candidates

@@ -27,7 +27,7 @@ use Rattle.listing.specs.Opening.{Ranged}
 use Rattle.listing.specs.Search.{nodeAt, headOf, foundAt}
 use Rattle.listing.proofs.Loops.{flatMap-places}
 use Rattle.listing.proofs.Searching.{openOne, pairOne}
-use Rattle.listing.proofs.Ranges.{right-false}
+use Rattle.model.proofs.Booleans.{right-false}
 use Rattle.listing.proofs.Searching as found
 use Rattle.search.specs.Here.{opensAt, Underway}
 use Rattle.search.proofs.Standing.{opens-is}

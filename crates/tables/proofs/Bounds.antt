@@ -1,18 +1,19 @@
 -- A table by its counts and its four ranges of bytes: the first that is out of bounds decides.
 use Prim.Native.Nat.{ℕ, zero, suc, _+_, _*_, _<_, _≤_}
-use native.Mathlib.Nat.{zero-add, suc-add, mul-le-mul}
+use native.Mathlib.Nat.{mul-le-mul}
 use mathlib.Core.Bool.{Bool, true, false, _&&_, _||_, not}
 use mathlib.Core.Path.{_≡_, refl, sym, ap, ap₂, _∙_}
 use mathlib.Core.List.{List, [], _∷_}
 use lib.ListN.{take, drop}
-use lib.Seq.{slice, take-nil}
+use lib.Seq.{slice}
 use lib.Dec.{leb, eqb, leb·suc-zero, eqb·suc-zero}
 use borrow.Author.Tests.{le-leb, lt-leb}
 use Rattle.model.specs.Lists.{every, within, isZero}
-use Rattle.model.proofs.Booleans.{and-out, of-true, within-out}
+use Rattle.model.proofs.Booleans.{and-out, left-true, left-false, right-false, of-true, within-out}
+use Rattle.model.proofs.Lists.{drop-take}
 use Rattle.model.specs.RuleTables.{columnCount, stateCount, marksAt, rowsAt, tableEnd, isTable}
 use Rattle.tables.specs.Bounds.{rightCounts, allowed}
-use Rattle.tables.proofs.Lists.{left-false, right-false, left-true, fails, passes}
+use Rattle.tables.proofs.Lists.{fails, passes}
 
 pub within-low : (low high n : ℕ) → n < low → within low high n ≡ false
 within-low low high n h = left-false (leb low n) (leb n high) (lt-leb low n h)
@@ -33,12 +34,6 @@ module _ (most b : ℕ) where
   pub allowed-none : (any : Bool) → any ≡ false → most < b → allowed any most b ≡ false
   unfolding allowed
   allowed-none any e h = rw e (lt-leb b most h)
-
--- a part by its start and length, and by its start and end
-take-drop : (m n : ℕ) (l : List ℕ) → slice m (m + n) l ≡ take n (drop m l)
-take-drop zero n l = ap (λ (k : ℕ). take k l) (zero-add n)
-take-drop (suc m) n [] = ap (drop (suc m)) (take-nil (suc m + n)) ∙ sym (take-nil n)
-take-drop (suc m) n (x ∷ l) = ap (λ (k : ℕ). slice (suc m) k (x ∷ l)) (suc-add m n) ∙ take-drop m n l
 
 -- at most 0 is 0
 only-zero : (b : ℕ) → leb b 0 ≡ isZero b
@@ -93,15 +88,15 @@ module _ (t : List ℕ) (letters : ℕ) where
 
     sides-are : every (allowed true letters) (slice 6 (6 + 2 * c) t) ≡ sides
     unfolding allowed
-    sides-are = rw C (ap (every (λ b. leb b letters || eqb b 255)) (take-drop 6 (2 * columnCount t) t))
+    sides-are = rw C (ap (every (λ b. leb b letters || eqb b 255)) (drop-take 6 (2 * columnCount t) t))
 
     marks-are : every (allowed false 1) (slice (6 + 2 * c) (6 + 2 * c + s) t) ≡ marks
     unfolding allowed
-    marks-are = rw (C, S) (ap (every (λ b. leb b 1)) (take-drop (marksAt t) (stateCount t) t))
+    marks-are = rw (C, S) (ap (every (λ b. leb b 1)) (drop-take (marksAt t) (stateCount t) t))
 
     nexts-are : every (allowed false s) (slice (6 + 2 * c + s) (6 + 2 * c + s + c * s) t) ≡ nexts
     unfolding allowed
-    nexts-are = rw (C, S) (ap (every (λ b. leb b (stateCount t))) (take-drop (rowsAt t) (columnCount t * stateCount t) t))
+    nexts-are = rw (C, S) (ap (every (λ b. leb b (stateCount t))) (drop-take (rowsAt t) (columnCount t * stateCount t) t))
 
     rest-is : every (allowed false 0) (slice (6 + 2 * c + s + c * s) 510 t) ≡ rest
     unfolding allowed

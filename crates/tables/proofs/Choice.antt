@@ -10,9 +10,8 @@ use lib.Dec.{T, ltb, eqb}
 use borrow.Author.Count.{below-more}
 use borrow.Author.Tests.{eq-eqb, ne-eqb, lt-ltb, le-ltb}
 use Rattle.model.specs.Lists.{below, every, first}
-use Rattle.model.proofs.Booleans.{true-of, of-true}
-use Rattle.model.proofs.Lists.{every-in, below-from}
-use Rattle.tables.proofs.Lists.{left-false, right-false, left-true, every-below-fails}
+use Rattle.model.proofs.Booleans.{left-true, left-false, right-false, true-of, of-true}
+use Rattle.model.proofs.Lists.{every-in, every-fails, below-from}
 
 -- the first number that passes: of a list in two parts, where none passes, and where one does
 module _ (f : ℕ → Bool) where
@@ -85,7 +84,7 @@ module _ (matching : ℕ → Bool) (broad : ℕ → ℕ) where
     unmatched c e = left-false (matching c) (every (yields c) (below n)) e
 
     beaten : (c d : ℕ) → d < n → (d ≡ c → ⊥) → matching d ≡ true → broad d ≤ broad c → taken n c ≡ false
-    beaten c d h u m k = right-false (matching c) (every (yields c) (below n)) (every-below-fails (yields c) n d h (stands c d u m k))
+    beaten c d h u m k = right-false (matching c) (every (yields c) (below n)) (every-fails (yields c) n d h (stands c d u m k))
 
     wins : (c : ℕ) → matching c ≡ true → ((d : ℕ) → d < n → (d ≡ c → ⊥) → matching d ≡ true → broad c < broad d) → taken n c ≡ true
     wins c m less = left-true (matching c) (every (yields c) (below n)) m ∙ true-of (every (yields c) (below n)) (every-in (yields c) (below n) each)
@@ -100,13 +99,13 @@ module _ (matching : ℕ → Bool) (broad : ℕ → ℕ) where
 
   -- what is known after c columns: the column b is the narrowest that matches, n where there is none or two; v is its breadth, `top` where there is none
   module _ (n top : ℕ) where
-    pub data Passed (c b v : ℕ) : Type 0 where
-      none : b ≡ n → v ≡ top → ((d : ℕ) → d < c → matching d ≡ false) → Passed c b v
-      one : b < c → matching b ≡ true → broad b ≡ v → ((d : ℕ) → d < c → (d ≡ b → ⊥) → matching d ≡ true → v < broad d) → Passed c b v
-      tied : b ≡ n → (x y : ℕ) → x < c → y < c → (x ≡ y → ⊥) → matching x ≡ true → matching y ≡ true → broad x ≡ v → broad y ≡ v → ((d : ℕ) → d < c → matching d ≡ true → v ≤ broad d) → Passed c b v
+    pub data NarrowestSoFar (c b v : ℕ) : Type 0 where
+      none : b ≡ n → v ≡ top → ((d : ℕ) → d < c → matching d ≡ false) → NarrowestSoFar c b v
+      one : b < c → matching b ≡ true → broad b ≡ v → ((d : ℕ) → d < c → (d ≡ b → ⊥) → matching d ≡ true → v < broad d) → NarrowestSoFar c b v
+      tied : b ≡ n → (x y : ℕ) → x < c → y < c → (x ≡ y → ⊥) → matching x ≡ true → matching y ≡ true → broad x ≡ v → broad y ≡ v → ((d : ℕ) → d < c → matching d ≡ true → v ≤ broad d) → NarrowestSoFar c b v
 
     -- no column passed that matches is narrower
-    least : {c b v : ℕ} → Passed c b v → (d : ℕ) → d < c → matching d ≡ true → v ≤ broad d
+    least : {c b v : ℕ} → NarrowestSoFar c b v → (d : ℕ) → d < c → matching d ≡ true → v ≤ broad d
     least (none e q f) d h m = absurd (true≢false (sym m ∙ f d h))
     least {b = b} {v = v} (one h m e less) d k w = go (ℕ-discrete d b)
       where
@@ -115,40 +114,40 @@ module _ (matching : ℕ → Bool) (broad : ℕ → ℕ) where
         go (no u) = let r = less d k u w in omega arith
     least (tied e x y p q u m k r s f) d h w = f d h w
 
-    pub pass-none : Passed 0 n top
+    pub pass-none : NarrowestSoFar 0 n top
     pass-none = none refl refl (λ d h. absurd (omega arith))
 
     module _ (c b v : ℕ) where
       -- a column that does not match changes nothing
-      pub pass-unmatched : matching c ≡ false → Passed c b v → Passed (c + 1) b v
+      pub pass-unmatched : matching c ≡ false → NarrowestSoFar c b v → NarrowestSoFar (c + 1) b v
       pass-unmatched m (none e q f) = none e q (below-more _ c f m)
       pass-unmatched m (one h w e less) = one (omega arith) w e (below-more _ c less (λ u k. absurd (true≢false (sym k ∙ m))))
       pass-unmatched m (tied e x y p q u k w r s f) = tied e x y (omega arith) (omega arith) u k w r s (below-more _ c f (λ l. absurd (true≢false (sym l ∙ m))))
 
       -- a narrower one is taken
-      pub pass-narrower : matching c ≡ true → broad c < v → Passed c b v → Passed (c + 1) c (broad c)
+      pub pass-narrower : matching c ≡ true → broad c < v → NarrowestSoFar c b v → NarrowestSoFar (c + 1) c (broad c)
       pass-narrower m h p =
           one (omega arith) m refl
           (below-more _ c (λ d k u w. let l = least p d k w in omega arith) (λ u w. absurd (u refl)))
 
       -- one as broad: two are narrowest, and none is taken
-      pub pass-tie : matching c ≡ true → broad c ≡ v → broad c < top → Passed c b v → Passed (c + 1) n v
+      pub pass-tie : matching c ≡ true → broad c ≡ v → broad c < top → NarrowestSoFar c b v → NarrowestSoFar (c + 1) n v
       pass-tie m e h (none q r f) = absurd (omega arith)
       pass-tie m e h (one l w r less) = tied refl b c (omega arith) (omega arith) (λ q. omega arith) w m r e (below-more _ c (least (one l w r less)) (λ k. omega arith))
       pass-tie m e h (tied q x y k l u w z r s f) = tied refl x y (omega arith) (omega arith) u w z r s (below-more _ c f (λ g. omega arith))
 
       -- a broader one changes nothing
-      pub pass-broader : matching c ≡ true → v < broad c → broad c < top → Passed c b v → Passed (c + 1) b v
+      pub pass-broader : matching c ≡ true → v < broad c → broad c < top → NarrowestSoFar c b v → NarrowestSoFar (c + 1) b v
       pass-broader m e h (none q r f) = absurd (omega arith)
       pass-broader m e h (one l w r less) = one (omega arith) w r (below-more _ c less (λ u k. e))
       pass-broader m e h (tied q x y k l u w z r s f) = tied q x y (omega arith) (omega arith) u w z r s (below-more _ c f (λ g. omega arith))
 
     -- by the values that were stored
-    pub pass-read : {c b v b′ v′ : ℕ} → Passed c b v → b′ ≡ b → v′ ≡ v → Passed c b′ v′
-    pass-read {c} p e q = subst₂ (λ (x y : ℕ). Passed c x y) (sym e) (sym q) p
+    pub pass-read : {c b v b′ v′ : ℕ} → NarrowestSoFar c b v → b′ ≡ b → v′ ≡ v → NarrowestSoFar c b′ v′
+    pass-read {c} p e q = subst₂ (λ (x y : ℕ). NarrowestSoFar c x y) (sym e) (sym q) p
 
     -- after the last column
-    pub pass-all : {b v : ℕ} → Passed n b v → b ≡ narrowest n
+    pub pass-all : {b v : ℕ} → NarrowestSoFar n b v → b ≡ narrowest n
     pass-all (none e q f) = e ∙ sym (first-none (taken n) n n (λ d h. unmatched n d (f d h)))
     pass-all {b} {v} (one h m e less) = sym (first-one (taken n) n b n h (wins n b m (λ d k u w. let l = less d k u w in omega arith)) others)
       where

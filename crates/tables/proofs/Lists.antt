@@ -1,29 +1,18 @@
--- Laws of tests over what a loop has passed and what is left: parts of a list, and numbers below a bound.
+-- Laws of tests over what a loop has passed: the beginning of a list, an element more.
 use Prim.Native.Nat.{ℕ, zero, suc, _+_, _<_, _≤_}
 use native.Mathlib.Nat.{zero-add, add-zero, add-assoc, le-of-lt}
 use native.Mathlib.Numerals.{add-one}
 use native.Mathlib.Omega.{arith}
-use native.Mathlib.Decide.{ℕ-discrete}
 use mathlib.Core.Bool.{Bool, true, false, _&&_, not, cond}
 use mathlib.Core.Path.{_≡_, refl, sym, ap, _∙_}
 use mathlib.Core.List.{List, [], _∷_, _++_}
 use lib.ListN.{length, getD, take, drop, set}
-use lib.Seq.{slice, slice-cons, take-suc, drop-cons, set-at, append-snoc, length-take-le}
+use lib.Seq.{take-suc, drop-cons, set-at, append-snoc, length-take-le}
 use lib.Dec.{T}
 use borrow.Author.Tests.{not-true, not-false}
-use Rattle.model.specs.Lists.{below, every, count}
-use Rattle.model.proofs.Booleans.{and-out}
+use Rattle.model.specs.Lists.{every, count}
+use Rattle.model.proofs.Booleans.{and-out, left-false, right-false}
 use Rattle.model.proofs.Lists.{every-append}
-
-pub left-false : (a b : Bool) → a ≡ false → (a && b) ≡ false
-left-false a b e = ap (λ (x : Bool). x && b) e
-
-pub right-false : (a b : Bool) → b ≡ false → (a && b) ≡ false
-right-false true b e = e
-right-false false b e = refl
-
-pub left-true : (a b : Bool) → a ≡ true → (a && b) ≡ b
-left-true a b e = ap (λ (x : Bool). x && b) e
 
 and-true : (a : Bool) → (a && true) ≡ a
 and-true true = refl
@@ -35,37 +24,6 @@ fails r e k = sym e ∙ not-true r k
 
 pub passes : {b : Bool} (r : Bool) → r ≡ b → not r ≡ false → b ≡ true
 passes r e k = sym e ∙ not-false r k
-
-module _ {A : Type 0} (f : A → Bool) (from to : ℕ) (l : List A) (d : A) (h : from < to) (k : to ≤ length l) where
-  -- the first of a part passes: the rest decides
-  pub every-slice-more : f (getD l from d) ≡ true → every f (slice from to l) ≡ every f (slice (from + 1) to l)
-  every-slice-more e =
-      ap (every f) (slice-cons from to l d h k)
-      ∙ left-true (f (getD l from d)) (every f (slice (suc from) to l)) e
-      ∙ ap (λ (n : ℕ). every f (slice n to l)) (sym (add-one from))
-
-  pub every-slice-fails : f (getD l from d) ≡ false → every f (slice from to l) ≡ false
-  every-slice-fails e = ap (every f) (slice-cons from to l d h k) ∙ left-false (f (getD l from d)) (every f (slice (suc from) to l)) e
-
-module _ (f : ℕ → Bool) where
-  every-below-suc : (n : ℕ) → every f (below (suc n)) ≡ (every f (below n) && every f (n ∷ []))
-  every-below-suc n = every-append f (below n) (n ∷ [])
-
-  -- a number more passes
-  pub every-below-more : (n : ℕ) → every f (below n) ≡ true → f n ≡ true → every f (below (n + 1)) ≡ true
-  every-below-more n e k =
-      ap (λ (m : ℕ). every f (below m)) (add-one n)
-      ∙ every-below-suc n
-      ∙ left-true (every f (below n)) (every f (n ∷ [])) e
-      ∙ left-true (f n) true k
-
-  pub every-below-fails : (n k : ℕ) → k < n → f k ≡ false → every f (below n) ≡ false
-  every-below-fails zero k h e = absurd (omega arith)
-  every-below-fails (suc n) k h e = every-below-suc n ∙ go (ℕ-discrete k n) (λ l. every-below-fails n k l e)
-    where
-      go : Dec (k ≡ n) → (k < n → every f (below n) ≡ false) → (every f (below n) && every f (n ∷ [])) ≡ false
-      go (yes q) r = right-false (every f (below n)) (every f (n ∷ [])) (left-false (f n) true (ap f (sym q) ∙ e))
-      go (no q) r = left-false (every f (below n)) (every f (n ∷ [])) (r (omega arith))
 
 -- an element of a list whose every element passes, and past its end what passes as well
 module _ {A : Type 0} (f : A → Bool) (d : A) where

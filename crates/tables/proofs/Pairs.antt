@@ -2,17 +2,16 @@
 use Prim.Native.Nat.{ℕ, zero, suc, _+_, _*_, _<_, _≤_}
 use native.Mathlib.Omega.{arith}
 use mathlib.Core.Bool.{Bool, true, _||_}
-use mathlib.Core.Path.{_≡_, refl, sym, ap, ap₂, _∙_}
+use mathlib.Core.Path.{_≡_, refl, sym, ap, _∙_}
 use mathlib.Core.List.{List, [], _∷_, _++_}
 use lib.ListN.{length, getD, length-append}
 use lib.Seq.{getD-at}
 use lib.Dec.{eqb}
 use borrow.Author.Tests.{eq-eqb, ne-eqb}
 use Rattle.model.specs.Lists.{byte}
-use Rattle.model.specs.Blocks.{block, header}
+use Rattle.model.specs.Blocks.{header}
 use Rattle.model.specs.RuleTables.{Sides, column, pairs, boundaryPair, pairsAndBoundary, matchesSide}
-use Rattle.model.proofs.Lists.{length-map-below, getD-map-below}
-use Rattle.model.proofs.Blocks.{block-byte}
+use Rattle.letters.proofs.Laws.{length-pairs, pair-at}
 use Rattle.tables.specs.Sides.{sidesFrom, pairNumber}
 
 pub any-side : (side letter : ℕ) → side ≡ 255 → matchesSide side letter ≡ true
@@ -29,13 +28,9 @@ unfolding column
 column-from t c = let e : 6 + 2 * c + 1 ≡ 7 + 2 * c = omega arith in ap (λ (n : ℕ). sidesWith (byte t (6 + 2 * c)) (byte t n)) e
 
 module _ (image : List ℕ) where
-  length-pairs : length (pairs image) ≡ header image .pairs
-  unfolding pairs
-  length-pairs = length-map-below _ (header image .pairs)
-
   pub length-pairsAndBoundary : length (pairsAndBoundary image) ≡ header image .pairs + 1
   unfolding pairsAndBoundary
-  length-pairsAndBoundary = length-append (pairs image) (boundaryPair ∷ []) ∙ ap (λ (n : ℕ). n + 1) length-pairs
+  length-pairsAndBoundary = length-append (pairs image) (boundaryPair ∷ []) ∙ ap (λ (n : ℕ). n + 1) (length-pairs image)
 
   -- a pair by its number among the listed ones; past them stands the boundary pair
   pub pair-listed : (p : ℕ) → pairNumber image p ≡ getD (pairs image) p boundaryPair
@@ -48,16 +43,12 @@ module _ (image : List ℕ) where
       go (x ∷ l) zero = refl
       go (x ∷ l) (suc i) = go l i
 
-  pair-byte : (i j : ℕ) → i < 512 → 1024 + i ≡ j → byte (block image 2) i ≡ byte image j
-  pair-byte i j h e = block-byte image 2 i h ∙ ap (byte image) e
-
   listed : (p : ℕ) → p < header image .pairs → header image .pairs ≤ 250 → getD (pairs image) p boundaryPair ≡ sidesFrom image (1028 + 2 * p)
-  unfolding pairs
-  listed p h k = getD-map-below _ (header image .pairs) p boundaryPair h ∙ ap₂ sidesWith (pair-byte (4 + 2 * p) (1028 + 2 * p) (omega arith) (omega arith)) (pair-byte (5 + 2 * p) (1028 + 2 * p + 1) (omega arith) (omega arith))
+  listed p h k = let e : 1029 + 2 * p ≡ 1028 + 2 * p + 1 = omega arith in pair-at image p h k ∙ ap (λ (n : ℕ). sidesWith (byte image (1028 + 2 * p)) (byte image n)) e
 
   pub pair-from : (p : ℕ) → p < header image .pairs → header image .pairs ≤ 250 → sidesFrom image (1028 + 2 * p) ≡ pairNumber image p
   pair-from p h k = sym (pair-listed p ∙ listed p h k)
 
   pub boundary-last : pairNumber image (header image .pairs) ≡ boundaryPair
   unfolding pairsAndBoundary
-  boundary-last = getD-at (pairs image) boundaryPair [] boundaryPair (header image .pairs) length-pairs
+  boundary-last = getD-at (pairs image) boundaryPair [] boundaryPair (header image .pairs) (length-pairs image)

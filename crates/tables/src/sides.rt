@@ -1,4 +1,5 @@
 // The two sides of a pair and of a column. A letter of one level is never compared with a letter of the other.
+use image::kinds;
 use letters::Lexical;
 use letters::Surface;
 ghost use mathlib.Core.Path.{_≡_};
@@ -58,7 +59,7 @@ pub fn pair_at(image: &[u8], pairs: usize, p: usize) -> Sides
     ensures { λ r. ⌜ sidesOf r ≡ pairNumber (now (image .entry)) p ⌝ }
 {
     if p < pairs {
-        return sides_at(image, 1028 + 2 * p);
+        return sides_at(image, 1028 + kinds::PAIR_WIDTH * p);
     }
     Sides {
         lexical: Lexical(1),

@@ -5,10 +5,12 @@ use mathlib.Core.Bool.{Bool, true, false}
 use mathlib.Core.Path.{_≡_, sym, ap, _∙_}
 use Rattle.model.specs.Refusals.{unless, accepted, rightLetters, rightPairs, rightTables, rightColumns, rightEntries}
 use Rattle.model.proofs.Booleans.{of-true}
+use Rattle.grammar.specs.Answers.{recordsVerdict}
 use Rattle.grammar.proofs.Verdicts.{refused-4, refused-5, refused-6, refused-7, records-last}
 use Rattle.grammar.proofs.check_records.Statement.{statement}
 use Rattle.grammar.proofs.check_records.Tie as tie
 
+-- what each test that was passed says
 letters-right : (c : tie.Else1) → rightLetters (c .before .before .before .args .image .now) ≡ true
 letters-right c = sym (c .before .right-letters .ensures) ∙ not-false (c .before .right-letters .result) (c .if1 .left)
 
@@ -21,8 +23,13 @@ tables-right c = sym (c .before .right-tables .ensures) ∙ not-false (c .before
 columns-right : (c : tie.Else4) → rightColumns (c .before .before .before .before .before .before .before .before .before .args .image .now) ≡ true
 columns-right c = sym (c .before .right-columns .ensures) ∙ not-false (c .before .right-columns .result) (c .if4 .left)
 
-entries-right : (c : tie.Else5) → rightEntries (c .before .before .before .before .before .before .before .before .before .before .before .args .image .now) ≡ true
-entries-right c = sym (c .before .right-entries .ensures) ∙ not-false (c .before .right-entries .result) (c .if5 .left)
+-- past those four, the last decides
+last-decides : (c : tie.Else4) {b : Bool} → rightEntries (c .before .before .before .before .before .before .before .before .before .args .image .now) ≡ b → unless b 8 accepted ≡ recordsVerdict (c .before .before .before .before .before .before .before .before .before .args .image .now)
+last-decides c e =
+    let three = c .before .before in
+    let two = three .before .before in
+    let one = two .before .before in
+    ap (λ (b : Bool). unless b 8 accepted) (sym e) ∙ records-last (one .before .before .before .args .image .now) (letters-right one) (pairs-right two) (tables-right three) (columns-right c)
 
 right-letters-requires : tie.Need-right-letters-requires
 right-letters-requires c κs = search needs
@@ -34,28 +41,37 @@ right-pairs-requires : tie.Need-right-pairs-requires
 right-pairs-requires c κs = search needs
 
 returns-2 : tie.Need-returns-2
-returns-2 c = refused-5 (c .before .before .before .before .before .args .image .now) (letters-right (c .before .before)) (sym (c .before .right-pairs .ensures) ∙ not-true (c .before .right-pairs .result) (c .if2 .taken))
+returns-2 c =
+    let one = c .before .before in
+    refused-5 (one .before .before .before .args .image .now) (letters-right one) (sym (c .before .right-pairs .ensures) ∙ not-true (c .before .right-pairs .result) (c .if2 .taken))
 
 right-tables-requires : tie.Need-right-tables-requires
 right-tables-requires c κs = search needs
 
 returns-3 : tie.Need-returns-3
-returns-3 c = refused-6 (c .before .before .before .before .before .before .before .args .image .now) (letters-right (c .before .before .before .before)) (pairs-right (c .before .before)) (sym (c .before .right-tables .ensures) ∙ not-true (c .before .right-tables .result) (c .if3 .taken))
+returns-3 c =
+    let two = c .before .before in
+    let one = two .before .before in
+    refused-6 (one .before .before .before .args .image .now) (letters-right one) (pairs-right two) (sym (c .before .right-tables .ensures) ∙ not-true (c .before .right-tables .result) (c .if3 .taken))
 
 right-columns-requires : tie.Need-right-columns-requires
 right-columns-requires c κs = (c .before .before .before .before .before .before .before .pre, of-true _ (tables-right c))
 
 returns-4 : tie.Need-returns-4
-returns-4 c = refused-7 (c .before .before .before .before .before .before .before .before .before .args .image .now) (letters-right (c .before .before .before .before .before .before)) (pairs-right (c .before .before .before .before)) (tables-right (c .before .before)) (sym (c .before .right-columns .ensures) ∙ not-true (c .before .right-columns .result) (c .if4 .taken))
+returns-4 c =
+    let three = c .before .before in
+    let two = three .before .before in
+    let one = two .before .before in
+    refused-7 (one .before .before .before .args .image .now) (letters-right one) (pairs-right two) (tables-right three) (sym (c .before .right-columns .ensures) ∙ not-true (c .before .right-columns .result) (c .if4 .taken))
 
 right-entries-requires : tie.Need-right-entries-requires
 right-entries-requires c κs = search needs
 
 returns-5 : tie.Need-returns-5
-returns-5 c = ap (λ (b : Bool). unless b 8 accepted) (sym (sym (c .before .right-entries .ensures) ∙ not-true (c .before .right-entries .result) (c .if5 .taken))) ∙ records-last (c .before .before .before .before .before .before .before .before .before .before .before .args .image .now) (letters-right (c .before .before .before .before .before .before .before .before)) (pairs-right (c .before .before .before .before .before .before)) (tables-right (c .before .before .before .before)) (columns-right (c .before .before))
+returns-5 c = last-decides (c .before .before) (sym (c .before .right-entries .ensures) ∙ not-true (c .before .right-entries .result) (c .if5 .taken))
 
 returns-6 : tie.Need-returns-6
-returns-6 c = ap (λ (b : Bool). unless b 8 accepted) (sym (entries-right c)) ∙ records-last (c .before .before .before .before .before .before .before .before .before .before .before .args .image .now) (letters-right (c .before .before .before .before .before .before .before .before)) (pairs-right (c .before .before .before .before .before .before)) (tables-right (c .before .before .before .before)) (columns-right (c .before .before))
+returns-6 c = last-decides (c .before .before) (sym (c .before .right-entries .ensures) ∙ not-false (c .before .right-entries .result) (c .if5 .left))
 
 pub check-records-spec : {M : Type 1} → statement M
 check-records-spec =

@@ -3,7 +3,7 @@ use borrow.Author.Needs.{needs}
 use native.Mathlib.Omega.{arith}
 use native.Mathlib.Nat.{mul-le-mul}
 use mathlib.Core.List.{List}
-use mathlib.Core.Path.{_≡_, sym, ap₂, _∙_}
+use mathlib.Core.Path.{_≡_, sym, ap, ap₂, _∙_}
 use Prim.Native.Nat.{ℕ, _+_, _*_, _≤_}
 use lib.ListN.{take, drop}
 use Rattle.model.specs.Lists.{every, isZero, byte}
@@ -17,8 +17,10 @@ use Rattle.layout.proofs.laid_out.Tie as tie
 kind : (c : tie.Else1) → byte (c .before .before .before .before .args .block .now) 2 ≡ kindAt (headerOf (c .before .before .before .before .args .h)) (c .before .before .before .before .args .k)
 kind c = sym (c .before .byte-at .ensures .0) ∙ c .if1 .left ∙ c .before .before .kind-at .ensures .0
 
-small : (c : tie.Else2) → recordWidth (c .before .before .before .before .before .kind-at .result) * c .before .before .records-at .result ≤ 506 * 253
-small c = mul-le-mul {n₁ = recordWidth (c .before .before .before .before .before .kind-at .result)} {m₁ = c .before .before .records-at .result} {n₂ = 506} {m₂ = 253} (width-most (c .before .before .before .before .before .kind-at .result)) (c .before .before .records-at .ensures .1)
+small : (c : tie.After-width) → c .width .result * c .before .before .before .records-at .result ≤ 506 * 253
+small c =
+    let n = c .before .before .before .records-at in
+    mul-le-mul {n₁ = c .width .result} {m₁ = n .result} {n₂ = 506} {m₂ = 253} (omega (arith, c .width .ensures, width-most (c .before .before .before .before .before .before .kind-at .result))) (n .ensures .1)
 
 kind-at-requires : tie.Need-kind-at-requires
 kind-at-requires c κs = search needs
@@ -43,33 +45,29 @@ returns-2 c =
     let start = one .before .before .before .before in
     sym (laid-count (headerOf (start .args .h)) (start .args .k) (start .args .block .now) (kind one) (λ e. c .if2 .taken (c .before .byte-at2 .ensures .0 ∙ e ∙ sym (c .before .before .records-at .ensures .0))))
 
-mul-zeros : tie.Need-mul-zeros
-mul-zeros c = search needs
+width-requires : tie.Need-width-requires
+width-requires c κs = search needs
 
-array-read-zeros : tie.Need-array-read-zeros
-array-read-zeros c = search needs
+mul-are-zeros : tie.Need-mul-are-zeros
+mul-are-zeros c = omega (arith, small c)
 
-mul-zeros-2 : tie.Need-mul-zeros-2
-unfolding recordWidth
-mul-zeros-2 c = omega (arith, small c)
+add-are-zeros : tie.Need-add-are-zeros
+add-are-zeros c = omega (arith, small c)
 
-add-zeros : tie.Need-add-zeros
-unfolding recordWidth
-add-zeros c = omega (arith, small c)
-
-zeros-requires : tie.Need-zeros-requires
-zeros-requires c κs = search needs
+are-zeros-requires : tie.Need-are-zeros-requires
+are-zeros-requires c κs = search needs
 
 returns-3 : tie.Need-returns-3
-unfolding recordWidth
 returns-3 c =
-    let two = c .before in
+    let width = c .before .width in
+    let two = c .before .before in
     let one = two .before .before .before in
     let start = one .before .before .before .before in
     let b = start .args .block .now in
     let k = one .before .before .kind-at in
     let n = two .before .before .records-at in
-    c .zeros .ensures
+    c .are-zeros .ensures
+    ∙ ap (λ (w : ℕ). every isZero (drop (4 + w * n .result) (take 510 b))) (width .ensures)
     ∙ ap₂ (λ (x y : ℕ). every isZero (drop (4 + recordWidth x * y) (take 510 b))) (k .ensures .0) (n .ensures .0)
     ∙ sym (laid-rest (headerOf (start .args .h)) (start .args .k) b (kind one) (sym (two .before .byte-at2 .ensures .0) ∙ two .if2 .left ∙ n .ensures .0))
 
@@ -83,9 +81,8 @@ laid-out-spec =
     records-at-requires
     byte-at-requires-2
     returns-2
-    mul-zeros
-    array-read-zeros
-    mul-zeros-2
-    add-zeros
-    zeros-requires
+    width-requires
+    mul-are-zeros
+    add-are-zeros
+    are-zeros-requires
     returns-3)

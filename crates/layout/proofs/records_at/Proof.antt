@@ -6,45 +6,48 @@ use mathlib.Core.Path.{_≡_, refl, sym, _∙_, subst}
 use Prim.Native.Nat.{ℕ, _+_, _*_, _-_, _≤_, _<_, min}
 use Rattle.model.specs.Blocks.{Header, recordsAt}
 use Rattle.image.specs.Header.{headerOf}
-use Rattle.layout.specs.Kinds.{perBlock}
+use Rattle.image.specs.Kinds.{perBlock}
 use Rattle.layout.proofs.Placing.{Placed, placed, records-by}
 use Rattle.layout.proofs.records_at.Statement.{statement}
 use Rattle.layout.proofs.records_at.Tie as tie
 
--- what the three calls say, by the tables
+-- what the four calls say, by the tables
 module _ (c : tie.After-first-block) where
   abbrev h : Header
-  h = headerOf (c .before .before .before .args .h)
+  h = headerOf (c .before .before .before .before .args .h)
 
   abbrev k : ℕ
-  k = c .before .before .before .args .k
+  k = c .before .before .before .before .args .k
 
   abbrev kind : ℕ
-  kind = c .before .before .kind-at .result
+  kind = c .before .before .before .kind-at .result
+
+  abbrev most : ℕ
+  most = c .before .before .per-block .result
 
   abbrev before : ℕ
-  before = perBlock kind * (k - c .first-block .result)
+  before = most * (k - c .first-block .result)
 
   at : Placed h k kind
-  at = subst (Placed h k) (sym (c .before .before .kind-at .ensures .0)) (placed h (c .before .before .before .pre .0) k)
+  at = subst (Placed h k) (sym (c .before .before .before .kind-at .ensures .0)) (placed h (c .before .before .before .before .pre .0) k)
 
   first : c .first-block .result ≤ k
   first = omega (arith, at .first-is, c .first-block .ensures)
 
-  small : before ≤ 253 * 128
-  small = mul-le-mul {n₁ = perBlock kind} {m₁ = k - c .first-block .result} {n₂ = 253} {m₂ = 128} (at .most-is) (omega arith)
+  few : most ≤ 253
+  few = omega (arith, at .most-is, c .before .before .per-block .ensures)
 
-  records : recordsAt h k ≡ min (perBlock kind) (c .before .in-all .result - before)
-  records = records-by h (c .before .before .before .pre .0) k ∙ rw (← c .before .before .kind-at .ensures .0, ← c .first-block .ensures, ← c .before .in-all .ensures) refl
+  small : before ≤ 253 * 128
+  small = mul-le-mul {n₁ = most} {m₁ = k - c .first-block .result} {n₂ = 253} {m₂ = 128} few (omega arith)
+
+  records : recordsAt h k ≡ min most (c .before .in-all .result - before)
+  records = records-by h (c .before .before .before .before .pre .0) k ∙ rw (← c .before .before .before .kind-at .ensures .0, ← c .before .before .per-block .ensures, ← c .first-block .ensures, ← c .before .in-all .ensures) refl
 
 kind-at-requires : tie.Need-kind-at-requires
 kind-at-requires c κs = search needs
 
-mul-most : tie.Need-mul-most
-mul-most c = search needs
-
-array-read-most : tie.Need-array-read-most
-array-read-most c = search needs
+per-block-requires : tie.Need-per-block-requires
+per-block-requires c κs = search needs
 
 in-all-requires : tie.Need-in-all-requires
 in-all-requires c κs = search needs
@@ -56,28 +59,23 @@ sub-before : tie.Need-sub-before
 sub-before c = first c
 
 mul-before : tie.Need-mul-before
-unfolding perBlock
 mul-before c = omega (arith, small c)
 
 returns : tie.Need-returns
-unfolding perBlock
 returns c = (omega (arith, records (c .before)), omega arith)
 
 returns-2 : tie.Need-returns-2
-unfolding perBlock
-returns-2 c = let m = (at (c .before .before)) .most-is in (omega (arith, records (c .before .before)), omega arith)
+returns-2 c = let m = few (c .before .before) in (omega (arith, records (c .before .before)), omega arith)
 
 returns-3 : tie.Need-returns-3
-unfolding perBlock
-returns-3 c = let m = (at (c .before .before)) .most-is in (omega (arith, records (c .before .before)), omega arith)
+returns-3 c = let m = few (c .before .before) in (omega (arith, records (c .before .before)), omega arith)
 
 pub records-at-spec : {M : Type 1} → statement M
 records-at-spec =
     tie.close
     (tie.spec
     kind-at-requires
-    mul-most
-    array-read-most
+    per-block-requires
     in-all-requires
     first-block-requires
     sub-before

@@ -5,12 +5,14 @@ use borrow.Author.Tests.{not-true, not-false}
 use mathlib.Core.Bool.{Bool, true, false}
 use mathlib.Core.List.{List}
 use mathlib.Core.Path.{_≡_, sym, ap, _∙_}
-use Prim.Native.Nat.{ℕ, _+_, _*_, _-_, _/_, _%_, _≤_}
-use lib.ListN.{take, drop}
+use Prim.Native.Nat.{ℕ, _+_, _*_, _-_, _/_, _%_, _<_, _≤_}
+use lib.ListN.{length, getD, take, drop}
 use Rattle.model.specs.Lists.{below, every}
 use Rattle.model.specs.Lexicon.{entry, isEntry}
 use Rattle.image.specs.Header.{headerOf}
-use Rattle.lexicon.proofs.Laws.{entryStart, entry-at, entry-inside, below-fails, below-goes-on, every-below-end}
+use Rattle.model.proofs.Lists.{length-below, getD-below}
+use Rattle.model.proofs.Rest.{every-on, every-fails, every-done}
+use Rattle.lexicon.proofs.Laws.{entryStart, entry-at, entry-inside}
 use Rattle.lexicon.proofs.are_entries.Statement.{statement}
 use Rattle.lexicon.proofs.are_entries.Tie as tie
 
@@ -48,14 +50,20 @@ module _ (c : tie.After-is-entry Inv-loop μ-loop) where
       ap (λ (l : List ℕ). isEntry l (start .args .h .letters) (start .args .h .lexicons)) (entry-at (start .args .image .now) (headerOf (start .args .h)) (start .pre) number ∙ ap (λ (n : ℕ). take 16 (drop n (start .args .image .now))) (sym place))
       ∙ sym (c .is-entry .ensures)
 
+  there : number < length (below (start .args .h .entries))
+  there = omega (arith, length-below (start .args .h .entries))
+
+  asked : right (getD (below (start .args .h .entries)) number 0) ≡ c .is-entry .result
+  asked = ap right (getD-below (start .args .h .entries) number (omega arith)) ∙ looked
+
   fails : c .is-entry .result ≡ false → false ≡ every right (below (start .args .h .entries))
-  fails e = sym (below-fails right (start .args .h .entries) number (omega arith) (looked ∙ e)) ∙ c .before .before .loop .inv .3
+  fails e = sym (every-fails (below (start .args .h .entries)) 0 number there right (asked ∙ e)) ∙ c .before .before .loop .inv .3
 
   goes-on : c .is-entry .result ≡ true → every right (drop (start .args .h .entries - (c .before .before .loop .left - 1)) (below (start .args .h .entries))) ≡ every right (below (start .args .h .entries))
   goes-on e =
       let n : start .args .h .entries - (c .before .before .loop .left - 1) ≡ number + 1 = omega arith in
       ap (λ (k : ℕ). every right (drop k (below (start .args .h .entries)))) n
-      ∙ below-goes-on right (start .args .h .entries) number (omega arith) (looked ∙ e)
+      ∙ sym (every-on (below (start .args .h .entries)) 0 number there right (asked ∙ e))
       ∙ c .before .before .loop .inv .3
 
 entry-start-requires : tie.Need-entry-start-requires Inv-loop μ-loop
@@ -101,8 +109,7 @@ returns-2 : tie.Need-returns-2 Inv-loop μ-loop
 returns-2 c =
     let a = c .before .before .before .before .args in
     let f = isRight (a .image .now) (a .h .letters) (a .h .lexicons) in
-    let n : a .h .entries - c .before .loop .left ≡ a .h .entries = omega arith in
-    sym (every-below-end f (a .h .entries)) ∙ ap (λ (k : ℕ). every f (drop k (below (a .h .entries)))) (sym n) ∙ c .before .loop .inv .3
+    sym (every-done (below (a .h .entries)) (a .h .entries - c .before .loop .left) (omega (arith, length-below (a .h .entries))) f) ∙ c .before .loop .inv .3
 
 pub are-entries-spec : {M : Type 1} → statement M
 are-entries-spec =

@@ -6,7 +6,8 @@ use mathlib.Core.Path.{_≡_, refl, sym, ap, _∙_}
 use Prim.Native.Nat.{ℕ, _+_, _-_, _≤_}
 use lib.ListN.{take, drop}
 use Rattle.model.specs.Lists.{every, within}
-use Rattle.lexicon.proofs.Laws.{part-fails, part-goes-on, every-part-end, within-below, within-above, within-true}
+use Rattle.model.proofs.Rest.{part-on, part-fails, part-done}
+use Rattle.lexicon.proofs.Laws.{within-below, within-above, within-true}
 use Rattle.lexicon.proofs.are_letters.Statement.{statement}
 use Rattle.lexicon.proofs.are_letters.Tie as tie
 
@@ -30,12 +31,12 @@ module _ (c : tie.After-byte-at Inv-loop μ-loop) where
   fails : right (c .byte-at .result) ≡ false → false ≡ every right (drop (start .args .from) part)
   fails e =
       let l = c .before .before .loop in
-      sym (part-fails right (l .at) (start .args .end) (start .args .bytes .now) (omega arith) (omega arith) (ap right (sym (c .byte-at .ensures .0)) ∙ e)) ∙ l .inv .1
+      sym (part-fails right (l .at) (start .args .end) (start .args .bytes .now) 0 (omega arith) (omega arith) (ap right (sym (c .byte-at .ensures .0)) ∙ e)) ∙ l .inv .1
 
   goes-on : right (c .byte-at .result) ≡ true → every right (drop (c .before .before .loop .at + 1) part) ≡ every right (drop (start .args .from) part)
   goes-on e =
       let l = c .before .before .loop in
-      part-goes-on right (l .at) (start .args .end) (start .args .bytes .now) (omega arith) (omega arith) (ap right (sym (c .byte-at .ensures .0)) ∙ e) ∙ l .inv .1
+      sym (part-on right (l .at) (start .args .end) (start .args .bytes .now) 0 (omega arith) (omega arith) (ap right (sym (c .byte-at .ensures .0)) ∙ e)) ∙ l .inv .1
 
 loop-holds : tie.Need-loop-holds Inv-loop μ-loop
 loop-holds c = (omega arith, refl)
@@ -62,7 +63,7 @@ returns-3 : tie.Need-returns-3 Inv-loop μ-loop
 returns-3 c =
     let a = c .before .before .before .args in
     let e : c .before .loop .at ≡ a .end = omega arith in
-    sym (every-part-end (within 2 (a .letters)) (a .end) (a .bytes .now)) ∙ ap (λ (n : ℕ). every (within 2 (a .letters)) (drop n (take (a .end) (a .bytes .now)))) (sym e) ∙ c .before .loop .inv .1
+    sym (part-done (within 2 (a .letters)) (a .end) (a .bytes .now)) ∙ ap (λ (n : ℕ). every (within 2 (a .letters)) (drop n (take (a .end) (a .bytes .now)))) (sym e) ∙ c .before .loop .inv .1
 
 pub are-letters-spec : {M : Type 1} → statement M
 are-letters-spec =

@@ -23,6 +23,12 @@ loop-holds c = (search needs, (search needs, begun-none (rowNumbers (readingOf (
 row-number-requires : tie.Need-row-number-requires Inv-loop μ-loop
 row-number-requires c κs = search needs
 
+mul-put-number : tie.Need-mul-put-number Inv-loop μ-loop
+mul-put-number c = search needs
+
+cast-put-number : tie.Need-cast-put-number Inv-loop μ-loop
+cast-put-number c = search needs
+
 put-number-requires : tie.Need-put-number-requires Inv-loop μ-loop
 put-number-requires c κs = search needs
 
@@ -67,6 +73,8 @@ write-row-spec =
     μ-loop
     loop-holds
     row-number-requires
+    mul-put-number
+    cast-put-number
     put-number-requires
     add-k
     loop-less

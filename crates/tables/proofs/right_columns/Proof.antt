@@ -10,7 +10,8 @@ use lib.ListN.{length}
 use Rattle.model.specs.Lists.{below, every}
 use Rattle.model.specs.RuleTables.{table, columnCount, columnsOf}
 use Rattle.image.specs.Header.{headerOf}
-use Rattle.tables.proofs.Lists.{fails, passes, every-below-more, every-below-fails}
+use Rattle.model.proofs.Lists.{every-more, every-fails}
+use Rattle.tables.proofs.Lists.{fails, passes}
 use Rattle.tables.proofs.Laws.{laid-paired, columns-read}
 use Rattle.tables.proofs.right_columns.Statement.{statement}
 use Rattle.tables.proofs.right_columns.Tie as tie
@@ -42,7 +43,7 @@ returns c =
     let m = c .before .before in
     let b = m .before .before .before in
     let s = b .before .before in
-    sym (every-below-fails (right (s .args .image .now)) (s .args .h .rules) (b .loop .r) (m .before .before .loop-test .taken) (fails {b = right (s .args .image .now) (b .loop .r)} (m .choose-columns .result) (m .choose-columns .ensures .1) (c .if1 .taken)))
+    sym (every-fails (right (s .args .image .now)) (s .args .h .rules) (b .loop .r) (m .before .before .loop-test .taken) (fails {b = right (s .args .image .now) (b .loop .r)} (m .choose-columns .result) (m .choose-columns .ensures .1) (c .if1 .taken)))
     ∙ columns-read (s .args .image .now) (headerOf (s .args .h)) (s .pre .0)
 
 add-r : tie.Need-add-r Inv-loop μ-loop
@@ -59,7 +60,7 @@ loop-again c =
       search needs,
       (
         m .choose-columns .kept .1 .1 .1 .0 ∙ b .loop .inv .1 .0,
-        every-below-more (right (s .args .image .now)) (b .loop .r) (b .loop .inv .1 .1) (passes {b = right (s .args .image .now) (b .loop .r)} (m .choose-columns .result) (m .choose-columns .ensures .1) (c .if1 .left)),
+        every-more (right (s .args .image .now)) (b .loop .r) (b .loop .inv .1 .1) (passes {b = right (s .args .image .now) (b .loop .r)} (m .choose-columns .result) (m .choose-columns .ensures .1) (c .if1 .left)),
       ),
     )
 

@@ -8,7 +8,8 @@ use Prim.Native.Nat.{ℕ, _≤_, _-_}
 use Rattle.model.specs.Lists.{below, every}
 use Rattle.model.specs.RuleTables.{table, isTable}
 use Rattle.image.specs.Header.{headerOf}
-use Rattle.tables.proofs.Lists.{fails, passes, every-below-more, every-below-fails}
+use Rattle.model.proofs.Lists.{every-more, every-fails}
+use Rattle.tables.proofs.Lists.{fails, passes}
 use Rattle.tables.proofs.Laws.{table-fits, tables-read}
 use Rattle.tables.proofs.right_tables.Statement.{statement}
 use Rattle.tables.proofs.right_tables.Tie as tie
@@ -44,7 +45,7 @@ returns c =
     let b = c .before .before .before .before in
     let s = b .before .before in
     let f = right (s .args .image .now) (s .args .h .letters) in
-    sym (every-below-fails f (s .args .h .rules) (b .loop .r) (c .before .before .before .loop-test .taken) (fails (c .before .is-table .result) (tested (c .before)) (c .if1 .taken)))
+    sym (every-fails f (s .args .h .rules) (b .loop .r) (c .before .before .before .loop-test .taken) (fails (c .before .is-table .result) (tested (c .before)) (c .if1 .taken)))
     ∙ tables-read (s .args .image .now) (headerOf (s .args .h)) (s .pre)
 
 add-r : tie.Need-add-r Inv-loop μ-loop
@@ -57,7 +58,7 @@ loop-again : tie.Need-loop-again Inv-loop μ-loop
 loop-again c =
     let b = c .before .before .before .before in
     let a = b .before .before .args in
-    (search needs, every-below-more (right (a .image .now) (a .h .letters)) (b .loop .r) (b .loop .inv .1) (passes (c .before .is-table .result) (tested (c .before)) (c .if1 .left)))
+    (search needs, every-more (right (a .image .now) (a .h .letters)) (b .loop .r) (b .loop .inv .1) (passes (c .before .is-table .result) (tested (c .before)) (c .if1 .left)))
 
 returns-2 : tie.Need-returns-2 Inv-loop μ-loop
 returns-2 c =

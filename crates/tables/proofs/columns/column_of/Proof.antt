@@ -8,14 +8,14 @@ use Prim.Native.Nat.{ℕ, _<_, _≤_, _-_}
 use lib.ListN.{getD}
 use Rattle.model.specs.RuleTables.{Sides, pairsAndBoundary, column, matches, columnFor}
 use Rattle.tables.specs.Sides.{sidesOf}
-use Rattle.tables.proofs.Choice.{Passed, pass-none, pass-unmatched, pass-narrower, pass-tie, pass-broader, pass-read, pass-all, narrowest}
+use Rattle.tables.proofs.Choice.{NarrowestSoFar, pass-none, pass-unmatched, pass-narrower, pass-tie, pass-broader, pass-read, pass-all, narrowest}
 use Rattle.tables.proofs.Breadths.{matching, broad, breadth-most, narrowest-is}
 use Rattle.tables.proofs.columns.column_of.Statement.{statement}
 use Rattle.tables.proofs.columns.column_of.Tie as tie
 
 abbrev Inv-loop : tie.InvT-loop
 Inv-loop image pairs t columns breadths p pair best₀ least₀ c₀ best least c =
-    (c ≤ columns) × Passed (matching (pairsAndBoundary image) t (sidesOf pair)) (broad (pairsAndBoundary image) t (sidesOf pair)) columns 252 c best least
+    (c ≤ columns) × NarrowestSoFar (matching (pairsAndBoundary image) t (sidesOf pair)) (broad (pairsAndBoundary image) t (sidesOf pair)) columns 252 c best least
 
 abbrev μ-loop : tie.MeasureT-loop
 μ-loop image pairs t columns breadths p pair best₀ least₀ c₀ best least c = columns - c
@@ -96,7 +96,7 @@ returns c =
     let t = s .args .t .now in
     let x = sidesOf (q .pair-at .result) in
     let e : b .loop .c ≡ s .args .columns = omega arith in
-    pass-all (matching ps t x) (broad ps t x) (s .args .columns) 252 (subst (λ (k : ℕ). Passed (matching ps t x) (broad ps t x) (s .args .columns) 252 k (b .loop .best) (b .loop .least)) e (b .loop .inv .1))
+    pass-all (matching ps t x) (broad ps t x) (s .args .columns) 252 (subst (λ (k : ℕ). NarrowestSoFar (matching ps t x) (broad ps t x) (s .args .columns) 252 k (b .loop .best) (b .loop .least)) e (b .loop .inv .1))
     ∙ ap (narrowest (matching ps t x) (broad ps t x)) (s .pre .1 .0 .count)
     ∙ narrowest-is ps t x
     ∙ ap (columnFor ps t) (q .pair-at .ensures)

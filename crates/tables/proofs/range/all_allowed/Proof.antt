@@ -3,10 +3,11 @@ use borrow.Author.Needs.{needs}
 use native.Mathlib.Omega.{arith}
 use mathlib.Core.Path.{_≡_, refl, sym, ap, _∙_}
 use Prim.Native.Nat.{ℕ, _≤_, _<_, _-_}
-use lib.Seq.{slice, slice-empty}
+use lib.Seq.{slice}
 use Rattle.model.specs.Lists.{every, byte}
 use Rattle.tables.specs.Bounds.{allowed}
-use Rattle.tables.proofs.Lists.{fails, passes, every-slice-more, every-slice-fails}
+use Rattle.model.proofs.Rest.{part-on, part-fails, part-done}
+use Rattle.tables.proofs.Lists.{fails, passes}
 use Rattle.tables.proofs.range.all_allowed.Statement.{statement}
 use Rattle.tables.proofs.range.all_allowed.Tie as tie
 
@@ -35,7 +36,7 @@ returns c =
     let b = c .before .before .before .before in
     let a = b .before .before .args in
     let h : b .loop .i < a .to = omega arith in
-    sym (sym (b .loop .inv .1) ∙ every-slice-fails (allowed (a .any) (a .most)) (b .loop .i) (a .to) (a .bytes .now) 0 h (omega arith) (fails (c .before .is-allowed .result) (tested (c .before)) (c .if1 .taken)))
+    sym (sym (b .loop .inv .1) ∙ part-fails (allowed (a .any) (a .most)) (b .loop .i) (a .to) (a .bytes .now) 0 h (omega arith) (fails (c .before .is-allowed .result) (tested (c .before)) (c .if1 .taken)))
 
 add-i : tie.Need-add-i Inv-loop μ-loop
 add-i c = search needs
@@ -48,14 +49,14 @@ loop-again c =
     let b = c .before .before .before .before in
     let a = b .before .before .args in
     let h : b .loop .i < a .to = omega arith in
-    (search needs, sym (every-slice-more (allowed (a .any) (a .most)) (b .loop .i) (a .to) (a .bytes .now) 0 h (omega arith) (passes (c .before .is-allowed .result) (tested (c .before)) (c .if1 .left))) ∙ b .loop .inv .1)
+    (search needs, sym (part-on (allowed (a .any) (a .most)) (b .loop .i) (a .to) (a .bytes .now) 0 h (omega arith) (passes (c .before .is-allowed .result) (tested (c .before)) (c .if1 .left))) ∙ b .loop .inv .1)
 
 returns-2 : tie.Need-returns-2 Inv-loop μ-loop
 returns-2 c =
     let b = c .before in
     let a = b .before .before .args in
     let e : b .loop .i ≡ a .to = omega arith in
-    sym (sym (b .loop .inv .1) ∙ ap (λ (n : ℕ). every (allowed (a .any) (a .most)) (slice n (a .to) (a .bytes .now))) e ∙ ap (every (allowed (a .any) (a .most))) (slice-empty (a .to) (a .bytes .now)))
+    sym (sym (b .loop .inv .1) ∙ ap (λ (n : ℕ). every (allowed (a .any) (a .most)) (slice n (a .to) (a .bytes .now))) e ∙ part-done (allowed (a .any) (a .most)) (a .to) (a .bytes .now))
 
 pub all-allowed-spec : {M : Type 1} → statement M
 all-allowed-spec =

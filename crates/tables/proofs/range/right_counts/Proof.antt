@@ -2,7 +2,8 @@
 use borrow.Author.Needs.{needs}
 use mathlib.Core.Path.{sym, _∙_}
 use Rattle.model.specs.Lists.{within}
-use Rattle.tables.proofs.Lists.{left-false, left-true, fails, passes}
+use Rattle.model.proofs.Booleans.{left-true, left-false}
+use Rattle.tables.proofs.Lists.{fails, passes}
 use Rattle.tables.proofs.range.right_counts.Statement.{statement}
 use Rattle.tables.proofs.range.right_counts.Tie as tie
 

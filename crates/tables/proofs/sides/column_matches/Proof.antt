@@ -2,7 +2,8 @@
 use borrow.Author.Needs.{needs}
 use mathlib.Core.Path.{sym, _∙_}
 use Rattle.model.specs.RuleTables.{matchesSide, matches}
-use Rattle.tables.proofs.Lists.{left-false, left-true, fails, passes}
+use Rattle.model.proofs.Booleans.{left-true, left-false}
+use Rattle.tables.proofs.Lists.{fails, passes}
 use Rattle.tables.proofs.sides.column_matches.Statement.{statement}
 use Rattle.tables.proofs.sides.column_matches.Tie as tie
 
