@@ -109,12 +109,12 @@ module _ (image word : List ℕ) (accepts : imageVerdict image ≡ accepted) whe
 
   -- in the lent rows
   module _ (before after : List ℕ) (long : length before ≡ 7424) (same : after ≡ afterListing image (analysis word) before) where
-    pub room : rowCount before ≡ 64
-    room = ap (λ (n : ℕ). n / 116) long
+    pub rows-lent : rowCount before ≡ 64
+    rows-lent = ap (λ (n : ℕ). n / 116) long
 
     after-is : after ≡ filled before handed
     unfolding afterListing
-    after-is = same ∙ ap (λ (n : ℕ). filled before (listingRows image (analysis word) n)) room
+    after-is = same ∙ ap (λ (n : ℕ). filled before (listingRows image (analysis word) n)) rows-lent
 
     pub handed-rows : (j : ℕ) → j < length handed → Row (rowAt after j)
     handed-rows j h = subst (λ (l : List ℕ). Row (rowAt l j)) (sym after-is) (rows-right before handed handed-small j h)

@@ -85,6 +85,14 @@ sofar-none image chunk line s k a t h =
     let z : s .n - s .at ≡ 0 = omega arith in
     record { answered = []; in-order = rw z refl; begun = rw k (begun-nothing line); text = refl; taken-count = t; handed-count = h }
 
+-- what is lent, before and after
+pub record SameLengths (chunk line word rows out chunk′ line′ word′ rows′ out′ : List ℕ) : Type 0 where
+  pub chunk-same : length chunk′ ≡ length chunk
+  pub line-same : length line′ ≡ length line
+  pub word-same : length word′ ≡ length word
+  pub rows-same : length rows′ ≡ length rows
+  pub out-same : length out′ ≡ length out
+
 -- at the head of the loop, with so many steps left
 pub record Head (image chunk line word rows out : List ℕ) (s : Stand) (left : ℕ) : Type 0 where
   pub chunk-long : length chunk ≡ 65536
@@ -118,11 +126,15 @@ module _ (image chunk line word rows out : List ℕ) (s : Stand) (left : ℕ) (h
   head-within l = record { in-order = head .in-order; inside = head .inside; few = head .few; taken-small = omega (arith, head .taken-few); handed-small = omega (arith, head .handed-few) }
 
   pub head-more : (chunk′ line′ word′ rows′ out′ : List ℕ) (s′ : Stand) → 0 < left → Onward image chunk chunk′ line line′ out′ s s′
-      → length chunk′ ≡ length chunk → length line′ ≡ length line → length word′ ≡ length word → length rows′ ≡ length rows → length out′ ≡ length out
-      → Head image chunk′ line′ word′ rows′ out′ s′ (left - 1)
-  head-more chunk′ line′ word′ rows′ out′ s′ l on c i w r o = record {
-    chunk-long = c ∙ head .chunk-long;
-    rooms = record { line-long = i ∙ head .rooms .line-long; word-long = w ∙ head .rooms .word-long; rows-long = r ∙ head .rooms .rows-long; out-long = o ∙ head .rooms .out-long };
+      → SameLengths chunk line word rows out chunk′ line′ word′ rows′ out′ → Head image chunk′ line′ word′ rows′ out′ s′ (left - 1)
+  head-more chunk′ line′ word′ rows′ out′ s′ l on same = record {
+    chunk-long = same .chunk-same ∙ head .chunk-long;
+    rooms = record {
+      line-long = same .line-same ∙ head .rooms .line-long;
+      word-long = same .word-same ∙ head .rooms .word-long;
+      rows-long = same .rows-same ∙ head .rooms .rows-long;
+      out-long = same .out-same ∙ head .rooms .out-long;
+    };
     in-order = on .in-order;
     inside = on .inside;
     few = on .few;

@@ -4,7 +4,7 @@ use native.Mathlib.Omega.{arith}
 use mathlib.Core.Path.{_≡_, refl, sym, _∙_, subst}
 use lib.ListN.{length}
 use Rattle.lines.specs.Sofar.{Stepped}
-use Rattle.lines.proofs.Sofar.{Head, head-none, head-within, head-more, head-over}
+use Rattle.lines.proofs.Sofar.{SameLengths, Head, head-none, head-within, head-more, head-over}
 use Rattle.lines.proofs.answer_input.Statement.{statement}
 use Rattle.lines.proofs.answer_input.Tie as tie
 
@@ -13,6 +13,40 @@ Inv-loop image index run chunk₀ line₀ word₀ rows₀ out₀ s₀ left₀ ch
 
 abbrev μ-loop : tie.MeasureT-loop
 μ-loop image index run chunk₀ line₀ word₀ rows₀ out₀ s₀ left₀ chunk line word rows out s left = left
+
+-- the entry, seen from the head of the loop, and the head of the loop, seen from after a turn
+abbrev entry : tie.At-loop Inv-loop μ-loop → tie.Start Inv-loop μ-loop
+entry c = c .before .before .before .before .before .before .before .before .before .before
+
+abbrev turned : tie.After-turn Inv-loop μ-loop → tie.At-loop Inv-loop μ-loop
+turned c = c .before .before .before .before .before .before .before
+
+-- what is lent keeps its lengths, up to the head of the loop and over a turn
+at-head : (c : tie.At-loop Inv-loop μ-loop) → let a = entry c .args in
+    SameLengths (a .chunk .now) (a .line .now) (a .word .now) (a .rows .now) (a .out .now) (c .loop .chunk) (c .loop .line) (c .loop .word) (c .loop .rows) (c .loop .out)
+at-head c =
+    let pre = entry c .pre .1 in
+    let head = c .loop .inv in
+    record {
+      chunk-same = head .chunk-long ∙ sym (pre .0);
+      line-same = head .rooms .line-long ∙ sym (pre .1 .line-long);
+      word-same = head .rooms .word-long ∙ sym (pre .1 .word-long);
+      rows-same = head .rooms .rows-long ∙ sym (pre .1 .rows-long);
+      out-same = head .rooms .out-long ∙ sym (pre .1 .out-long);
+    }
+
+after-turn : (c : tie.After-turn Inv-loop μ-loop) → let a = entry (turned c) .args in let last = c .turn .last .1 .1 .1 in
+    SameLengths (a .chunk .now) (a .line .now) (a .word .now) (a .rows .now) (a .out .now) (last .0) (last .1 .0) (last .1 .1 .0) (last .1 .1 .1 .0) (last .1 .1 .1 .1 .0)
+after-turn c =
+    let head = at-head (turned c) in
+    let kept = c .turn .kept .1 .1 .1 in
+    record {
+      chunk-same = kept .0 ∙ head .chunk-same;
+      line-same = kept .1 .0 ∙ head .line-same;
+      word-same = kept .1 .1 .0 ∙ head .word-same;
+      rows-same = kept .1 .1 .1 .0 ∙ head .rows-same;
+      out-same = kept .1 .1 .1 .1 .0 ∙ head .out-same;
+    }
 
 none-requires : tie.Need-none-requires Inv-loop μ-loop
 none-requires c κs = search needs
@@ -28,8 +62,8 @@ loop-holds c =
 
 turn-requires : tie.Need-turn-requires Inv-loop μ-loop
 turn-requires c κs =
-    let s = c .before .before .before .before .before .before .before .before .before .before .before .before .before .before .before .before in
     let at = c .before .before .before .before .before .before in
+    let s = entry at in
     let head = at .loop .inv in
     (s .pre .0, ((head .chunk-long, head .rooms), head-within (s .args .image .now) _ _ _ _ _ (at .loop .s) (at .loop .left) head (c .before .before .before .before .before .loop-test .taken)))
 
@@ -40,44 +74,44 @@ enum-known-step-2 : tie.Need-enum-known-step-2 Inv-loop μ-loop
 enum-known-step-2 c = search needs
 
 same-length : tie.Need-same-length Inv-loop μ-loop
-same-length c = let s = c .before .before .before .before .before .before .before .before .before .before .before .before .before .before .before .before .before .before .before .before .before .before .before .before .before .before .before .before .before .before .before in let head = c .before .before .before .before .before .before .before .before .before .before .before .before .before .before .before .before .before .before .before .before .before .loop .inv in c .before .before .before .before .before .before .before .before .before .before .before .before .before .before .turn .kept .1 .1 .1 .0 ∙ head .chunk-long ∙ sym (s .pre .1 .0)
+same-length c = after-turn (c .before .before .before .before .before .before .before .before .before .before .before .before .before .before) .chunk-same
 
 same-length-2 : tie.Need-same-length-2 Inv-loop μ-loop
-same-length-2 c = let s = c .before .before .before .before .before .before .before .before .before .before .before .before .before .before .before .before .before .before .before .before .before .before .before .before .before .before .before .before .before .before .before in let head = c .before .before .before .before .before .before .before .before .before .before .before .before .before .before .before .before .before .before .before .before .before .loop .inv in c .before .before .before .before .before .before .before .before .before .before .before .before .before .before .turn .kept .1 .1 .1 .1 .0 ∙ head .rooms .line-long ∙ sym (s .pre .1 .1 .line-long)
+same-length-2 c = after-turn (c .before .before .before .before .before .before .before .before .before .before .before .before .before .before) .line-same
 
 same-length-3 : tie.Need-same-length-3 Inv-loop μ-loop
-same-length-3 c = let s = c .before .before .before .before .before .before .before .before .before .before .before .before .before .before .before .before .before .before .before .before .before .before .before .before .before .before .before .before .before .before .before in let head = c .before .before .before .before .before .before .before .before .before .before .before .before .before .before .before .before .before .before .before .before .before .loop .inv in c .before .before .before .before .before .before .before .before .before .before .before .before .before .before .turn .kept .1 .1 .1 .1 .1 .0 ∙ head .rooms .word-long ∙ sym (s .pre .1 .1 .word-long)
+same-length-3 c = after-turn (c .before .before .before .before .before .before .before .before .before .before .before .before .before .before) .word-same
 
 same-length-4 : tie.Need-same-length-4 Inv-loop μ-loop
-same-length-4 c = let s = c .before .before .before .before .before .before .before .before .before .before .before .before .before .before .before .before .before .before .before .before .before .before .before .before .before .before .before .before .before .before .before in let head = c .before .before .before .before .before .before .before .before .before .before .before .before .before .before .before .before .before .before .before .before .before .loop .inv in c .before .before .before .before .before .before .before .before .before .before .before .before .before .before .turn .kept .1 .1 .1 .1 .1 .1 .0 ∙ head .rooms .rows-long ∙ sym (s .pre .1 .1 .rows-long)
+same-length-4 c = after-turn (c .before .before .before .before .before .before .before .before .before .before .before .before .before .before) .rows-same
 
 same-length-5 : tie.Need-same-length-5 Inv-loop μ-loop
-same-length-5 c = let s = c .before .before .before .before .before .before .before .before .before .before .before .before .before .before .before .before .before .before .before .before .before .before .before .before .before .before .before .before .before .before .before in let head = c .before .before .before .before .before .before .before .before .before .before .before .before .before .before .before .before .before .before .before .before .before .loop .inv in c .before .before .before .before .before .before .before .before .before .before .before .before .before .before .turn .kept .1 .1 .1 .1 .1 .1 .1 .0 ∙ head .rooms .out-long ∙ sym (s .pre .1 .1 .out-long)
+same-length-5 c = after-turn (c .before .before .before .before .before .before .before .before .before .before .before .before .before .before) .out-same
 
+-- all is answered
 returns : tie.Need-returns Inv-loop μ-loop
 returns c =
-    let s = c .before .before .before .before .before .before .before .before .before .before .before .before .before .before .before .before .before .before .before .before .before .before .before .before .before .before .before .before .before .before .before in
     let at = c .before .before .before .before .before .before .before .before .before .before .before .before .before .before .before .before .before .before .before .before .before in
-    let told = c .before .before .step2 .given in
-    head-over (s .args .image .now) (at .loop .chunk) (at .loop .line) _ _ (at .loop .out) (at .loop .s) (at .loop .left) (at .loop .inv) _ _ _ _ (subst (Stepped _ _ _ _ _ _ _) (told .1) (c .before .before .before .before .before .before .before .before .before .before .before .before .before .before .turn .ensures))
+    let step = c .before .before .step2 .given in
+    head-over (entry at .args .image .now) (at .loop .chunk) (at .loop .line) _ _ (at .loop .out) (at .loop .s) (at .loop .left) (at .loop .inv) _ _ _ _ (subst (Stepped _ _ _ _ _ _ _) (step .1) (c .before .before .before .before .before .before .before .before .before .before .before .before .before .before .turn .ensures))
 
 enum-told : tie.Need-enum-told Inv-loop μ-loop
 enum-told c = search needs
 
 same-length-6 : tie.Need-same-length-6 Inv-loop μ-loop
-same-length-6 c = let s = c .before .before .before .before .before .before .before .before .before .before .before .before .before .before .before .before .before .before .before .before .before .before .before .before .before .before .before .before .before in let head = c .before .before .before .before .before .before .before .before .before .before .before .before .before .before .before .before .before .before .before .loop .inv in c .before .before .before .before .before .before .before .before .before .before .before .before .turn .kept .1 .1 .1 .0 ∙ head .chunk-long ∙ sym (s .pre .1 .0)
+same-length-6 c = after-turn (c .before .before .before .before .before .before .before .before .before .before .before .before) .chunk-same
 
 same-length-7 : tie.Need-same-length-7 Inv-loop μ-loop
-same-length-7 c = let s = c .before .before .before .before .before .before .before .before .before .before .before .before .before .before .before .before .before .before .before .before .before .before .before .before .before .before .before .before .before in let head = c .before .before .before .before .before .before .before .before .before .before .before .before .before .before .before .before .before .before .before .loop .inv in c .before .before .before .before .before .before .before .before .before .before .before .before .turn .kept .1 .1 .1 .1 .0 ∙ head .rooms .line-long ∙ sym (s .pre .1 .1 .line-long)
+same-length-7 c = after-turn (c .before .before .before .before .before .before .before .before .before .before .before .before) .line-same
 
 same-length-8 : tie.Need-same-length-8 Inv-loop μ-loop
-same-length-8 c = let s = c .before .before .before .before .before .before .before .before .before .before .before .before .before .before .before .before .before .before .before .before .before .before .before .before .before .before .before .before .before in let head = c .before .before .before .before .before .before .before .before .before .before .before .before .before .before .before .before .before .before .before .loop .inv in c .before .before .before .before .before .before .before .before .before .before .before .before .turn .kept .1 .1 .1 .1 .1 .0 ∙ head .rooms .word-long ∙ sym (s .pre .1 .1 .word-long)
+same-length-8 c = after-turn (c .before .before .before .before .before .before .before .before .before .before .before .before) .word-same
 
 same-length-9 : tie.Need-same-length-9 Inv-loop μ-loop
-same-length-9 c = let s = c .before .before .before .before .before .before .before .before .before .before .before .before .before .before .before .before .before .before .before .before .before .before .before .before .before .before .before .before .before in let head = c .before .before .before .before .before .before .before .before .before .before .before .before .before .before .before .before .before .before .before .loop .inv in c .before .before .before .before .before .before .before .before .before .before .before .before .turn .kept .1 .1 .1 .1 .1 .1 .0 ∙ head .rooms .rows-long ∙ sym (s .pre .1 .1 .rows-long)
+same-length-9 c = after-turn (c .before .before .before .before .before .before .before .before .before .before .before .before) .rows-same
 
 same-length-10 : tie.Need-same-length-10 Inv-loop μ-loop
-same-length-10 c = let s = c .before .before .before .before .before .before .before .before .before .before .before .before .before .before .before .before .before .before .before .before .before .before .before .before .before .before .before .before .before in let head = c .before .before .before .before .before .before .before .before .before .before .before .before .before .before .before .before .before .before .before .loop .inv in c .before .before .before .before .before .before .before .before .before .before .before .before .turn .kept .1 .1 .1 .1 .1 .1 .1 .0 ∙ head .rooms .out-long ∙ sym (s .pre .1 .1 .out-long)
+same-length-10 c = after-turn (c .before .before .before .before .before .before .before .before .before .before .before .before) .out-same
 
 returns-2 : tie.Need-returns-2 Inv-loop μ-loop
 returns-2 c = search needs
@@ -88,29 +122,29 @@ sub-left c = omega (arith, c .before .before .before .before .before .before .be
 loop-less : tie.Need-loop-less Inv-loop μ-loop
 loop-less c = omega (arith, c .before .before .before .before .before .before .before .before .before .before .before .before .before .before .before .before .before .before .before .loop-test .taken)
 
+-- one step more
 loop-again : tie.Need-loop-again Inv-loop μ-loop
 loop-again c =
-    let s = c .before .before .before .before .before .before .before .before .before .before .before .before .before .before .before .before .before .before .before .before .before .before .before .before .before .before .before .before .before .before in
-    let at = c .before .before .before .before .before .before .before .before .before .before .before .before .before .before .before .before .before .before .before .before in
     let turn = c .before .before .before .before .before .before .before .before .before .before .before .before .before .turn in
-    head-more (s .args .image .now) (at .loop .chunk) (at .loop .line) (at .loop .word) (at .loop .rows) (at .loop .out) (at .loop .s) (at .loop .left) (at .loop .inv) _ _ _ _ _ _ (c .before .before .before .before .before .before .before .before .before .before .before .before .before .before .before .before .before .before .before .loop-test .taken)
-    (subst (Stepped _ _ _ _ _ _ _) (c .before .step .given .1) (turn .ensures))
-    (turn .kept .1 .1 .1 .0) (turn .kept .1 .1 .1 .1 .0) (turn .kept .1 .1 .1 .1 .1 .0) (turn .kept .1 .1 .1 .1 .1 .1 .0) (turn .kept .1 .1 .1 .1 .1 .1 .1 .0)
+    let at = turned (c .before .before .before .before .before .before .before .before .before .before .before .before .before) in
+    let kept = turn .kept .1 .1 .1 in
+    head-more (entry at .args .image .now) (at .loop .chunk) (at .loop .line) (at .loop .word) (at .loop .rows) (at .loop .out) (at .loop .s) (at .loop .left) (at .loop .inv) _ _ _ _ _ _ (c .before .before .before .before .before .before .before .before .before .before .before .before .before .before .before .before .before .before .before .loop-test .taken)
+    (subst (Stepped _ _ _ _ _ _ _) (c .before .step .given .1) (turn .ensures)) (record { chunk-same = kept .0; line-same = kept .1 .0; word-same = kept .1 .1 .0; rows-same = kept .1 .1 .1 .0; out-same = kept .1 .1 .1 .1 .0 })
 
 same-length-11 : tie.Need-same-length-11 Inv-loop μ-loop
-same-length-11 c = let s = c .before .before .before .before .before .before .before .before .before .before .before in let head = c .before .loop .inv in head .chunk-long ∙ sym (s .pre .1 .0)
+same-length-11 c = at-head (c .before) .chunk-same
 
 same-length-12 : tie.Need-same-length-12 Inv-loop μ-loop
-same-length-12 c = let s = c .before .before .before .before .before .before .before .before .before .before .before in let head = c .before .loop .inv in head .rooms .line-long ∙ sym (s .pre .1 .1 .line-long)
+same-length-12 c = at-head (c .before) .line-same
 
 same-length-13 : tie.Need-same-length-13 Inv-loop μ-loop
-same-length-13 c = let s = c .before .before .before .before .before .before .before .before .before .before .before in let head = c .before .loop .inv in head .rooms .word-long ∙ sym (s .pre .1 .1 .word-long)
+same-length-13 c = at-head (c .before) .word-same
 
 same-length-14 : tie.Need-same-length-14 Inv-loop μ-loop
-same-length-14 c = let s = c .before .before .before .before .before .before .before .before .before .before .before in let head = c .before .loop .inv in head .rooms .rows-long ∙ sym (s .pre .1 .1 .rows-long)
+same-length-14 c = at-head (c .before) .rows-same
 
 same-length-15 : tie.Need-same-length-15 Inv-loop μ-loop
-same-length-15 c = let s = c .before .before .before .before .before .before .before .before .before .before .before in let head = c .before .loop .inv in head .rooms .out-long ∙ sym (s .pre .1 .1 .out-long)
+same-length-15 c = at-head (c .before) .out-same
 
 returns-3 : tie.Need-returns-3 Inv-loop μ-loop
 returns-3 c = search needs

@@ -8,7 +8,7 @@ slice-aggregate-load-image : tie.Need-slice-aggregate-load-image
 slice-aggregate-load-image c = search needs
 
 load-image-requires : tie.Need-load-image-requires
-load-image-requires c κs = search needs
+load-image-requires c κs = refl
 
 array-share-prefix-image : tie.Need-array-share-prefix-image
 array-share-prefix-image c = search needs

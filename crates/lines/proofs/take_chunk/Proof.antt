@@ -2,8 +2,8 @@
 use native.Mathlib.Omega.{arith}
 use Prim.Native.Nat.{_-_, _≤_}
 use mathlib.Core.Path.{_≡_, refl, sym, ap, _∙_, subst}
-use mathlib.Core.List.{[]}
-use lib.ListN.{length, take}
+use mathlib.Core.List.{[], _++_}
+use lib.ListN.{length, take, drop}
 use lib.Seq.{length-take-le}
 use Rattle.moving.specs.Told.{TakenIn}
 use Rattle.lines.proofs.Sofar.{onward}
@@ -80,7 +80,7 @@ returns-4 c =
     let few : n ≤ length chunk = omega (arith, told .1 .0, take-in .kept .0) in
     let long = length-take-le n chunk few in
     onward (s .args .image .now) (s .args .chunk .now) chunk (s .args .line .now) (s .args .line .now) stand _ [] (take n chunk) []
-    (rw (none, all) refl) (λ l h. h) (λ l h. refl) (omega (arith, told .1 .1, long)) (omega arith) (s .args .out .now) (sym (ap (λ k. take k chunk) long)) refl
+    (ap (λ k. take k (drop (stand .at) (s .args .chunk .now)) ++ take n chunk) none ∙ sym (ap (λ k. take k chunk) all)) (λ l h. h) (λ l h. refl) (omega (arith, told .1 .1, long)) (omega arith) (s .args .out .now) (sym (ap (λ k. take k chunk) long)) refl
     (omega (arith, long, told .1 .0, s .pre .1 .0 .0)) (omega arith) (omega arith) (omega (arith, told .1 .0, s .pre .1 .0 .0)) (within .few)
 
 pub take-chunk-spec : {M : Type 1} → statement M

@@ -12,7 +12,7 @@ use Rattle.model.specs.Calls.{listingReply}
 use Rattle.rows.specs.Fill.{replyOf}
 use Rattle.print.specs.Text.{printedRows}
 use Rattle.print.proofs.Text.{put-same, put-then}
-use Rattle.lines.proofs.Listed.{handed, handed-told, handed-few, handed-rows, handed-text, line-text, room}
+use Rattle.lines.proofs.Listed.{handed, handed-told, handed-few, handed-rows, handed-text, line-text, rows-lent}
 use Rattle.lines.proofs.answers.answer_word.Statement.{statement}
 use Rattle.lines.proofs.answers.answer_word.Tie as tie
 
@@ -21,7 +21,7 @@ replied : (c : tie.After-analyse) → let a = c .before .before .before .before 
 replied c =
     let s = c .before .before .before .before .before .before .before in
     let a = s .args in
-    c .analyse .ensures .0 ∙ ap (listingReply (a .image .now) (analysis (a .word .now))) (room (a .image .now) (a .word .now) (s .pre .0) (a .rows .now) _ (s .pre .1 .1 .1 .0) (c .analyse .ensures .1))
+    c .analyse .ensures .0 ∙ ap (listingReply (a .image .now) (analysis (a .word .now))) (rows-lent (a .image .now) (a .word .now) (s .pre .0) (a .rows .now) _ (s .pre .1 .1 .1 .0) (c .analyse .ensures .1))
 
 -- and so many rows are told
 counted : (c : tie.After-told-rows) → let a = c .before .before .before .before .before .before .before .before .before .before .args in c .told-rows .result ≡ length (handed (a .image .now) (a .word .now) (c .before .before .before .before .before .before .before .before .before .before .pre .0))
