@@ -10,10 +10,10 @@ use Rattle.parse.specs.Fields.{Begun}
 use Rattle.print.specs.Text.{Put}
 use Rattle.moving.specs.declared.Count.{Count}
 use Rattle.lines.specs.declared.Stand.{Stand}
-use Rattle.lines.specs.Input.{begunAfter, textAfter, lastText}
+use Rattle.answers.specs.Input.{begunAfter, textAfter, lastText}
 use Rattle.lines.specs.declared.Ending.the-variants as ending
 use Rattle.lines.specs.Sofar.{Rooms, Within, waiting, Sofar, Onward, Over, Ended}
-use Rattle.lines.proofs.Reading.{begun-parts, text-parts, begun-nothing, printed-is}
+use Rattle.answers.proofs.Reading.{begun-parts, text-parts, begun-nothing, printed-is}
 
 -- a part of a list, and the part after it
 pub parts-join : (l : List ℕ) (i j n : ℕ) → i ≤ j → j ≤ n → n ≤ length l → take (j - i) (drop i (take n l)) ++ take (n - j) (drop j l) ≡ take (n - i) (drop i l)
@@ -86,17 +86,15 @@ sofar-none image chunk line s k a t h =
     record { answered = []; in-order = rw z refl; begun = rw k (begun-nothing line); text = refl; taken-count = t; handed-count = h }
 
 -- what is lent, before and after
-pub record SameLengths (chunk line word rows out chunk′ line′ word′ rows′ out′ : List ℕ) : Type 0 where
+pub record SameLengths (chunk line out chunk′ line′ out′ : List ℕ) : Type 0 where
   pub chunk-same : length chunk′ ≡ length chunk
   pub line-same : length line′ ≡ length line
-  pub word-same : length word′ ≡ length word
-  pub rows-same : length rows′ ≡ length rows
   pub out-same : length out′ ≡ length out
 
 -- at the head of the loop, with so many steps left
-pub record Head (image chunk line word rows out : List ℕ) (s : Stand) (left : ℕ) : Type 0 where
+pub record Head (image chunk line out : List ℕ) (s : Stand) (left : ℕ) : Type 0 where
   pub chunk-long : length chunk ≡ 65536
-  pub rooms : Rooms line word rows out
+  pub rooms : Rooms line out
   pub in-order : s .at ≤ s .n
   pub inside : s .n ≤ 65536
   pub few : s .kept ≤ 256
@@ -106,9 +104,9 @@ pub record Head (image chunk line word rows out : List ℕ) (s : Stand) (left : 
   pub gone : List ℕ
   pub sofar : Sofar image given gone chunk line s
 
-pub head-none : (image chunk line word rows out : List ℕ) (s : Stand) (left : ℕ) → length chunk ≡ 65536 → Rooms line word rows out → s .kept ≡ 0 → s .at ≡ 0 → s .n ≡ 0 → s .taken .bytes ≡ 0 → s .handed .bytes ≡ 0 → left ≤ 2 ^ 47
-    → Head image chunk line word rows out s left
-head-none image chunk line word rows out s left c r k a n t h l = record {
+pub head-none : (image chunk line out : List ℕ) (s : Stand) (left : ℕ) → length chunk ≡ 65536 → Rooms line out → s .kept ≡ 0 → s .at ≡ 0 → s .n ≡ 0 → s .taken .bytes ≡ 0 → s .handed .bytes ≡ 0 → left ≤ 2 ^ 47
+    → Head image chunk line out s left
+head-none image chunk line out s left c r k a n t h l = record {
   chunk-long = c;
   rooms = r;
   in-order = omega arith;
@@ -121,18 +119,16 @@ head-none image chunk line word rows out s left c r k a n t h l = record {
   sofar = sofar-none image chunk line s k (a ∙ sym n) t h;
 }
 
-module _ (image chunk line word rows out : List ℕ) (s : Stand) (left : ℕ) (head : Head image chunk line word rows out s left) where
+module _ (image chunk line out : List ℕ) (s : Stand) (left : ℕ) (head : Head image chunk line out s left) where
   pub head-within : 0 < left → Within s
   head-within l = record { in-order = head .in-order; inside = head .inside; few = head .few; taken-small = omega (arith, head .taken-few); handed-small = omega (arith, head .handed-few) }
 
-  pub head-more : (chunk′ line′ word′ rows′ out′ : List ℕ) (s′ : Stand) → 0 < left → Onward image chunk chunk′ line line′ out′ s s′
-      → SameLengths chunk line word rows out chunk′ line′ word′ rows′ out′ → Head image chunk′ line′ word′ rows′ out′ s′ (left - 1)
-  head-more chunk′ line′ word′ rows′ out′ s′ l on same = record {
+  pub head-more : (chunk′ line′ out′ : List ℕ) (s′ : Stand) → 0 < left → Onward image chunk chunk′ line line′ out′ s s′
+      → SameLengths chunk line out chunk′ line′ out′ → Head image chunk′ line′ out′ s′ (left - 1)
+  head-more chunk′ line′ out′ s′ l on same = record {
     chunk-long = same .chunk-same ∙ head .chunk-long;
     rooms = record {
       line-long = same .line-same ∙ head .rooms .line-long;
-      word-long = same .word-same ∙ head .rooms .word-long;
-      rows-long = same .rows-same ∙ head .rooms .rows-long;
       out-long = same .out-same ∙ head .rooms .out-long;
     };
     in-order = on .in-order;

@@ -1,3 +1,1 @@
-pub mod OnceARun
-pub mod Input
 pub mod Sofar

@@ -11,13 +11,11 @@ use Rattle.lines.specs.declared.Step.{Step}
 use Rattle.lines.specs.declared.Step.the-variants as step
 use Rattle.lines.specs.declared.Ending.{Ending}
 use Rattle.lines.specs.declared.Ending.the-variants as ending
-use Rattle.lines.specs.Input.{begunAfter, textAfter}
+use Rattle.answers.specs.Input.{begunAfter, textAfter}
 
 -- the room that a run has
-pub record Rooms (line word rows out : List ℕ) : Type 0 where
+pub record Rooms (line out : List ℕ) : Type 0 where
   pub line-long : length line ≡ 256
-  pub word-long : length word ≡ 128
-  pub rows-long : length rows ≡ 7424
   pub out-long : length out ≡ 65536
 
 -- places inside that room, and counts that may grow by it

@@ -1,17 +1,14 @@
 // The line program: words from standard input, a line of letter numbers each, by the grammar in grammar.img; the readings on standard output.
-mod answers;
-mod input;
-
 ghost use mathlib.Core.Path.{_≡_};
 ghost use mathlib.Core.List.{List};
 ghost use Prim.Native.Nat.{ℕ};
 ghost use lib.ListN.{length};
 ghost use Rattle.image.specs.Header.{headerOf};
 ghost use Rattle.grammar.specs.Answers.{verdictOf};
-ghost use Rattle.lines.specs.OnceARun.{OnceARun};
+ghost use Rattle.answers.specs.OnceARun.{OnceARun};
 ghost use Rattle.lines.specs.Sofar.{Rooms, Within, Stepped, Ended};
-use answers::Prepared;
-use input::Reached;
+use answers::input::Reached;
+use answers::run::Prepared;
 use moving::Count;
 use moving::Given;
 use moving::Taken;
@@ -40,13 +37,11 @@ fn answer_part(
     run: Prepared,
     chunk: &[u8],
     line: &mut [u8],
-    word: &mut [u8],
-    rows: &mut [u8],
     out: &mut [u8],
     s: Stand,
 ) -> Step
     requires { ⌜ OnceARun (now image) (now index) (headerOf (run .h)) (verdictOf (run .verdict)) ⌝ }
-    requires { ⌜ (length (now chunk) ≡ 65536) × Rooms (now line) (now word) (now rows) (now out) ⌝ }
+    requires { ⌜ (length (now chunk) ≡ 65536) × Rooms (now line) (now out) ⌝ }
     requires { ⌜ Within s ⌝ }
     ensures { λ r. ⌜ Stepped (now (image .entry)) (now (chunk .entry)) (now (chunk .entry)) (now (line .entry)) (now (line .exit)) (now (out .exit)) s r ⌝ }
 {
@@ -56,18 +51,7 @@ fn answer_part(
         kept: s.kept,
         end: 0,
     };
-    let read = input::read_chunk(
-        image,
-        index,
-        run,
-        &chunk[..n],
-        at,
-        line,
-        word,
-        rows,
-        out,
-        from,
-    );
+    let read = answers::input::read_chunk(image, index, run, &chunk[..n], at, line, out, from);
     let reached = read.reached;
     let end = reached.end;
     let taken = s.taken;
@@ -91,13 +75,11 @@ fn answer_last(
     index: &[u8],
     run: Prepared,
     line: &[u8],
-    word: &mut [u8],
-    rows: &mut [u8],
     out: &mut [u8],
     s: Stand,
 ) -> Step
     requires { ⌜ OnceARun (now image) (now index) (headerOf (run .h)) (verdictOf (run .verdict)) ⌝ }
-    requires { ⌜ Rooms (now line) (now word) (now rows) (now out) ⌝ }
+    requires { ⌜ Rooms (now line) (now out) ⌝ }
     requires { ⌜ Within s × (s .at ≡ s .n) ⌝ }
     ensures { λ r. ⌜ ((chunk chunk′ : List ℕ) → Stepped (now (image .entry)) chunk chunk′ (now (line .entry)) (now (line .entry)) (now (out .exit)) s r) ⌝ }
 {
@@ -105,7 +87,7 @@ fn answer_last(
         kept: s.kept,
         end: 0,
     };
-    let end = input::read_end(image, index, run, line, word, rows, out, from);
+    let end = answers::input::read_end(image, index, run, line, out, from);
     let handed = s.handed;
     let gone = moving::give(&out[..end], handed);
     match gone {
@@ -121,13 +103,11 @@ fn take_chunk(
     run: Prepared,
     chunk: &mut [u8],
     line: &[u8],
-    word: &mut [u8],
-    rows: &mut [u8],
     out: &mut [u8],
     s: Stand,
 ) -> Step
     requires { ⌜ OnceARun (now image) (now index) (headerOf (run .h)) (verdictOf (run .verdict)) ⌝ }
-    requires { ⌜ (length (now chunk) ≡ 65536) × Rooms (now line) (now word) (now rows) (now out) ⌝ }
+    requires { ⌜ (length (now chunk) ≡ 65536) × Rooms (now line) (now out) ⌝ }
     requires { ⌜ Within s × (s .at ≡ s .n) ⌝ }
     ensures { λ r. ⌜ Stepped (now (image .entry)) (now (chunk .entry)) (now (chunk .exit)) (now (line .entry)) (now (line .entry)) (now (out .exit)) s r ⌝ }
 {
@@ -136,7 +116,7 @@ fn take_chunk(
     match came {
         Taken::Failed => Step::Stopped,
         Taken::Nothing => Step::On(s),
-        Taken::End => answer_last(image, index, run, line, word, rows, out, s),
+        Taken::End => answer_last(image, index, run, line, out, s),
         Taken::Bytes(n, count) => {
             let handed = s.handed;
             Step::On(Stand {
@@ -156,22 +136,20 @@ fn turn(
     run: Prepared,
     chunk: &mut [u8],
     line: &mut [u8],
-    word: &mut [u8],
-    rows: &mut [u8],
     out: &mut [u8],
     s: Stand,
 ) -> Step
     requires { ⌜ OnceARun (now image) (now index) (headerOf (run .h)) (verdictOf (run .verdict)) ⌝ }
-    requires { ⌜ (length (now chunk) ≡ 65536) × Rooms (now line) (now word) (now rows) (now out) ⌝ }
+    requires { ⌜ (length (now chunk) ≡ 65536) × Rooms (now line) (now out) ⌝ }
     requires { ⌜ Within s ⌝ }
     ensures { λ r. ⌜ Stepped (now (image .entry)) (now (chunk .entry)) (now (chunk .exit)) (now (line .entry)) (now (line .exit)) (now (out .exit)) s r ⌝ }
 {
     let at = s.at;
     let n = s.n;
     if at < n {
-        return answer_part(image, index, run, chunk, line, word, rows, out, s);
+        return answer_part(image, index, run, chunk, line, out, s);
     }
-    take_chunk(image, index, run, chunk, line, word, rows, out, s)
+    take_chunk(image, index, run, chunk, line, out, s)
 }
 
 // How it ended: the whole input is answered, with the counts of what came in and went out, or a call failed.
@@ -187,12 +165,10 @@ fn answer_input(
     run: Prepared,
     chunk: &mut [u8],
     line: &mut [u8],
-    word: &mut [u8],
-    rows: &mut [u8],
     out: &mut [u8],
 ) -> Ending
     requires { ⌜ OnceARun (now image) (now index) (headerOf (run .h)) (verdictOf (run .verdict)) ⌝ }
-    requires { ⌜ (length (now chunk) ≡ 65536) × Rooms (now line) (now word) (now rows) (now out) ⌝ }
+    requires { ⌜ (length (now chunk) ≡ 65536) × Rooms (now line) (now out) ⌝ }
     ensures { λ r. ⌜ Ended (now (image .entry)) r ⌝ }
 {
     let mut s = Stand {
@@ -204,7 +180,7 @@ fn answer_input(
     };
     let mut left: u64 = 140737488355328;
     while left > 0 {
-        let step = turn(image, index, run, chunk, line, word, rows, out, s);
+        let step = turn(image, index, run, chunk, line, out, s);
         match step {
             Step::On(next) => {
                 s = next;
@@ -226,20 +202,9 @@ fn main() {
     let mut image = [0u8; 65537];
     let n = moving::load_image(&mut image);
     let mut index = [0u8; 39424];
-    let run = answers::prepare(&image[..n], &mut index);
+    let run = answers::run::prepare(&image[..n], &mut index);
     let mut chunk = [0u8; 65536];
     let mut line = [0u8; 256];
-    let mut word = [0u8; 128];
-    let mut rows = [0u8; 7424];
     let mut out = [0u8; 65536];
-    answer_input(
-        &image[..n],
-        &index,
-        run,
-        &mut chunk,
-        &mut line,
-        &mut word,
-        &mut rows,
-        &mut out,
-    );
+    answer_input(&image[..n], &index, run, &mut chunk, &mut line, &mut out);
 }

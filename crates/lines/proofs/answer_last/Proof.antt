@@ -11,10 +11,7 @@ use Rattle.lines.proofs.answer_last.Statement.{statement}
 use Rattle.lines.proofs.answer_last.Tie as tie
 
 read-end-requires : tie.Need-read-end-requires
-read-end-requires c κs =
-    let s = c .before .before .before .before .before .before .before .before .before in
-    let rooms = s .pre .1 .0 in
-    (s .pre .0, ((rooms .line-long, s .pre .1 .1 .0 .few), ((rooms .word-long, rooms .rows-long), omega (arith, rooms .out-long))))
+read-end-requires c κs = search needs
 
 slice-reshare-prefix-give : tie.Need-slice-reshare-prefix-give
 slice-reshare-prefix-give c = search needs
@@ -24,10 +21,10 @@ slice-aggregate-give c = sym (length-take-le _ _ (slice-reshare-prefix-give (c .
 
 give-requires : tie.Need-give-requires
 give-requires c κs =
-    let s = c .before .before .before .before .before .before .before .before .before .before .before .before .before .before .before .before .before .before in
-    let read = c .before .before .before .before .before .before .before .before .read-end in
-    let out = read .last .1 .1 .1 .1 .1 .1 .0 in
-    let fits : read .result ≤ length out = omega (arith, read .ensures .1, read .kept .1 .1 .1 .1 .1 .1 .0, s .pre .1 .0 .out-long) in
+    let s = c .before .before .before .before .before .before .before .before .before .before in
+    let read = c .before .before .before .before .read-end in
+    let out = read .last .1 .1 .1 .1 .0 in
+    let fits : read .result ≤ length out = omega (arith, read .ensures .1, read .kept .1 .1 .1 .1 .0, s .pre .1 .0 .out-long) in
     omega (arith, length-take-le (read .result) out fits, read .ensures .1, s .pre .1 .1 .0 .handed-small)
 
 enum-told : tie.Need-enum-told
@@ -39,30 +36,18 @@ enum-known-gone c = search needs
 same-length : tie.Need-same-length
 same-length c = search needs
 
-same-length-2 : tie.Need-same-length-2
-same-length-2 c = search needs
-
-same-length-3 : tie.Need-same-length-3
-same-length-3 c = search needs
-
 returns : tie.Need-returns
 returns c = search needs
 
-same-length-4 : tie.Need-same-length-4
-same-length-4 c = search needs
-
-same-length-5 : tie.Need-same-length-5
-same-length-5 c = search needs
-
-same-length-6 : tie.Need-same-length-6
-same-length-6 c = search needs
+same-length-2 : tie.Need-same-length-2
+same-length-2 c = search needs
 
 returns-2 : tie.Need-returns-2
 returns-2 c =
-    let s = c .before .before .before .before .before .before .before .before .before .before .before .before .before .before .before .before .before .before .before .before .before .before in
-    let read = c .before .before .before .before .before .before .before .before .before .before .before .before .read-end in
-    let out = read .last .1 .1 .1 .1 .1 .1 .0 in
-    let fits : read .result ≤ length out = omega (arith, read .ensures .1, read .kept .1 .1 .1 .1 .1 .1 .0, s .pre .1 .0 .out-long) in
+    let s = c .before .before .before .before .before .before .before .before .before .before .before .before .before .before in
+    let read = c .before .before .before .before .before .before .before .before .read-end in
+    let out = read .last .1 .1 .1 .1 .0 in
+    let fits : read .result ≤ length out = omega (arith, read .ensures .1, read .kept .1 .1 .1 .1 .0, s .pre .1 .0 .out-long) in
     λ chunk chunk′.
     over (s .args .image .now) chunk (s .args .line .now) out (s .args .s) _ (take (read .result) out)
     (s .pre .1 .1 .1)
@@ -82,10 +67,6 @@ answer-last-spec =
     enum-told
     enum-known-gone
     same-length
-    same-length-2
-    same-length-3
     returns
-    same-length-4
-    same-length-5
-    same-length-6
+    same-length-2
     returns-2)

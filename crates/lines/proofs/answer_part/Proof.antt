@@ -13,15 +13,15 @@ use Rattle.lines.proofs.answer_part.Statement.{statement}
 use Rattle.lines.proofs.answer_part.Tie as tie
 
 slice-aggregate-read-chunk : tie.Need-slice-aggregate-read-chunk
-slice-aggregate-read-chunk c = let s = c .before .before .before .before .before .before .before .before in sym (length-take-le (s .args .s .n) (s .args .chunk .now) (omega (arith, s .pre .1 .0 .0, s .pre .1 .1 .inside)))
+slice-aggregate-read-chunk c = let s = c .before .before .before .before .before .before in sym (length-take-le (s .args .s .n) (s .args .chunk .now) (omega (arith, s .pre .1 .0 .0, s .pre .1 .1 .inside)))
 
 read-chunk-requires : tie.Need-read-chunk-requires
 read-chunk-requires c κs =
-    let s = c .before .before .before .before .before .before .before .before .before .before .before .before in
+    let s = c .before .before .before .before .before .before .before .before in
     let rooms = s .pre .1 .0 .1 in
     let within = s .pre .1 .1 in
     let part = length-take-le (s .args .s .n) (s .args .chunk .now) (omega (arith, s .pre .1 .0 .0, within .inside)) in
-    (s .pre .0, (omega (arith, part, within .in-order), ((rooms .line-long, within .few), ((rooms .word-long, rooms .rows-long), (omega (arith, rooms .out-long), omega arith)))))
+    (s .pre .0, (omega (arith, part, within .in-order), ((rooms .line-long, within .few), (omega (arith, rooms .out-long), omega arith))))
 
 slice-reshare-prefix-give : tie.Need-slice-reshare-prefix-give
 slice-reshare-prefix-give c = search needs
@@ -31,10 +31,12 @@ slice-aggregate-give c = sym (length-take-le _ _ (slice-reshare-prefix-give (c .
 
 give-requires : tie.Need-give-requires
 give-requires c κs =
-    let s = c .before .before .before .before .before .before .before .before .before .before .before .before .before .before .before .before .before .before .before .before .before .before .before .before .before in
-    let read = c .before .before .before .before .before .before .before .before .before .before .before .before .read-chunk in
-    let fits : read .result .reached .end ≤ length (read .last .1 .1 .1 .1 .1 .1 .1 .1 .0) = omega (arith, read .ensures .1 .0 .1, read .kept .1 .1 .1 .1 .1 .1 .1 .1 .0) in
-    omega (arith, length-take-le (read .result .reached .end) (read .last .1 .1 .1 .1 .1 .1 .1 .1 .0) fits, read .ensures .1 .0 .1, s .pre .1 .0 .1 .out-long, s .pre .1 .1 .handed-small)
+    let s = c .before .before .before .before .before .before .before .before .before .before .before .before .before .before .before .before .before in
+    let read = c .before .before .before .before .before .before .before .before .read-chunk in
+    let end = read .result .reached .end in
+    let out = read .last .1 .1 .1 .1 .1 .1 .0 in
+    let fits : end ≤ length out = omega (arith, read .ensures .1 .0 .1, read .kept .1 .1 .1 .1 .1 .1 .0) in
+    omega (arith, length-take-le end out fits, read .ensures .1 .0 .1, s .pre .1 .0 .1 .out-long, s .pre .1 .1 .handed-small)
 
 enum-told : tie.Need-enum-told
 enum-told c = search needs
@@ -48,42 +50,30 @@ same-length c = search needs
 same-length-2 : tie.Need-same-length-2
 same-length-2 c = search needs
 
+returns : tie.Need-returns
+returns c = search needs
+
 same-length-3 : tie.Need-same-length-3
 same-length-3 c = search needs
 
 same-length-4 : tie.Need-same-length-4
 same-length-4 c = search needs
 
-returns : tie.Need-returns
-returns c = search needs
-
-same-length-5 : tie.Need-same-length-5
-same-length-5 c = search needs
-
-same-length-6 : tie.Need-same-length-6
-same-length-6 c = search needs
-
-same-length-7 : tie.Need-same-length-7
-same-length-7 c = search needs
-
-same-length-8 : tie.Need-same-length-8
-same-length-8 c = search needs
-
 returns-2 : tie.Need-returns-2
 returns-2 c =
-    let s = c .before .before .before .before .before .before .before .before .before .before .before .before .before .before .before .before .before .before .before .before .before .before .before .before .before .before .before .before .before in
-    let read = c .before .before .before .before .before .before .before .before .before .before .before .before .before .before .before .before .read-chunk in
+    let s = c .before .before .before .before .before .before .before .before .before .before .before .before .before .before .before .before .before .before .before .before .before in
     let stand = s .args .s in
     let chunk = s .args .chunk .now in
-    let out = read .last .1 .1 .1 .1 .1 .1 .1 .1 .0 in
+    let read = c .before .before .before .before .before .before .before .before .before .before .before .before .read-chunk in
+    let out = read .last .1 .1 .1 .1 .1 .1 .0 in
     let end = read .result .reached .end in
-    let fits : end ≤ length out = omega (arith, read .ensures .1 .0 .1, read .kept .1 .1 .1 .1 .1 .1 .1 .1 .0) in
+    let fits : end ≤ length out = omega (arith, read .ensures .1 .0 .1, read .kept .1 .1 .1 .1 .1 .1 .0) in
     let long = length-take-le end out fits in
     let part = length-take-le (stand .n) chunk (omega (arith, s .pre .1 .0 .0, s .pre .1 .1 .inside)) in
     let stop : read .result .at ≤ stand .n = omega (arith, read .ensures .1 .1 .1 .0, part) in
     onward (s .args .image .now) chunk chunk (s .args .line .now) (read .last .1 .1 .1 .1 .1 .0) stand _ (take (read .result .at - stand .at) (drop (stand .at) (take (stand .n) chunk))) [] (take end out)
     (append-nil (waiting chunk stand) ∙ sym (parts-join chunk (stand .at) (read .result .at) (stand .n) (read .ensures .1 .1 .0) stop (omega (arith, s .pre .1 .0 .0, s .pre .1 .1 .inside))))
-    (read .ensures .0 .0)
+    (λ l h. read .ensures .0 .0 l h .begun)
     (λ l h. read .ensures .1 .0 .0 l h .written)
     (omega arith)
     (subst (GivenOut _ _) (c .before .given .given .1) (c .before .before .before .give .ensures))
@@ -109,11 +99,7 @@ answer-part-spec =
     enum-known-given
     same-length
     same-length-2
+    returns
     same-length-3
     same-length-4
-    returns
-    same-length-5
-    same-length-6
-    same-length-7
-    same-length-8
     returns-2)

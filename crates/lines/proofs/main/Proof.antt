@@ -40,14 +40,8 @@ slice-aggregate-answer-input-4 c = search needs
 slice-aggregate-answer-input-5 : tie.Need-slice-aggregate-answer-input-5
 slice-aggregate-answer-input-5 c = search needs
 
-slice-aggregate-answer-input-6 : tie.Need-slice-aggregate-answer-input-6
-slice-aggregate-answer-input-6 c = search needs
-
-slice-aggregate-answer-input-7 : tie.Need-slice-aggregate-answer-input-7
-slice-aggregate-answer-input-7 c = search needs
-
 answer-input-requires : tie.Need-answer-input-requires
-answer-input-requires c κs = (c .before .before .before .before .before .before .before .before .prepare .ensures, (refl, record { line-long = refl; word-long = refl; rows-long = refl; out-long = refl }))
+answer-input-requires c κs = (c .before .before .before .before .before .before .prepare .ensures .0, (refl, record { line-long = refl; out-long = refl }))
 
 returns : tie.Need-returns
 returns c = search needs
@@ -68,7 +62,5 @@ main-spec =
     slice-aggregate-answer-input-3
     slice-aggregate-answer-input-4
     slice-aggregate-answer-input-5
-    slice-aggregate-answer-input-6
-    slice-aggregate-answer-input-7
     answer-input-requires
     returns)

@@ -40,7 +40,7 @@ same-length-2 c = search needs
 
 returns-2 : tie.Need-returns-2
 returns-2 c =
-    let s = c .before .before .before .before .before .before .before .before .before .before .before .before .before .before in
+    let s = c .before .before .before .before .before .before .before .before .before .before .before .before in
     let stand = s .args .s in
     let within = s .pre .1 .1 .0 in
     let none : stand .n - stand .at ≡ 0 = omega (arith, s .pre .1 .1 .1) in
@@ -53,21 +53,15 @@ same-length-3 c = search needs
 same-length-4 : tie.Need-same-length-4
 same-length-4 c = search needs
 
+returns-3 : tie.Need-returns-3
+returns-3 c = c .before .before .answer-last .ensures (c .before .before .before .before .before .before .before .before .before .before .before .before .before .before .before .before .args .chunk .now) (c .before .before .before .before .before .before .before .before .take-in .last .0)
+
 same-length-5 : tie.Need-same-length-5
 same-length-5 c = search needs
 
-same-length-6 : tie.Need-same-length-6
-same-length-6 c = search needs
-
-returns-3 : tie.Need-returns-3
-returns-3 c = c .before .before .before .before .before .before .answer-last .ensures (c .before .before .before .before .before .before .before .before .before .before .before .before .before .before .before .before .before .before .before .before .before .before .before .before .args .chunk .now) (c .before .before .before .before .before .before .before .before .before .before .before .before .before .before .take-in .last .0)
-
-same-length-7 : tie.Need-same-length-7
-same-length-7 c = search needs
-
 returns-4 : tie.Need-returns-4
 returns-4 c =
-    let s = c .before .before .before .before .before .before .before .before .before .before .before .before .before .before .before .before in
+    let s = c .before .before .before .before .before .before .before .before .before .before .before .before .before .before in
     let stand = s .args .s in
     let within = s .pre .1 .1 .0 in
     let came = c .before .before .came .given in
@@ -80,7 +74,8 @@ returns-4 c =
     let few : n ≤ length chunk = omega (arith, told .1 .0, take-in .kept .0) in
     let long = length-take-le n chunk few in
     onward (s .args .image .now) (s .args .chunk .now) chunk (s .args .line .now) (s .args .line .now) stand _ [] (take n chunk) []
-    (ap (λ k. take k (drop (stand .at) (s .args .chunk .now)) ++ take n chunk) none ∙ sym (ap (λ k. take k chunk) all)) (λ l h. h) (λ l h. refl) (omega (arith, told .1 .1, long)) (omega arith) (s .args .out .now) (sym (ap (λ k. take k chunk) long)) refl
+    (ap (λ k. take k (drop (stand .at) (s .args .chunk .now)) ++ take n chunk) none ∙ sym (ap (λ k. take k chunk) all))
+    (λ l h. h) (λ l h. refl) (omega (arith, told .1 .1, long)) (omega arith) (s .args .out .now) (sym (ap (λ k. take k chunk) long)) refl
     (omega (arith, long, told .1 .0, s .pre .1 .0 .0)) (omega arith) (omega arith) (omega (arith, told .1 .0, s .pre .1 .0 .0)) (within .few)
 
 pub take-chunk-spec : {M : Type 1} → statement M
@@ -99,8 +94,6 @@ take-chunk-spec =
     returns-2
     same-length-3
     same-length-4
-    same-length-5
-    same-length-6
     returns-3
-    same-length-7
+    same-length-5
     returns-4)

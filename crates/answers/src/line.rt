@@ -1,8 +1,8 @@
-// The answer to a line, over an image that was checked, and where accepted indexed, once a run.
+// The answer to a line: unread, the refusal, or the reply and the rows.
 ghost use mathlib.Core.Path.{_≡_};
 ghost use mathlib.Core.List.{List};
 ghost use Prim.Native.Nat.{ℕ, _+_, _≤_};
-ghost use lib.ListN.{length, take, replicate};
+ghost use lib.ListN.{length, take};
 ghost use Rattle.model.specs.Blocks.{header};
 ghost use Rattle.model.specs.Refusals.{accepted, imageVerdict};
 ghost use Rattle.model.specs.Lines.{lineOf, letters, printedLine};
@@ -12,7 +12,7 @@ ghost use Rattle.image.specs.Index.{indexOf};
 ghost use Rattle.grammar.specs.Answers.{verdictOf};
 ghost use Rattle.rows.specs.Fill.{replyOf};
 ghost use Rattle.print.specs.Text.{Put};
-ghost use Rattle.lines.specs.OnceARun.{OnceARun};
+ghost use Rattle.answers.specs.OnceARun.{OnceARun};
 use grammar::Verdict;
 use image::Header;
 use parse::Line;
@@ -79,40 +79,5 @@ pub fn answer(
             Verdict::Refused(k) => print::put_reply(out, at, Reply::Refused(k)),
             Verdict::Accepted => answer_word(image, index, h, &word[..n], rows, out, at),
         },
-    }
-}
-
-// What is had once a run.
-pub struct Prepared {
-    pub verdict: Verdict,
-    pub h: Header,
-}
-
-// The image check, and of an accepted image the header and the index. `index` is all 0 before.
-pub fn prepare(image: &[u8], index: &mut [u8]) -> Prepared
-    requires { ⌜ now index ≡ replicate 39424 0 ⌝ }
-    ensures { λ r. ⌜ OnceARun (now (image .entry)) (now (index .exit)) (headerOf (r .h)) (verdictOf (r .verdict)) ⌝ }
-{
-    let verdict = grammar::check(image);
-    match verdict {
-        Verdict::Refused(k) => Prepared {
-            verdict: Verdict::Refused(k),
-            h: Header {
-                form: 0,
-                letters: 0,
-                pairs: 0,
-                rules: 0,
-                lexicons: 0,
-                entries: 0,
-            },
-        },
-        Verdict::Accepted => {
-            let h = image::read_header(image);
-            rules::index::fill_index(image, h, index);
-            Prepared {
-                verdict: Verdict::Accepted,
-                h: h,
-            }
-        }
     }
 }

@@ -19,8 +19,8 @@ use Rattle.model.specs.Lines.{lineOf, linesFrom, linesOf, printedReply, printed
 use Rattle.grammar.proofs.Verdicts.{tests-refused}
 use Rattle.print.specs.Text.{Put}
 use Rattle.print.proofs.Text.{put-none, put-same, put-then}
-use Rattle.parse.specs.Fields.{Begun}
-use Rattle.lines.specs.Input.{begunAfter, textAfter, lastText}
+use Rattle.parse.specs.Fields.{Begun, lineAfter}
+use Rattle.answers.specs.Input.{begunAfter, bufferAfter, Grown, textAfter, lastText}
 
 pub refused-not : (k : ℕ) → refused k ≡ accepted → ⊥
 refused-not k e = let z : _≡_ {A = ℕ} 0 1 = cc in omega arith
@@ -47,22 +47,22 @@ pub refused-line : (image word : List ℕ) (k : ℕ) → imageVerdict image ≡ 
 unfolding printedLine listingReply listingRows requestVerdict requestTests imageVerdict
 refused-line image word k e = rw (tests-refused (imageTests image) (ownTests image (analysis word)) k e) (sym (append-nil (printedReply (Reply.refused k))))
 
+pub begun-nothing : (buffer : List ℕ) → Begun buffer 0 []
+begun-nothing buffer = record { many = refl; bytes = refl }
+
 -- one byte
 module _ (image line : List ℕ) (b : ℕ) where
-  pub end-begun : b ≡ 10 → begunAfter line (b ∷ []) ≡ []
-  end-begun e = rw (eq-eqb b 10 e) refl
+  pub end-grown : (buffer : List ℕ) → b ≡ 10 → Grown buffer buffer 0 line (b ∷ [])
+  end-grown buffer e = record { begun = rw (eq-eqb b 10 e) (begun-nothing buffer); same = rw (eq-eqb b 10 e) refl }
 
   pub end-text : b ≡ 10 → printedLine image (lineOf line) ≡ textAfter image line (b ∷ [])
   end-text e = rw (eq-eqb b 10 e) (sym (append-nil (printedLine image (lineOf line))))
 
-  pub byte-begun : (b ≡ 10 → ⊥) → line ++ (b ∷ []) ≡ begunAfter line (b ∷ [])
-  byte-begun e = rw (ne-eqb b 10 e) refl
+  pub byte-grown : (before after : List ℕ) (n kept : ℕ) → (b ≡ 10 → ⊥) → Begun before n line → Begun after kept (line ++ (b ∷ [])) → after ≡ lineAfter before n b → Grown before after kept line (b ∷ [])
+  byte-grown before after n kept e h g f = record { begun = rw (ne-eqb b 10 e) g; same = rw (ne-eqb b 10 e) (f ∙ ap (λ (m : ℕ). lineAfter before m b) (h .many)) }
 
   pub byte-text : (b ≡ 10 → ⊥) → [] ≡ textAfter image line (b ∷ [])
   byte-text e = rw (ne-eqb b 10 e) refl
-
-pub begun-nothing : (buffer : List ℕ) → Begun buffer 0 []
-begun-nothing buffer = record { many = refl; bytes = refl }
 
 -- the last line
 pub last-none : (image buffer : List ℕ) (n : ℕ) (l : List ℕ) → Begun buffer n l → n ≡ 0 → [] ≡ lastText image l
@@ -80,6 +80,21 @@ begun-parts line (b ∷ xs) ys = go (eqb b 10) (begun-parts [] xs ys) (begun-par
   where
     go : (t : Bool) → begunAfter [] (xs ++ ys) ≡ begunAfter (begunAfter [] xs) ys → begunAfter (line ++ (b ∷ [])) (xs ++ ys) ≡ begunAfter (begunAfter (line ++ (b ∷ [])) xs) ys
         → cond t (begunAfter [] (xs ++ ys)) (begunAfter (line ++ (b ∷ [])) (xs ++ ys)) ≡ begunAfter (cond t (begunAfter [] xs) (begunAfter (line ++ (b ∷ [])) xs)) ys
+    go true p q = p
+    go false p q = q
+
+pub buffer-parts : (buffer line xs ys : List ℕ) → bufferAfter buffer line (xs ++ ys) ≡ bufferAfter (bufferAfter buffer line xs) (begunAfter line xs) ys
+buffer-parts buffer line [] ys = refl
+buffer-parts buffer line (b ∷ xs) ys = go (eqb b 10) (buffer-parts buffer [] xs ys) (buffer-parts kept more xs ys)
+  where
+    kept : List ℕ
+    kept = lineAfter buffer (min (length line) 256) b
+
+    more : List ℕ
+    more = line ++ (b ∷ [])
+
+    go : (t : Bool) → bufferAfter buffer [] (xs ++ ys) ≡ bufferAfter (bufferAfter buffer [] xs) (begunAfter [] xs) ys → bufferAfter kept more (xs ++ ys) ≡ bufferAfter (bufferAfter kept more xs) (begunAfter more xs) ys
+        → cond t (bufferAfter buffer [] (xs ++ ys)) (bufferAfter kept more (xs ++ ys)) ≡ bufferAfter (cond t (bufferAfter buffer [] xs) (bufferAfter kept more xs)) (cond t (begunAfter [] xs) (begunAfter more xs)) ys
     go true p q = p
     go false p q = q
 
@@ -124,7 +139,7 @@ pub record Progress (image chunk line₀ out₀ : List ℕ) (at kept₀ end₀ :
   pub kept-few : kept ≤ 256
   pub out-same : length out ≡ length out₀
   pub end-in : end ≤ length out₀
-  pub begun : (l : List ℕ) → Begun line₀ kept₀ l → Begun line kept (begunAfter l (take (i - at) (drop at chunk)))
+  pub grown : (l : List ℕ) → Begun line₀ kept₀ l → Grown line₀ line kept l (take (i - at) (drop at chunk))
   pub text : (l : List ℕ) → Begun line₀ kept₀ l → Put out₀ out end₀ end (textAfter image l (take (i - at) (drop at chunk)))
   pub start : i ≡ at → end ≡ end₀
 
@@ -132,7 +147,7 @@ module _ (image chunk line₀ out₀ : List ℕ) (at kept₀ end₀ : ℕ) where
   pub progress-none : at ≤ length chunk → length line₀ ≡ 256 → kept₀ ≤ 256 → end₀ ≤ length out₀ → Progress image chunk line₀ out₀ at kept₀ end₀ line₀ out₀ at kept₀ end₀
   progress-none h w k e =
       let z : at - at ≡ 0 = omega arith in
-      record { in-order = omega arith; inside = h; line-long = w; kept-few = k; out-same = refl; end-in = e; begun = λ l b. rw z b; text = λ l b. rw z (put-none out₀ end₀); start = λ f. refl }
+      record { in-order = omega arith; inside = h; line-long = w; kept-few = k; out-same = refl; end-in = e; grown = λ l b. rw z (record { begun = b; same = refl }); text = λ l b. rw z (put-none out₀ end₀); start = λ f. refl }
 
   module _ (line out : List ℕ) (i kept end : ℕ) (done : Progress image chunk line₀ out₀ at kept₀ end₀ line out i kept end) (inside : i < length chunk) where
     more-bytes : take (i + 1 - at) (drop at chunk) ≡ take (i - at) (drop at chunk) ++ (getD chunk i 0 ∷ [])
@@ -146,11 +161,10 @@ module _ (image chunk line₀ out₀ : List ℕ) (at kept₀ end₀ : ℕ) where
 
     -- a byte more
     pub progress-more : (line′ out′ : List ℕ) (kept′ end′ : ℕ) → length line′ ≡ length line → kept′ ≤ 256 → length out′ ≡ length out → end′ ≤ length out₀
-        → ((l : List ℕ) → Begun line kept l → Begun line′ kept′ (begunAfter l (getD chunk i 0 ∷ [])))
+        → ((l : List ℕ) → Begun line kept l → Grown line line′ kept′ l (getD chunk i 0 ∷ []))
         → ((l : List ℕ) → Begun line kept l → Put out out′ end end′ (textAfter image l (getD chunk i 0 ∷ [])))
         → Progress image chunk line₀ out₀ at kept₀ end₀ line′ out′ (i + 1) kept′ end′
     progress-more line′ out′ kept′ end′ w k v e f g =
-        let xs = take (i - at) (drop at chunk) in
         record {
           in-order = omega (arith, done .in-order);
           inside = omega arith;
@@ -158,10 +172,24 @@ module _ (image chunk line₀ out₀ : List ℕ) (at kept₀ end₀ : ℕ) where
           kept-few = k;
           out-same = v ∙ done .out-same;
           end-in = e;
-          begun = λ l b. subst (Begun line′ kept′) (sym (ap (begunAfter l) more-bytes ∙ begun-parts l xs (getD chunk i 0 ∷ []))) (f (begunAfter l xs) (done .begun l b));
-          text = λ l b. put-same (sym (ap (textAfter image l) more-bytes ∙ text-parts image l xs (getD chunk i 0 ∷ []))) (put-then (done .text l b) (g (begunAfter l xs) (done .begun l b)));
+          grown = λ l b. grown-more l b;
+          text = λ l b. put-same (sym (ap (textAfter image l) more-bytes ∙ text-parts image l xs (getD chunk i 0 ∷ []))) (put-then (done .text l b) (g (begunAfter l xs) (done .grown l b .begun)));
           start = λ z. absurd (omega (arith, done .in-order));
         }
+      where
+        xs : List ℕ
+        xs = take (i - at) (drop at chunk)
+
+        grown-more : (l : List ℕ) → Begun line₀ kept₀ l → Grown line₀ line′ kept′ l (take (i + 1 - at) (drop at chunk))
+        grown-more l b =
+            let first = done .grown l b in
+            let then = f (begunAfter l xs) (first .begun) in
+            record {
+              begun = subst (Begun line′ kept′) (sym (ap (begunAfter l) more-bytes ∙ begun-parts l xs (getD chunk i 0 ∷ []))) (then .begun);
+              same = then .same
+                  ∙ ap (λ (m : List ℕ). bufferAfter m (begunAfter l xs) (getD chunk i 0 ∷ [])) (first .same)
+                  ∙ sym (ap (bufferAfter line₀ l) more-bytes ∙ buffer-parts line₀ l xs (getD chunk i 0 ∷ []));
+            }
 
 -- where there was room at first and is none now, something was read
 pub moved : (image chunk line₀ out₀ : List ℕ) (at kept₀ end₀ : ℕ) (line out : List ℕ) (i kept end most : ℕ) → Progress image chunk line₀ out₀ at kept₀ end₀ line out i kept end → end₀ ≤ most → most < end → at < i

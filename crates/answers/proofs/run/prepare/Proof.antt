@@ -1,14 +1,14 @@
 -- `prepare` meets its contract.
 use borrow.Author.Needs.{needs}
-use mathlib.Core.Path.{_≡_, sym, ap, _∙_, subst}
+use mathlib.Core.Path.{_≡_, refl, sym, ap, _∙_, subst}
 use Rattle.model.specs.Blocks.{header}
 use Rattle.model.specs.Refusals.{accepted, imageVerdict}
 use Rattle.image.specs.Accepted.{Accepted}
 use Rattle.grammar.specs.Answers.{verdictOf}
 use Rattle.grammar.proofs.Verdicts.{accepted-image, laid-some}
-use Rattle.lines.proofs.Reading.{refused-not}
-use Rattle.lines.proofs.answers.prepare.Statement.{statement}
-use Rattle.lines.proofs.answers.prepare.Tie as tie
+use Rattle.answers.proofs.Reading.{refused-not}
+use Rattle.answers.proofs.run.prepare.Statement.{statement}
+use Rattle.answers.proofs.run.prepare.Tie as tie
 
 -- in the arm of an accepted image
 passed : (c : tie.After-enum-told) → imageVerdict (c .before .before .before .before .before .args .image .now) ≡ accepted
@@ -35,7 +35,7 @@ fill-index-requires c κs =
 returns : tie.Need-returns
 returns c =
     let told = c .before in
-    record { verdict-is = sym (ap verdictOf (told .verdict .given .1)) ∙ told .before .before .check .ensures; header-is = λ e. absurd (refused-not _ e); indexed = λ e. absurd (refused-not _ e) }
+    (record { verdict-is = sym (ap verdictOf (told .verdict .given .1)) ∙ told .before .before .check .ensures; header-is = λ e. absurd (refused-not _ e); indexed = λ e. absurd (refused-not _ e) }, λ k e. refl)
 
 same-length : tie.Need-same-length
 same-length c = search needs
@@ -43,7 +43,7 @@ same-length c = search needs
 returns-2 : tie.Need-returns-2
 returns-2 c =
     let told = c .before .before .before .before .before in
-    record { verdict-is = sym (passed told); header-is = λ e. c .before .before .before .before .read-header .ensures; indexed = λ e. c .before .before .fill-index .ensures }
+    (record { verdict-is = sym (passed told); header-is = λ e. c .before .before .before .before .read-header .ensures; indexed = λ e. c .before .before .fill-index .ensures }, λ k e. absurd (refused-not k (sym e)))
 
 pub prepare-spec : {M : Type 1} → statement M
 prepare-spec =

@@ -1,15 +1,28 @@
 -- The input as it comes in: the line begun after more bytes, and the text of the lines that ended in them.
-use Prim.Native.Nat.{ℕ}
+use Prim.Native.Nat.{ℕ, min}
 use mathlib.Core.Bool.{not, cond}
+use mathlib.Core.Path.{_≡_}
 use mathlib.Core.List.{List, [], _∷_, _++_}
+use lib.ListN.{length}
 use lib.Dec.{eqb}
 use Rattle.model.specs.Lists.{given}
 use Rattle.model.specs.Tree.{isNil}
 use Rattle.model.specs.Lines.{lineOf, printedLine}
+use Rattle.parse.specs.Fields.{Begun, lineAfter}
 
 abbrev pub begunAfter : List ℕ → List ℕ → List ℕ
 begunAfter line [] = line
 begunAfter line (b ∷ bs) = cond (eqb b 10) (begunAfter [] bs) (begunAfter (line ++ (b ∷ [])) bs)
+
+-- and the buffer that keeps its first bytes
+abbrev pub bufferAfter : List ℕ → List ℕ → List ℕ → List ℕ
+bufferAfter buffer line [] = buffer
+bufferAfter buffer line (b ∷ bs) = cond (eqb b 10) (bufferAfter buffer [] bs) (bufferAfter (lineAfter buffer (min (length line) 256) b) (line ++ (b ∷ [])) bs)
+
+-- a buffer in which a line has begun, and how many bytes it keeps, after more bytes
+pub record Grown (before after : List ℕ) (kept : ℕ) (line bytes : List ℕ) : Type 0 where
+  pub begun : Begun after kept (begunAfter line bytes)
+  pub same : after ≡ bufferAfter before line bytes
 
 module _ (image : List ℕ) where
   abbrev pub textAfter : List ℕ → List ℕ → List ℕ

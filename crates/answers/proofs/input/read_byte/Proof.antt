@@ -1,13 +1,12 @@
 -- `read_byte` meets its contract: the line's end gives its answer, another byte joins the line.
 use borrow.Author.Needs.{needs}
 use native.Mathlib.Omega.{arith}
-use mathlib.Core.Path.{sym, subst}
+use mathlib.Core.Path.{sym}
 use lib.Seq.{length-take-le}
 use Rattle.print.proofs.Text.{put-same, put-none}
-use Rattle.parse.specs.Fields.{Begun}
-use Rattle.lines.proofs.Reading.{end-begun, end-text, byte-begun, byte-text, begun-nothing}
-use Rattle.lines.proofs.input.read_byte.Statement.{statement}
-use Rattle.lines.proofs.input.read_byte.Tie as tie
+use Rattle.answers.proofs.Reading.{end-grown, end-text, byte-grown, byte-text}
+use Rattle.answers.proofs.input.read_byte.Statement.{statement}
+use Rattle.answers.proofs.input.read_byte.Tie as tie
 
 slice-reshare-prefix-answer : tie.Need-slice-reshare-prefix-answer
 slice-reshare-prefix-answer c = search needs
@@ -35,7 +34,7 @@ returns c =
     let ended = c .before .before .before .before .before .before .before .before .before .before .before .before in
     let a = ended .before .before .before .before .before .before .before .args in
     let answer = c .before .before .before .before .before .before .answer .ensures in (
-      (λ l begun. subst (Begun (a .line .now) 0) (sym (end-begun (a .image .now) l (a .b) (ended .if1 .taken))) (begun-nothing (a .line .now)), omega arith),
+      (λ l begun. end-grown (a .image .now) l (a .b) (a .line .now) (ended .if1 .taken), omega arith),
       (λ l begun. put-same (end-text (a .image .now) l (a .b) (ended .if1 .taken)) (answer .0 l (begun .bytes)), answer .1),
     )
 
@@ -50,7 +49,7 @@ returns-2 c =
     let goes = c .before .before .before .before in
     let a = goes .before .before .before .before .before .before .before .args in
     let added = c .before .before .add-byte .ensures in (
-      (λ l begun. subst (Begun _ _) (byte-begun (a .image .now) l (a .b) (goes .if1 .left)) (added .0 l begun), added .1 .0),
+      (λ l begun. byte-grown (a .image .now) l (a .b) (a .line .now) _ (a .from .kept) _ (goes .if1 .left) begun (added .0 l begun) (added .1 .1), added .1 .0),
       (λ l begun. put-same (byte-text (a .image .now) l (a .b) (goes .if1 .left)) (put-none _ _), omega arith),
     )
 

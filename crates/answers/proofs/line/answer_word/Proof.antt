@@ -12,9 +12,9 @@ use Rattle.model.specs.Calls.{listingReply}
 use Rattle.rows.specs.Fill.{replyOf}
 use Rattle.print.specs.Text.{printedRows}
 use Rattle.print.proofs.Text.{put-same, put-then}
-use Rattle.lines.proofs.Listed.{handed, handed-told, handed-few, handed-rows, handed-text, line-text, rows-lent}
-use Rattle.lines.proofs.answers.answer_word.Statement.{statement}
-use Rattle.lines.proofs.answers.answer_word.Tie as tie
+use Rattle.answers.proofs.Listed.{handed, handed-told, handed-few, handed-rows, handed-text, line-text, rows-lent}
+use Rattle.answers.proofs.line.answer_word.Statement.{statement}
+use Rattle.answers.proofs.line.answer_word.Tie as tie
 
 -- the call over the index replies this
 replied : (c : tie.After-analyse) → let a = c .before .before .before .before .before .before .before .args in replyOf (c .analyse .result) ≡ listingReply (a .image .now) (analysis (a .word .now)) 64

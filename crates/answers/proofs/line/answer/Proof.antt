@@ -9,9 +9,9 @@ use Rattle.model.specs.Lines.{lineOf, printedLine}
 use Rattle.grammar.specs.Answers.{verdictOf}
 use Rattle.print.proofs.Text.{put-same}
 use Rattle.parse.specs.Fields.{lineWith, letterCount}
-use Rattle.lines.proofs.Reading.{first-long, first-whole, refused-line}
-use Rattle.lines.proofs.answers.answer.Statement.{statement}
-use Rattle.lines.proofs.answers.answer.Tie as tie
+use Rattle.answers.proofs.Reading.{first-long, first-whole, refused-line}
+use Rattle.answers.proofs.line.answer.Statement.{statement}
+use Rattle.answers.proofs.line.answer.Tie as tie
 
 put-unread-requires : tie.Need-put-unread-requires
 put-unread-requires c κs = search needs

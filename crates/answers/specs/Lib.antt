@@ -1,0 +1,2 @@
+pub mod OnceARun
+pub mod Input
