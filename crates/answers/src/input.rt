@@ -120,7 +120,7 @@ fn read_bytes(
     }
 }
 
-// The same.
+// The same, in room of its own to work in.
 pub fn read_chunk(
     image: &[u8],
     index: &[u8],

@@ -12,7 +12,7 @@ use Rattle.moving.specs.declared.Count.{Count}
 use Rattle.lines.specs.declared.Stand.{Stand}
 use Rattle.answers.specs.Input.{begunAfter, textAfter, lastText}
 use Rattle.lines.specs.declared.Ending.the-variants as ending
-use Rattle.lines.specs.Sofar.{Rooms, Within, waiting, Sofar, Onward, Over, Ended}
+use Rattle.lines.specs.Sofar.{Rooms, Within, waiting, Sofar, WentOn, Over, Ended}
 use Rattle.answers.proofs.Reading.{begun-parts, text-parts, begun-nothing, printed-is}
 
 -- a part of a list, and the part after it
@@ -53,9 +53,9 @@ module _ (image chunk chunk′ line line′ : List ℕ) (s s′ : Stand) (part m
       }
 
   -- and so for what stands at the front of the chunk and of `out`
-  pub onward : (out′ : List ℕ) → more ≡ take (length more) chunk′ → text ≡ take (length text) out′ → length more ≤ 65536 → length text ≤ 65536 → s′ .at ≤ s′ .n → s′ .n ≤ 65536 → s′ .kept ≤ 256
-      → Onward image chunk chunk′ line line′ out′ s s′
-  onward out′ m t more-few text-few a b c =
+  pub went-on : (out′ : List ℕ) → more ≡ take (length more) chunk′ → text ≡ take (length text) out′ → length more ≤ 65536 → length text ≤ 65536 → s′ .at ≤ s′ .n → s′ .n ≤ 65536 → s′ .kept ≤ 256
+      → WentOn image chunk chunk′ line line′ out′ s s′
+  went-on out′ m t more-few text-few a b c =
       let i : s′ .taken .bytes - s .taken .bytes ≡ length more = omega (arith, taken) in
       let j : s′ .handed .bytes - s .handed .bytes ≡ length text = omega (arith, handed) in
       record {
@@ -123,7 +123,7 @@ module _ (image chunk line out : List ℕ) (s : Stand) (left : ℕ) (head : Head
   pub head-within : 0 < left → Within s
   head-within l = record { in-order = head .in-order; inside = head .inside; few = head .few; taken-small = omega (arith, head .taken-few); handed-small = omega (arith, head .handed-few) }
 
-  pub head-more : (chunk′ line′ out′ : List ℕ) (s′ : Stand) → 0 < left → Onward image chunk chunk′ line line′ out′ s s′
+  pub head-more : (chunk′ line′ out′ : List ℕ) (s′ : Stand) → 0 < left → WentOn image chunk chunk′ line line′ out′ s s′
       → SameLengths chunk line out chunk′ line′ out′ → Head image chunk′ line′ out′ s′ (left - 1)
   head-more chunk′ line′ out′ s′ l on same = record {
     chunk-long = same .chunk-same ∙ head .chunk-long;

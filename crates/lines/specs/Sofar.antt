@@ -42,7 +42,7 @@ pub record Sofar (image given handed chunk line : List ℕ) (s : Stand) : Type 0
 -- what a step does, whatever came in and went out before: what its read gave stands at the front of the chunk, and what it handed to its writes at
 -- the front of `out`, as many bytes as C's calls told. After the last step all that was handed over is what the model prints for all that was given.
 module _ (image chunk chunk′ line line′ out′ : List ℕ) (s : Stand) where
-  pub record Onward (s′ : Stand) : Type 0 where
+  pub record WentOn (s′ : Stand) : Type 0 where
     pub sofar : (given handed : List ℕ) → Sofar image given handed chunk line s
         → Sofar image (given ++ take (s′ .taken .bytes - s .taken .bytes) chunk′) (handed ++ take (s′ .handed .bytes - s .handed .bytes) out′) chunk′ line′ s′
     pub in-order : s′ .at ≤ s′ .n
@@ -56,7 +56,7 @@ module _ (image chunk chunk′ line line′ out′ : List ℕ) (s : Stand) where
         → (handed ++ take (count .bytes - s .handed .bytes) out′ ≡ printed image given) × (count .bytes ≡ length (printed image given))
 
   abbrev pub Stepped : Step → Type 0
-  Stepped (step.On s′) = Onward s′
+  Stepped (step.On s′) = WentOn s′
   Stepped (step.Over count) = Over count
   Stepped step.Stopped = Unit
 

@@ -7,7 +7,7 @@ use lib.ListN.{length, take, drop}
 use lib.Seq.{length-take-le}
 use Rattle.moving.specs.Told.{GivenOut}
 use Rattle.lines.specs.Sofar.{waiting}
-use Rattle.lines.proofs.Sofar.{parts-join, onward}
+use Rattle.lines.proofs.Sofar.{parts-join, went-on}
 use borrow.Author.Needs.{needs}
 use Rattle.lines.proofs.answer_part.Statement.{statement}
 use Rattle.lines.proofs.answer_part.Tie as tie
@@ -71,7 +71,7 @@ returns-2 c =
     let long = length-take-le end out fits in
     let part = length-take-le (stand .n) chunk (omega (arith, s .pre .1 .0 .0, s .pre .1 .1 .inside)) in
     let stop : read .result .at ≤ stand .n = omega (arith, read .ensures .1 .1 .1 .0, part) in
-    onward (s .args .image .now) chunk chunk (s .args .line .now) (read .last .1 .1 .1 .1 .1 .0) stand _ (take (read .result .at - stand .at) (drop (stand .at) (take (stand .n) chunk))) [] (take end out)
+    went-on (s .args .image .now) chunk chunk (s .args .line .now) (read .last .1 .1 .1 .1 .1 .0) stand _ (take (read .result .at - stand .at) (drop (stand .at) (take (stand .n) chunk))) [] (take end out)
     (append-nil (waiting chunk stand) ∙ sym (parts-join chunk (stand .at) (read .result .at) (stand .n) (read .ensures .1 .1 .0) stop (omega (arith, s .pre .1 .0 .0, s .pre .1 .1 .inside))))
     (λ l h. read .ensures .0 .0 l h .begun)
     (λ l h. read .ensures .1 .0 .0 l h .written)

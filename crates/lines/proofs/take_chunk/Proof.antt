@@ -6,7 +6,7 @@ use mathlib.Core.List.{[], _++_}
 use lib.ListN.{length, take, drop}
 use lib.Seq.{length-take-le}
 use Rattle.moving.specs.Told.{TakenIn}
-use Rattle.lines.proofs.Sofar.{onward}
+use Rattle.lines.proofs.Sofar.{went-on}
 use borrow.Author.Needs.{needs}
 use Rattle.lines.proofs.take_chunk.Statement.{statement}
 use Rattle.lines.proofs.take_chunk.Tie as tie
@@ -44,7 +44,7 @@ returns-2 c =
     let stand = s .args .s in
     let within = s .pre .1 .1 .0 in
     let none : stand .n - stand .at ≡ 0 = omega (arith, s .pre .1 .1 .1) in
-    onward (s .args .image .now) (s .args .chunk .now) (c .before .before .before .before .take-in .last .0) (s .args .line .now) (s .args .line .now) stand stand [] [] []
+    went-on (s .args .image .now) (s .args .chunk .now) (c .before .before .before .before .take-in .last .0) (s .args .line .now) (s .args .line .now) stand stand [] [] []
     (rw none refl) (λ l h. h) (λ l h. refl) (omega arith) (omega arith) (s .args .out .now) refl refl (omega arith) (omega arith) (within .in-order) (within .inside) (within .few)
 
 same-length-3 : tie.Need-same-length-3
@@ -73,7 +73,7 @@ returns-4 c =
     let all : n - 0 ≡ n = omega arith in
     let few : n ≤ length chunk = omega (arith, told .1 .0, take-in .kept .0) in
     let long = length-take-le n chunk few in
-    onward (s .args .image .now) (s .args .chunk .now) chunk (s .args .line .now) (s .args .line .now) stand _ [] (take n chunk) []
+    went-on (s .args .image .now) (s .args .chunk .now) chunk (s .args .line .now) (s .args .line .now) stand _ [] (take n chunk) []
     (ap (λ k. take k (drop (stand .at) (s .args .chunk .now)) ++ take n chunk) none ∙ sym (ap (λ k. take k chunk) all))
     (λ l h. h) (λ l h. refl) (omega (arith, told .1 .1, long)) (omega arith) (s .args .out .now) (sym (ap (λ k. take k chunk) long)) refl
     (omega (arith, long, told .1 .0, s .pre .1 .0 .0)) (omega arith) (omega arith) (omega (arith, told .1 .0, s .pre .1 .0 .0)) (within .few)
