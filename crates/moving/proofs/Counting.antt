@@ -7,7 +7,10 @@ use Rattle.moving.specs.declared.Told.{Told}
 use Rattle.moving.specs.declared.Told.the-variants as told
 use Rattle.moving.specs.declared.Onward.{Onward}
 use Rattle.moving.specs.declared.Onward.the-variants as onward
-use Rattle.moving.specs.Told.{ToldBy, bytesTold, onwardOf, imageLength}
+use Rattle.moving.specs.declared.Count.{Count}
+use Rattle.moving.specs.declared.Taken.{Taken}
+use Rattle.moving.specs.declared.Taken.the-variants as taken
+use Rattle.moving.specs.Told.{ToldBy, bytesTold, onwardOf, imageLength, TakenBy, TakenIn}
 
 -- no more than was lent
 pub told-few : (z : ℤ) (most : ℕ) (r : Told) → ToldBy z most r → bytesTold r ≤ most
@@ -29,3 +32,11 @@ pub image-few : (done : ℕ) (o : Onward) → imageLength done o ≤ done
 image-few done (onward.On n) = omega arith
 image-few done onward.Ended = omega arith
 image-few done onward.Failed = omega arith
+
+pub taken-in : (most : ℕ) (t : Told) (before : Count) (r : Taken) → bytesTold t ≤ most → TakenBy t before r → TakenIn most before r
+taken-in most (told.Bytes n) before (taken.Bytes m all) h k = (omega (arith, k .0, k .1 .0), (omega (arith, k .0), k .1 .1 ∙ ap (λ (i : ℕ). before .bytes + i) (sym (k .0))))
+taken-in most told.Interrupted before (taken.Bytes m all) h k = absurd k
+taken-in most told.Failed before (taken.Bytes m all) h k = absurd k
+taken-in most t before taken.End h k = tt
+taken-in most t before taken.Nothing h k = tt
+taken-in most t before taken.Failed h k = tt

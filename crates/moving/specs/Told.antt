@@ -39,6 +39,21 @@ imageLength done (onward.On n) = 0
 imageLength done onward.Ended = done
 imageLength done onward.Failed = 0
 
+-- no byte is the end of the input; a read that a signal interrupted is not, nor one that failed
+abbrev pub TakenBy : Told → Count → Taken → Type 0
+TakenBy (told.Bytes n) before (taken.Bytes m all) = (m ≡ n) × ((0 < n) × (all .bytes ≡ before .bytes + n))
+TakenBy (told.Bytes n) before taken.End = n ≡ 0
+TakenBy (told.Bytes n) before taken.Nothing = ⊥
+TakenBy (told.Bytes n) before taken.Failed = ⊥
+TakenBy told.Interrupted before (taken.Bytes m all) = ⊥
+TakenBy told.Interrupted before taken.End = ⊥
+TakenBy told.Interrupted before taken.Nothing = Unit
+TakenBy told.Interrupted before taken.Failed = ⊥
+TakenBy told.Failed before (taken.Bytes m all) = ⊥
+TakenBy told.Failed before taken.End = ⊥
+TakenBy told.Failed before taken.Nothing = ⊥
+TakenBy told.Failed before taken.Failed = Unit
+
 -- the count of all bytes that came in grows by those that came in now
 abbrev pub TakenIn : ℕ → Count → Taken → Type 0
 TakenIn most before (taken.Bytes n all) = (0 < n) × ((n ≤ most) × (all .bytes ≡ before .bytes + n))

@@ -3,7 +3,7 @@ ghost use mathlib.Core.Path.{_≡_};
 ghost use Prim.Native.Nat.{_+_, _<_, _≤_, _^_};
 ghost use lib.ListN.{length};
 ghost use Rattle.io.specs.Counts.{Counts};
-ghost use Rattle.moving.specs.Told.{ToldBy, bytesTold, onwardOf, imageLength, TakenIn, GivenOut};
+ghost use Rattle.moving.specs.Told.{ToldBy, bytesTold, onwardOf, imageLength, TakenBy, TakenIn, GivenOut};
 use libc::STDIN_FILENO;
 use libc::STDOUT_FILENO;
 
@@ -156,12 +156,11 @@ pub enum Taken {
     Failed,
 }
 
-// One read of standard input.
-pub fn take_in(chunk: &mut [u8], before: Count) -> Taken
-    requires { ⌜ before .bytes + length (now chunk) < 2 ^ 64 ⌝ }
-    ensures { λ r. ⌜ TakenIn (length (now (chunk .entry))) before r ⌝ }
+// What came in by what a read told.
+fn taken_by(told: Told, before: Count) -> Taken
+    requires { ⌜ before .bytes + bytesTold told < 2 ^ 64 ⌝ }
+    ensures { λ r. ⌜ TakenBy told before r ⌝ }
 {
-    let told = read_some(STDIN_FILENO, chunk);
     match told {
         Told::Failed => input_failed(),
         Told::Interrupted => Taken::Nothing,
@@ -172,6 +171,15 @@ pub fn take_in(chunk: &mut [u8], before: Count) -> Taken
             Taken::Bytes(n, counted(before, n))
         }
     }
+}
+
+// One read of standard input.
+pub fn take_in(chunk: &mut [u8], before: Count) -> Taken
+    requires { ⌜ before .bytes + length (now chunk) < 2 ^ 64 ⌝ }
+    ensures { λ r. ⌜ TakenIn (length (now (chunk .entry))) before r ⌝ }
+{
+    let told = read_some(STDIN_FILENO, chunk);
+    taken_by(told, before)
 }
 
 fn input_failed() -> Taken
