@@ -17,4 +17,5 @@ pub mod Sealing
 pub mod Computed
 pub mod Trials
 pub mod Limits
+pub mod BlockSum
 pub mod Examples
