@@ -3,7 +3,7 @@ ghost use mathlib.Core.Path.{_≡_};
 ghost use Prim.Native.Nat.{_+_, _<_, _≤_};
 ghost use lib.ListN.{length, take, drop};
 ghost use Rattle.model.specs.Lists.{every, isZero, byte, number};
-ghost use Rattle.model.specs.Blocks.{weightedSum, checkOf, header};
+ghost use Rattle.model.specs.Blocks.{checkOf, header};
 ghost use Rattle.image.specs.Header.{headerOf};
 
 pub mod kinds;
@@ -40,26 +40,12 @@ pub fn are_zeros(bytes: &[u8], from: usize, end: usize) -> bool
     true
 }
 
-// The weighted sum of a block's first 510 bytes. Each of its terms is at most 510 * 255, so the whole sum fits with no remainder taken on the way.
-fn weighted_sum(block: &[u8]) -> usize
-    requires { ⌜ 510 ≤ length (now block) ⌝ }
-    ensures { λ r. ⌜ (r ≡ weightedSum 0 (take 510 (now (block .entry)))) × (r < 100000000) ⌝ }
-{
-    let mut sum: usize = 0;
-    let mut i: usize = 0;
-    while i < 510 {
-        sum += (i + 1) * byte_at(block, i);
-        i += 1;
-    }
-    sum
-}
-
 // The check that a block must have.
 pub fn check_of(block: &[u8]) -> usize
     requires { ⌜ 510 ≤ length (now block) ⌝ }
     ensures { λ r. ⌜ (r ≡ checkOf (now (block .entry))) × (r < 65521) ⌝ }
 {
-    (1 + weighted_sum(block)) % 65521
+    ((1 + sum::weighted_sum(block)) % 65521) as usize
 }
 
 // The counts in an image's first block.
