@@ -1,4 +1,4 @@
-# make run: the readings of some words by the Spanish sample grammar. make test: the gate. make bench: what a word costs.
+# make run: the readings of some words by the Spanish sample grammar. make test: the gate. make bench: what a block and a word cost.
 .PHONY: run test bench
 
 run:
@@ -12,5 +12,8 @@ test:
 
 bench:
 	@tools/need rt cargo cc valgrind python3
+	@bench/blocks
+	@echo
 	@bench/listings
+	@echo
 	@bench/growth

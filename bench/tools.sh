@@ -1,4 +1,4 @@
-# Read in by listings and growth, which stand beside it: builds what they run, and counts instructions.
+# Read in by blocks, listings and growth, which stand beside it: builds what they run, and counts instructions.
 set -euo pipefail
 shopt -s inherit_errexit # so that a count that fails ends the script, and is not taken for 0
 cd "$(dirname "$0")/.."
@@ -35,13 +35,13 @@ assemble() {
     quietly target/cargo/release/assemble "$1" "$2"
 }
 
-# count MODE IMAGE WORDS REPEATS: instructions of a whole run of listings.c
+# count PROGRAM WORD...: instructions of a whole run of a program that has been built
 # Two settings keep out what is not the program's: callgrind counts a string instruction once for each byte, and whether the C
 # library clears memory by one is up to the processor, so it is told to use plain stores; and functions of the C library are
 # looked up before the program starts, not at their first call.
 count() {
     GLIBC_TUNABLES=glibc.cpu.x86_rep_stosb_threshold=1000000 LD_BIND_NOW=1 \
-        quietly valgrind --tool=callgrind --callgrind-out-file=/dev/null "$work/listings" "$@"
+        quietly valgrind --tool=callgrind --callgrind-out-file=/dev/null "$work/$1" "${@:2}"
     sed -n 's/.*Collected : //p' "$work/log"
 }
 
@@ -49,8 +49,8 @@ count() {
 # Some tens of them are the program's own, which counts the replies.
 over() {
     local with without
-    with=$(count "$1" "$4" "$5" 1)
-    without=$(count "$2" "$4" "$5" 1)
+    with=$(count listings "$1" "$4" "$5" 1)
+    without=$(count listings "$2" "$4" "$5" 1)
     echo $(((with - without) / $3))
 }
 
@@ -59,10 +59,10 @@ over() {
 fixed() {
     local words=$work/refused.words plain with
     echo 1 >"$words"
-    plain=$(count read "$1" "$words" 10)
-    with=$(count check "$1" "$words" 10)
+    plain=$(count listings read "$1" "$words" 10)
+    with=$(count listings check "$1" "$words" 10)
     check=$(((with - plain) / 10))
-    with=$(count analyse "$1" "$words" 10)
+    with=$(count listings analyse "$1" "$words" 10)
     refused=$(((with - plain) / 10))
 }
 
