@@ -1,5 +1,5 @@
 -- Laws of sums: of equal, greater and added terms, by rows and by columns, and running sums from the last term down.
-use Prim.Native.Nat.{ℕ, zero, suc, _+_, _*_, _-_, _<_, _≤_}
+use Prim.Native.Nat.{ℕ, zero, suc, _+_, _*_, _<_, _≤_}
 use native.Mathlib.Nat.{mul-le-mul, mul-add, add-mul, mul-assoc, mul-suc, mul-zero, add-zero, zero-add, add-suc}
 use native.Mathlib.Omega.{arith}
 use mathlib.Core.Path.{_≡_, refl, sym, ap, ap₂, _∙_}
