@@ -9,7 +9,7 @@ use Rattle.model.specs.Grammar.{Grammar}
 use Rattle.model.specs.Readings.{Reading}
 use Rattle.model.specs.Query.{Query}
 use Rattle.model.specs.Walk.{walk}
-use Rattle.model.specs.Tree.{Node, opens, isNil, countAt, mayAt, goAt, complete, tree, put, readingAt, start, readings}
+use Rattle.model.specs.Tree.{Node, opens, isNil, alive, countAt, mayAt, goAt, complete, tree, put, readingAt, start, readings}
 use Rattle.model.proofs.Lists.{map-append, map-same}
 use Rattle.model.proofs.Parts.{flatMap-same}
 use Rattle.listing.specs.Gather.{grow, gather, stepsFrom}
@@ -70,10 +70,12 @@ module _ (g : Grammar) (q : Query) where
       ∙ sym (map-flatMap (after n r) lists xs))
       ∙ sym (map-append (after n r) (given (complete g q n) ([] ∷ [])) (flatMap lists xs))
 
-  -- the whole search, from the start with nothing read
-  pub readings-gathered : readings g q ≡ gather g q 56 (start g q) nothing
+  -- the whole search, from the start with nothing read, where no rule fails at the front
+  pub readings-gathered : readings g q ≡ given (alive (g .rules) (g .next) (g .final) (start g q .states)) (gather g q 56 (start g q) nothing)
   unfolding readings
-  readings-gathered = map-same (readingAt g q (start g q)) (after (start g q) nothing) (walk (tree g q) 56 (start g q)) (λ l m. refl) ∙ sym (gather-walk 56 (start g q) nothing)
+  readings-gathered =
+      ap (given (alive (g .rules) (g .next) (g .final) (start g q .states)))
+      (map-same (readingAt g q (start g q)) (after (start g q) nothing) (walk (tree g q) 56 (start g q)) (λ l m. refl) ∙ sym (gather-walk 56 (start g q) nothing))
 
   -- one node's own steps
   abbrev pub branch : ℕ → Node → Reading → Bool → ℕ → List Reading

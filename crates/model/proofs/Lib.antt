@@ -7,6 +7,7 @@ pub mod Levels
 pub mod Steps
 pub mod Completes
 pub mod Listing
+pub mod Front
 pub mod Converse
 pub mod Rest
 pub mod Parts

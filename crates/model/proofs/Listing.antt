@@ -1,25 +1,25 @@
 -- The listing theorem: for every grammar and query, `readings` has only readings that answer the query, has every one of them, and ascends strictly in
 -- step order, so each stands once; and any list with these properties equals it.
 use Prim.Native.Nat.{ℕ, zero, suc, _+_, _<_, _≤_}
-use mathlib.Core.Bool.{Bool, true, false, _&&_, not, true≢false}
+use mathlib.Core.Bool.{Bool, true, false, true≢false}
 use mathlib.Core.Path.{_≡_, refl, sym, ap, _∙_, subst}
 use mathlib.Core.Logic.{_↔_}
-use mathlib.Core.List.{List, [], _∷_, _++_, map, List·Memᴰ, List·Memᴰ·head, List·Memᴰ·tail, Memᴰ·map, Memᴰ·cast}
-use lib.ListN.{length, getD}
+use mathlib.Core.List.{List, [], _∷_, map, List·Memᴰ, List·Memᴰ·head, List·Memᴰ·tail, Memᴰ·map, Memᴰ·cast}
+use lib.ListN.{length}
 use lib.Dec.{T, ltb, leb→le, le→leb}
 use native.Mathlib.Omega.{arith}
-use Rattle.model.specs.Lists.{below, every, joined, sameList, isZero}
+use Rattle.model.specs.Lists.{every, given, joined, sameList}
 use Rattle.model.specs.Grammar.{Grammar}
 use Rattle.model.specs.Lexicon.{linked, pathLength}
-use Rattle.model.specs.Readings.{Reading, nulls, spelled, fewNulls, wordLength, pairingLength, passes, isPath, isLinked, word, isReading, steps, stepList, Ascending}
+use Rattle.model.specs.Readings.{Reading, nulls, spelled, fewNulls, wordLength, pairingLength, passes, isPath, isLinked, word, isReading, steps, Ascending}
 use Rattle.model.specs.Query.{Query, fits, answers}
 use Rattle.model.specs.Walk.{Accepts, walk}
-use Rattle.model.specs.Tree.{Node, opens, alive, countAt, mayAt, goAt, complete, tree, start, put, readingAt, readings}
-use Rattle.model.proofs.Booleans.{and-out, and-in, out8, in8, within-out, within-in, same-out, same-in}
-use Rattle.model.proofs.Lists.{below-from, map-from, every-in, getD-map-below}
+use Rattle.model.specs.Tree.{Node, opens, alive, countAt, mayAt, goAt, tree, start, put, readingAt, readings}
+use Rattle.model.proofs.Booleans.{and-out, and-in, true-of, of-true, out8, in8, within-out, within-in, same-out, same-in}
+use Rattle.model.proofs.Lists.{map-from}
 use Rattle.model.proofs.Order.{Once, ascending-once, ascending-unique}
 use Rattle.model.proofs.Walk.{walk-from, walk-has, walk-ascending}
-use Rattle.model.proofs.Rules.{start-to, start-from}
+use Rattle.model.proofs.Rules.{passes-alive, start-to, start-from}
 use Rattle.model.proofs.Levels.{line-from, line-to}
 use Rattle.model.proofs.Steps.{stepsLeft, steps-zero, steps-enter, steps-pair, steps-none, steps-length, left-length}
 use Rattle.model.proofs.Completes.{Sane, Completes, opens-true, enter-to, enter-from, enter-must, pair-to, pair-from, no-entry, end-to, end-rest, end-from, sane-step}
@@ -105,13 +105,12 @@ module _ (g : Grammar) (q : Query) where
   whole (suc k) n es ps h c = whole-step n (opens n) es ps refl c (λ n′ es′ ps′ e c′. whole k n′ es′ ps′ (omega arith) c′)
 
   -- at the start: what completes it is a reading that answers
-  alive-start : T (alive (g .rules) (g .next) (g .final) (map (λ r. 1) (below (g .rules))))
-  unfolding alive
-  alive-start = every-in (λ r. not (isZero (getD (map (λ r. 1) (below (g .rules))) r 0))) (below (g .rules)) (λ r m. rw (getD-map-below {B = ℕ} (λ r. 1) (g .rules) r 0 (below-from (g .rules) r m)) tt)
+  abbrev starts : Bool
+  starts = alive (g .rules) (g .next) (g .final) (start g q .states)
 
-  sane-start : Sane g (start g q)
+  sane-start : T starts → Sane g (start g q)
   unfolding start
-  sane-start = record { alive-states = alive-start; entries-in = omega arith; pairs-in = omega arith; nulls-in = omega arith; surface-sane = record { letters-in = omega arith; nulls-in = omega arith } }
+  sane-start a = record { alive-states = a; entries-in = omega arith; pairs-in = omega arith; nulls-in = omega arith; surface-sane = record { letters-in = omega arith; nulls-in = omega arith } }
 
   completes-from : (r : Reading) → T (isReading g r) → T (answers g q r) → Completes g q (start g q) (r .path) (r .pairing)
   unfolding isReading isPath passes answers start
@@ -165,34 +164,49 @@ module _ (g : Grammar) (q : Query) where
       )
 
   -- what the walk from the start lists, as readings
-  listed-sound : (l : List ℕ) → List·Memᴰ l (walk (tree g q) 56 (start g q)) → Sound (start g q) l
-  listed-sound l h = sound l (start g q) sane-start (walk-from (tree g q) 56 (start g q) l h)
+  listed-sound : T starts → (l : List ℕ) → List·Memᴰ l (walk (tree g q) 56 (start g q)) → Sound (start g q) l
+  listed-sound a l h = sound l (start g q) (sane-start a) (walk-from (tree g q) 56 (start g q) l h)
 
-  listed-steps : (l : List ℕ) → List·Memᴰ l (walk (tree g q) 56 (start g q)) → steps g (readingAt g q (start g q) l) ≡ l
+  listed-steps : T starts → (l : List ℕ) → List·Memᴰ l (walk (tree g q) 56 (start g q)) → steps g (readingAt g q (start g q) l) ≡ l
   unfolding Sound start
-  listed-steps l h = let r = readingAt g q (start g q) l in sym (steps-zero g (r .path) (r .pairing)) ∙ (listed-sound l h) .1
+  listed-steps a l h = let r = readingAt g q (start g q) l in sym (steps-zero g (r .path) (r .pairing)) ∙ (listed-sound a l h) .1
 
   steps-few : (r : Reading) → Completes g q (start g q) (r .path) (r .pairing) → length (stepsAt (start g q) r) ≤ 56
   unfolding start
   steps-few r c = omega (arith, steps-length g 0 (r .path) (r .pairing), c .entries-in, c .pairs-in)
 
-  pub listing : IsListing g q (readings g q)
-  unfolding readings Sound
-  listing = record { only = only; every-one = every-one; in-order = in-order }
+  -- a reading that answers keeps every rule alive over the first boundary pair
+  start-alive : (r : Reading) → Completes g q (start g q) (r .path) (r .pairing) → T starts
+  start-alive r c = passes-alive (g .rules) (g .next) (g .final) (g .pairs) (start g q .states) (r .pairing) (c .passing)
+
+  abbrev found : List Reading
+  found = map (readingAt g q (start g q)) (walk (tree g q) 56 (start g q))
+
+  guarded : (b : Bool) → starts ≡ b → IsListing g q (given b found)
+  unfolding Sound
+  guarded true e = record { only = only; every-one = every-one; in-order = in-order }
     where
-      only : (r : Reading) → List·Memᴰ r (map (readingAt g q (start g q)) (walk (tree g q) 56 (start g q))) → T (isReading g r) × T (answers g q r)
+      begun : T starts
+      begun = of-true starts e
+
+      only : (r : Reading) → List·Memᴰ r found → T (isReading g r) × T (answers g q r)
       only r h =
           let t = map-from (readingAt g q (start g q)) (walk (tree g q) 56 (start g q)) h in
-          rw (t .2) (completes-to (readingAt g q (start g q) (t .0)) ((listed-sound (t .0) (t .1)) .0))
+          rw (t .2) (completes-to (readingAt g q (start g q) (t .0)) ((listed-sound begun (t .0) (t .1)) .0))
 
-      every-one : (r : Reading) → T (isReading g r) → T (answers g q r) → List·Memᴰ r (map (readingAt g q (start g q)) (walk (tree g q) 56 (start g q)))
+      every-one : (r : Reading) → T (isReading g r) → T (answers g q r) → List·Memᴰ r found
       every-one r t a =
           let c = completes-from r t a in
           let w = whole (length (r .path) + length (r .pairing)) (start g q) (r .path) (r .pairing) refl c in
           Memᴰ·cast (sym (w .1)) (Memᴰ·map (readingAt g q (start g q)) (walk-has (tree g q) 56 (start g q) (stepsAt (start g q) r) (w .0) (steps-few r c)))
 
-      in-order : Ascending (map (steps g) (map (readingAt g q (start g q)) (walk (tree g q) 56 (start g q))))
-      in-order = rw (map-back (steps g) (readingAt g q (start g q)) (walk (tree g q) 56 (start g q)) listed-steps) (walk-ascending (tree g q) 56 (start g q))
+      in-order : Ascending (map (steps g) found)
+      in-order = rw (map-back (steps g) (readingAt g q (start g q)) (walk (tree g q) 56 (start g q)) (listed-steps begun)) (walk-ascending (tree g q) 56 (start g q))
+  guarded false e = record { only = λ r. elim [ ]; every-one = λ r t a. absurd (true≢false (sym (true-of starts (start-alive r (completes-from r t a))) ∙ e)); in-order = tt }
+
+  pub listing : IsListing g q (readings g q)
+  unfolding readings
+  listing = guarded starts refl
 
   -- each once
   pub listing-once : (l : List Reading) → IsListing g q l → Once l

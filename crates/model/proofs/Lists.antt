@@ -77,6 +77,10 @@ module _ {A : Type 0} where
       let v = and-out (h x) (every h xs) t in
       and-in (k x) (every k xs) (i x (List·Memᴰ·head refl) (u .0) (v .0)) (every-both f h k xs (λ y m. i y (List·Memᴰ·tail m)) (u .1) (v .1))
 
+  pub every-same : (f h : A → Bool) (xs : List A) → ((x : A) → List·Memᴰ x xs → f x ≡ h x) → every f xs ≡ every h xs
+  every-same f h [] e = refl
+  every-same f h (x ∷ xs) e = ap₂ (λ (a b : Bool). a && b) (e x (List·Memᴰ·head refl)) (every-same f h xs (λ y m. e y (List·Memᴰ·tail m)))
+
   pub every-at : (f : A → Bool) (xs : List A) {x : A} → List·Memᴰ x xs → T (every f xs) → T (f x)
   every-at f (y ∷ xs) (List·Memᴰ·head e) t = rw e ((and-out (f y) (every f xs) t) .0)
   every-at f (y ∷ xs) (List·Memᴰ·tail m) t = every-at f xs m ((and-out (f y) (every f xs) t) .1)

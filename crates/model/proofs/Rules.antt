@@ -7,9 +7,9 @@ use lib.ListN.{getD}
 use lib.Dec.{T}
 use Rattle.model.specs.Lists.{below, every, isZero}
 use Rattle.model.specs.RuleTables.{accepts, fed}
-use Rattle.model.specs.Tree.{stepAll, alive, finish}
+use Rattle.model.specs.Tree.{stepAll, alive, begun, finish}
 use Rattle.model.proofs.Booleans.{and-out, and-in}
-use Rattle.model.proofs.Lists.{below-from, every-map, every-both, getD-map-below}
+use Rattle.model.proofs.Lists.{below-from, every-in, every-map, every-both, getD-map-below}
 
 -- one rule
 module _ (next : ℕ → ℕ → ℕ) (final : ℕ → Bool) where
@@ -42,19 +42,6 @@ module _ (rules : ℕ) (next : ℕ → ℕ → ℕ → ℕ) (final : ℕ → ℕ
   unfolding stepAll
   stepped-at states p r h = getD-map-below (λ r. next r (getD states r 0) p) rules r 0 h
 
-  -- from the start, every rule is in state 1
-  pub start-to : (ps : List ℕ) → T (every (λ r. accepts (next r) (final r) 1 (fed boundary ps)) (below rules)) → T (passesFrom (map (λ r. 1) (below rules)) ps)
-  unfolding fed
-  start-to ps t =
-      every-map (λ r. accepts (next r) (final r) 1 (toEnd boundary ps)) (λ r. accepts (next r) (final r) (getD (map (λ r. 1) (below rules)) r 0) (toEnd boundary ps)) (below rules)
-      (λ r m. subst (λ (s : ℕ). T (accepts (next r) (final r) s (toEnd boundary ps))) (sym (getD-map-below (λ r. 1) rules r 0 (below-from rules r m)))) t
-
-  pub start-from : (ps : List ℕ) → T (passesFrom (map (λ r. 1) (below rules)) ps) → T (every (λ r. accepts (next r) (final r) 1 (fed boundary ps)) (below rules))
-  unfolding fed
-  start-from ps t =
-      every-map (λ r. accepts (next r) (final r) (getD (map (λ r. 1) (below rules)) r 0) (toEnd boundary ps)) (λ r. accepts (next r) (final r) 1 (toEnd boundary ps)) (below rules)
-      (λ r m. subst (λ (s : ℕ). T (accepts (next r) (final r) s (toEnd boundary ps))) (getD-map-below (λ r. 1) rules r 0 (below-from rules r m))) t
-
   pub passes-alive : (states ps : List ℕ) → T (passesFrom states ps) → T (alive rules next final states)
   unfolding alive
   passes-alive states ps t = every-map (λ r. accepts (next r) (final r) (getD states r 0) (toEnd boundary ps)) (λ r. not (isZero (getD states r 0))) (below rules) (λ r m. accepts-alive (next r) (final r) (getD states r 0) (toEnd boundary ps)) t
@@ -69,6 +56,27 @@ module _ (rules : ℕ) (next : ℕ → ℕ → ℕ → ℕ) (final : ℕ → ℕ
   passes-to p states ps a t =
       every-both (λ r. not (isZero (getD states r 0))) (λ r. accepts (next r) (final r) (getD (stepped states p) r 0) (toEnd boundary ps)) (λ r. accepts (next r) (final r) (getD states r 0) (toEnd boundary (p ∷ ps))) (below rules)
       (λ r m b u. accepts-to (next r) (final r) (getD states r 0) p (toEnd boundary ps) b (rw (stepped-at states p r (below-from rules r m)) at u)) a t
+
+  -- every rule begins in state 1, and the boundary pair comes first
+  abbrev ones : List ℕ
+  ones = map (λ r. 1) (below rules)
+
+  alive-ones : T (alive rules next final ones)
+  unfolding alive
+  alive-ones = every-in (λ r. not (isZero (getD ones r 0))) (below rules) (λ r m. rw (getD-map-below {B = ℕ} (λ r. 1) rules r 0 (below-from rules r m)) tt)
+
+  pub start-to : (ps : List ℕ) → T (every (λ r. accepts (next r) (final r) 1 (fed boundary ps)) (below rules)) → T (passesFrom (begun rules next final boundary) ps)
+  unfolding fed begun
+  start-to ps t =
+      passes-from boundary ones ps
+      (every-map (λ r. accepts (next r) (final r) 1 (toEnd boundary (boundary ∷ ps))) (λ r. accepts (next r) (final r) (getD ones r 0) (toEnd boundary (boundary ∷ ps))) (below rules)
+      (λ r m. subst (λ (s : ℕ). T (accepts (next r) (final r) s (toEnd boundary (boundary ∷ ps)))) (sym (getD-map-below (λ r. 1) rules r 0 (below-from rules r m)))) t)
+
+  pub start-from : (ps : List ℕ) → T (passesFrom (begun rules next final boundary) ps) → T (every (λ r. accepts (next r) (final r) 1 (fed boundary ps)) (below rules))
+  unfolding fed begun
+  start-from ps t =
+      every-map (λ r. accepts (next r) (final r) (getD ones r 0) (toEnd boundary (boundary ∷ ps))) (λ r. accepts (next r) (final r) 1 (toEnd boundary (boundary ∷ ps))) (below rules)
+      (λ r m. subst (λ (s : ℕ). T (accepts (next r) (final r) s (toEnd boundary (boundary ∷ ps)))) (getD-map-below (λ r. 1) rules r 0 (below-from rules r m))) (passes-to boundary ones ps alive-ones t)
 
   pub finish-from : (states : List ℕ) → T (passesFrom states []) → T (finish rules next final states boundary)
   unfolding finish accepts

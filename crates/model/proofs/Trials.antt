@@ -1,4 +1,4 @@
--- The starred trials of document 01, computed from the definitions.
+-- The starred trials of document 01, and those of document 02, computed from the definitions.
 use mathlib.Core.Path.{refl}
 use Rattle.model.specs.Trials.{Starred}
 use Rattle.model.proofs.Computed.{computed}
@@ -27,4 +27,15 @@ starred =
       tt-before-i = refl;
       tc-alone = refl;
       tt-alone = refl;
+      front-accepted = refl;
+      front-s = refl;
+      front-ts = refl;
+      front-s-none = refl;
+      front-ts-readings = refl;
+      front-path-s = refl;
+      front-path-ts = refl;
+      dead-accepted = refl;
+      dead-analysed = refl;
+      dead-generated = refl;
+      dead-judged = refl;
     }

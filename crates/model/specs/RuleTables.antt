@@ -112,9 +112,10 @@ module _ (ps : List Sides) (t : List ℕ) where
 unfoldable pub columnsOf : List ℕ → ℕ → List ℕ
 columnsOf image r = let ps = pairsAndBoundary image in map (columnFor ps (table image r)) ps
 
--- "A pairing passes when every rule, fed its pairs and then the boundary pair, never reaches 0 and ends in a final state."
+-- "A pairing passes when every rule, fed its pairs and then the boundary pair, never reaches 0 and ends in a final state." And document 02, (a): "The
+-- boundary pair is now fed to every rule before the first pair too."
 unfoldable pub fed : ℕ → List ℕ → List ℕ
-fed boundary ps = ps ++ (boundary ∷ [])
+fed boundary ps = boundary ∷ (ps ++ (boundary ∷ []))
 
 -- a rule in state s, by its next states and its final states
 module _ (next : ℕ → ℕ → ℕ) (final : ℕ → Bool) where

@@ -57,3 +57,15 @@ unfoldable pub tcImage : List ℕ
 tcImage =
     tcWith (2 ∷ 3 ∷ 2 ∷ 2 ∷ 4 ∷ 4 ∷ 5 ∷ 5 ∷ [])
     (4 ∷ 3 ∷ 2 ∷ 3 ∷ 2 ∷ 255 ∷ 4 ∷ 255 ∷ 255 ∷ 255 ∷ 1 ∷ 1 ∷ 0 ∷ 3 ∷ 2 ∷ 1 ∷ 1 ∷ 3 ∷ 2 ∷ 0 ∷ 1 ∷ 0 ∷ 0 ∷ 1 ∷ 0 ∷ [])
+
+-- letters # s t, pairs s:s and t:t, and two entries, s and ts
+unfoldable pub frontWith : List ℕ → List ℕ
+frontWith table = imageOf (35 ∷ 115 ∷ 116 ∷ []) (2 ∷ 2 ∷ 3 ∷ 3 ∷ []) table ((entryBytes (2 ∷ []) 255 0 ∷ entryBytes (3 ∷ 2 ∷ []) 255 1 ∷ []) ∷ [])
+
+-- document 02, (a): "a rule that forbids s:s directly after the boundary". Columns #:#, s:s, any:any; rows 1: 2 1 1; 2: 2 0 1; both final.
+unfoldable pub frontImage : List ℕ
+frontImage = frontWith (3 ∷ 2 ∷ 1 ∷ 1 ∷ 2 ∷ 2 ∷ 255 ∷ 255 ∷ 1 ∷ 1 ∷ 2 ∷ 1 ∷ 1 ∷ 2 ∷ 0 ∷ 1 ∷ [])
+
+-- a rule that fails on the boundary at the front, and would let every end pass. Columns #:#, any:any; rows 1: 0 2; 2: 2 2; both final.
+unfoldable pub deadImage : List ℕ
+deadImage = frontWith (2 ∷ 2 ∷ 1 ∷ 1 ∷ 255 ∷ 255 ∷ 1 ∷ 1 ∷ 0 ∷ 2 ∷ 2 ∷ 2 ∷ [])

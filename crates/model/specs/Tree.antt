@@ -5,7 +5,7 @@ use mathlib.Core.Bool.{Bool, true, false, _&&_, not}
 use mathlib.Core.List.{List, [], _∷_, map}
 use lib.ListN.{getD}
 use lib.Dec.{leb, ltb, eqb}
-use Rattle.model.specs.Lists.{below, every, isZero}
+use Rattle.model.specs.Lists.{below, every, given, isZero}
 use Rattle.model.specs.Grammar.{Grammar}
 use Rattle.model.specs.Readings.{Reading}
 use Rattle.model.specs.Query.{Pattern, Query}
@@ -77,6 +77,10 @@ module _ (rules : ℕ) (next : ℕ → ℕ → ℕ → ℕ) (final : ℕ → ℕ
   unfoldable pub alive : List ℕ → Bool
   alive states = every (λ r. not (isZero (getD states r 0))) (below rules)
 
+  -- "The start is state 1", and the boundary pair comes first
+  unfoldable pub begun : ℕ → List ℕ
+  begun boundary = stepAll (map (λ r. 1) (below rules)) boundary
+
   -- by the boundary pair to a final state
   unfoldable pub finish : List ℕ → ℕ → Bool
   finish states boundary = every (λ r. let s = next r (getD states r 0) boundary in not (isZero s) && final r s) (below rules)
@@ -112,7 +116,7 @@ module _ (g : Grammar) (q : Query) where
   tree = record { count = λ n. countAt (opens n) n; may = λ n. mayAt (opens n) n; go = λ n. goAt (opens n) n; ends = complete }
 
   unfoldable pub start : Node
-  start = record { rest = []; ways = g .begins; ended = false; entries = 0; pairs = 0; nulls = 0; surface = record { letters = 0; nulls = 0 }; states = map (λ r. 1) (below (g .rules)) }
+  start = record { rest = []; ways = g .begins; ended = false; entries = 0; pairs = 0; nulls = 0; surface = record { letters = 0; nulls = 0 }; states = begun (g .rules) (g .next) (g .final) (g .pairs) }
 
   -- a step list's entries and pairs
   abbrev pub put : Bool → ℕ → Reading → Reading
@@ -123,6 +127,6 @@ module _ (g : Grammar) (q : Query) where
   readingAt n [] = record { path = []; pairing = [] }
   readingAt n (x ∷ l) = put (opens n) x (readingAt (goAt (opens n) n x) l)
 
-  -- "the list of all readings (each once, in step order)": of at most 16 entries and 40 pairs, so 56 steps
+  -- "the list of all readings (each once, in step order)": of at most 16 entries and 40 pairs, so 56 steps; none where a rule fails at the front
   unfoldable pub readings : List Reading
-  readings = map (readingAt start) (walk tree 56 start)
+  readings = given (alive (g .rules) (g .next) (g .final) (start .states)) (map (readingAt start) (walk tree 56 start))

@@ -1,4 +1,5 @@
--- Document 01, "The luz grammar and other trials": the starred trials, as rows of one theorem. Its proof is `starred` in proofs/Trials.antt.
+-- Document 01, "The luz grammar and other trials": the starred trials, and those of document 02, as rows of one theorem. Its proof is `starred` in
+-- proofs/Trials.antt.
 use Prim.Native.Nat.{ℕ, _*_}
 use mathlib.Core.Bool.{Bool, true, false}
 use mathlib.Core.Path.{_≡_}
@@ -11,7 +12,8 @@ use Rattle.model.specs.Query.{analysis, generation}
 use Rattle.model.specs.Refusals.{Verdict, imageVerdict}
 use Rattle.model.specs.Rows.{Reply, replyNumber}
 use Rattle.model.specs.Calls.{allReadings, listingReply, afterListing}
-use Rattle.model.specs.Samples.{luzImage, tcImage}
+use Rattle.model.specs.Beside.{Judgement, judged}
+use Rattle.model.specs.Samples.{luzImage, tcImage, frontImage, deadImage}
 
 abbrev pub luz : List ℕ
 luz = 5 ∷ 7 ∷ 8 ∷ []
@@ -68,3 +70,16 @@ pub record Starred : Type 0 where
   pub tt-before-i : passes (grammarOf tcImage) (1 ∷ 2 ∷ []) ≡ false
   pub tc-alone : passes (grammarOf tcImage) (0 ∷ []) ≡ false
   pub tt-alone : passes (grammarOf tcImage) (1 ∷ []) ≡ true
+  -- document 02, (a): "A new trial has a rule that forbids s:s directly after the boundary."
+  pub front-accepted : imageVerdict frontImage ≡ Verdict.accepted
+  pub front-s : passes (grammarOf frontImage) (0 ∷ []) ≡ false
+  pub front-ts : passes (grammarOf frontImage) (1 ∷ 0 ∷ []) ≡ true
+  pub front-s-none : listingReply frontImage (analysis (2 ∷ [])) 64 ≡ Reply.none
+  pub front-ts-readings : allReadings frontImage (analysis (3 ∷ 2 ∷ [])) ≡ reading (1 ∷ []) (1 ∷ 0 ∷ []) ∷ []
+  pub front-path-s : listingReply frontImage (generation (0 ∷ 0 ∷ [])) 64 ≡ Reply.none
+  pub front-path-ts : listingReply frontImage (generation (1 ∷ 0 ∷ [])) 64 ≡ Reply.all 1
+  -- a rule that is dead at the front leaves no reading, and refuses nothing
+  pub dead-accepted : imageVerdict deadImage ≡ Verdict.accepted
+  pub dead-analysed : listingReply deadImage (analysis (3 ∷ 2 ∷ [])) 64 ≡ Reply.none
+  pub dead-generated : listingReply deadImage (generation (1 ∷ 0 ∷ [])) 64 ≡ Reply.none
+  pub dead-judged : judged deadImage (1 ∷ 0 ∷ []) (1 ∷ 0 ∷ []) ≡ Judgement.fails

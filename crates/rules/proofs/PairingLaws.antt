@@ -5,10 +5,10 @@ use native.Mathlib.Decide.{decLt}
 use mathlib.Core.Bool.{Bool, true, false, _&&_}
 use mathlib.Core.Path.{_≡_, refl, sym, ap, _∙_, subst}
 use mathlib.Core.List.{List, [], _∷_, map}
-use lib.ListN.{length, getD, take, drop, replicate, length-map, drop-of-length-le, List·getD-eq-default}
+use lib.ListN.{length, getD, take, drop, length-map, drop-of-length-le, List·getD-eq-default}
 use lib.Dec.{T, leb, ltb, eqb, ltb→lt, leb→le}
 use borrow.Author.Tests.{ne-eqb, eqb-true}
-use Rattle.model.specs.Lists.{below, every, sameList}
+use Rattle.model.specs.Lists.{every, sameList}
 use Rattle.model.specs.Blocks.{header}
 use Rattle.model.specs.RuleTables.{pairs, boundaryPair}
 use Rattle.model.specs.GrammarOf.{grammarOf}
@@ -18,10 +18,9 @@ use Rattle.model.proofs.Rest.{drop-step, every-getD}
 use Rattle.model.proofs.Rules.{passesFrom, start-to, start-from, passes-alive, passes-from, passes-to, finish-from, finish-to}
 use Rattle.image.specs.Accepted.{Accepted}
 use Rattle.lexicon.proofs.Laws.{within-below, within-above, within-true}
-use Rattle.rules.specs.Live.{Live, StepOf, stepOf, finishOf}
+use Rattle.rules.specs.Live.{Live, StepOf, BegunOf, stepOf, begunOf, finishOf}
 use Rattle.rules.specs.Judge.{Listed}
-use Rattle.rules.proofs.Laws.{grammar-rules}
-use Rattle.rules.proofs.Stepping.{start-states, live-alive}
+use Rattle.rules.proofs.Stepping.{live-alive}
 
 pub same-tests : (a b : Bool) → (T a → T b) → (T b → T a) → a ≡ b
 same-tests true b f g = sym (true-of b (f tt))
@@ -158,15 +157,26 @@ module _ (side : ℕ → ℕ) (ps asked : List ℕ) (i t : ℕ) where
 abbrev pub passesIn : List ℕ → List ℕ → List ℕ → Bool
 passesIn image states ps = passesFrom (grammarOf image .rules) (grammarOf image .next) (grammarOf image .final) (grammarOf image .pairs) (take (grammarOf image .rules) states) ps
 
+-- the whole pairing, by the states after the front
+module _ {image states : List ℕ} (ps : List ℕ) where
+  pub pass-begun : BegunOf image true states → passesIn image states ps ≡ passes (grammarOf image) ps
+  unfolding passes
+  pass-begun front =
+      let g = grammarOf image in
+      ap (λ (l : List ℕ). passesFrom (g .rules) (g .next) (g .final) (g .pairs) l ps) (front .states-are refl)
+      ∙ same-tests (passesFrom (g .rules) (g .next) (g .final) (g .pairs) (begunOf g) ps) (passes g ps) (start-from (g .rules) (g .next) (g .final) (g .pairs) ps) (start-to (g .rules) (g .next) (g .final) (g .pairs) ps)
+
+  -- a rule has failed there
+  pub pass-dead : BegunOf image false states → passes (grammarOf image) ps ≡ false
+  unfolding passes
+  pass-dead front =
+      let g = grammarOf image in
+      same-tests (passes g ps) false
+      (λ t. subst T (sym (front .alive-is)) (passes-alive (g .rules) (g .next) (g .final) (g .pairs) (begunOf g) ps (start-to (g .rules) (g .next) (g .final) (g .pairs) ps t)))
+      (λ t. absurd t)
+
 -- the rules' states over a pairing
 module _ {image : List ℕ} (ok : Accepted image (header image)) where
-  pub pass-start : (ps : List ℕ) → passesIn image (replicate 32 1) ps ≡ passes (grammarOf image) ps
-  unfolding passes
-  pass-start ps =
-      let g = grammarOf image in
-      ap (λ (l : List ℕ). passesFrom (g .rules) (g .next) (g .final) (g .pairs) l ps) (start-states (g .rules) (omega (arith, grammar-rules image, ok .laid .limits .rules-most)))
-      ∙ same-tests (passesFrom (g .rules) (g .next) (g .final) (g .pairs) (map (λ r. 1) (below (g .rules))) ps) (passes g ps) (start-from (g .rules) (g .next) (g .final) (g .pairs) ps) (start-to (g .rules) (g .next) (g .final) (g .pairs) ps)
-
   module _ (states ps : List ℕ) (i : ℕ) where
     pub pass-end : Live image states → length ps ≤ i → passesIn image states (drop i ps) ≡ finishOf (grammarOf image) states
     pass-end live h =

@@ -4,7 +4,7 @@ use native.Mathlib.Omega.{arith}
 use native.Mathlib.Decide.{ℕ-discrete}
 use mathlib.Core.Bool.{Bool, true, false, _&&_, not}
 use mathlib.Core.Path.{_≡_, refl, sym, ap, ap₂, _∙_}
-use mathlib.Core.List.{List, [], _∷_, map, List·Memᴰ, List·Memᴰ·head, List·Memᴰ·tail}
+use mathlib.Core.List.{List, map}
 use lib.ListN.{length, getD, take, set, replicate, length-take, length-set, length-replicate, getD-replicate}
 use lib.Seq.{getD-take, getD-set-same, getD-set-other, ext-getD}
 use lib.Dec.{T, eqb}
@@ -13,13 +13,13 @@ use Rattle.model.specs.Lists.{below, every, isZero, byte}
 use Rattle.model.specs.Blocks.{header}
 use Rattle.model.specs.RuleTables.{table, columnCount, stateCount, rowsAt, isFinal, columnsOf}
 use Rattle.model.specs.GrammarOf.{grammarOf}
-use Rattle.model.specs.Tree.{stepAll, alive, finish}
+use Rattle.model.specs.Tree.{stepAll, alive, begun, finish}
 use Rattle.model.proofs.Booleans.{of-true, true-of}
-use Rattle.model.proofs.Lists.{length-map-below, getD-map-below, every-in, every-fails, below-from}
+use Rattle.model.proofs.Lists.{length-map-below, getD-map-below, every-in, every-same, every-fails, below-from}
 use Rattle.model.proofs.Blocks.{block-byte}
 use Rattle.image.specs.Accepted.{Accepted}
 use Rattle.image.specs.Index.{indexOf}
-use Rattle.rules.specs.Live.{Live, StepOf, stepOf, aliveOf, finishOf, endsFinal}
+use Rattle.rules.specs.Live.{Live, StepOf, stepOf, begunOf, aliveOf, finishOf, endsFinal}
 use Rattle.tables.proofs.Laws.{columns-most, states-least, states-most}
 use Rattle.rules.proofs.Laws.{grammar-rules, grammar-pairs, table-inside, table-ok, next-byte, next-within, column-byte, grammar-final}
 
@@ -93,10 +93,6 @@ module _ (image : List ℕ) (r s p last : ℕ) (e : last ≡ grammarOf image .ne
 abbrev pub endsAll : List ℕ → List ℕ → ℕ → ℕ → Bool
 endsAll image states boundary r = endsFinal (grammarOf image) r (getD states r 0) boundary
 
-every-same : (f h : ℕ → Bool) (xs : List ℕ) → ((x : ℕ) → List·Memᴰ x xs → f x ≡ h x) → every f xs ≡ every h xs
-every-same f h [] e = refl
-every-same f h (x ∷ xs) e = ap₂ (λ (a b : Bool). a && b) (e x (List·Memᴰ·head refl)) (every-same f h xs (λ y m. e y (List·Memᴰ·tail m)))
-
 -- after rules 0 to k - 1 have taken pair p
 pub record RulesTook (image states : List ℕ) (p k : ℕ) (after : List ℕ) : Type 0 where
   pub size : length after ≡ length states
@@ -161,7 +157,7 @@ module _ (image : List ℕ) where
       (λ r m. rw (counted states r (omega (arith, grammar-rules image, below-from (grammarOf image .rules) r m))) refl)
 
 -- all rules in state 1, of which the first n count
-pub start-states : (n : ℕ) → n ≤ 32 → _≡_ {A = List ℕ} (take n (replicate 32 1)) (map (λ r. 1) (below n))
+start-states : (n : ℕ) → n ≤ 32 → _≡_ {A = List ℕ} (take n (replicate 32 1)) (map (λ r. 1) (below n))
 start-states n h =
     let l = length-take {A = ℕ} n (replicate 32 1) in
     let m = length-map-below {B = ℕ} (λ r. 1) n in
@@ -191,6 +187,13 @@ module _ {image : List ℕ} (ok : Accepted image (header image)) where
   start-live r h =
       let e = getD-replicate {A = ℕ} 32 r 1 0 (omega (arith, ok .laid .limits .rules-most)) in
       (omega (arith, e), omega (arith, e, states-least _ _ (table-ok ok r h)))
+
+  -- from state 1, by the boundary pair
+  pub begun-is : (p : ℕ) → p ≡ header image .pairs → stepOf (grammarOf image) (replicate 32 1) p ≡ begunOf (grammarOf image)
+  unfolding begun
+  begun-is p e =
+      let g = grammarOf image in
+      ap₂ (stepAll (g .rules) (g .next) (g .final)) (start-states (g .rules) (omega (arith, grammar-rules image, ok .laid .limits .rules-most))) (e ∙ sym (grammar-pairs image))
 
   -- rules in states that their tables have are alive
   pub live-alive : (states : List ℕ) → Live image states → T (aliveOf (grammarOf image) (take (grammarOf image .rules) states))

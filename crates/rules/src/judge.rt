@@ -96,7 +96,7 @@ fn surface_nulls(image: &[u8], pairing: &[u8]) -> usize
     count
 }
 
-// Whether every rule, fed the pairs and then the boundary pair, never reaches 0 and ends in a final state.
+// Whether every rule, fed the boundary pair, the pairs and the boundary pair again, never reaches 0 and ends in a final state.
 fn pairing_passes(image: &[u8], index: &[u8], h: Header, pairing: &[u8]) -> bool
     requires { ⌜ Accepted (now image) (headerOf h) ⌝ }
     requires { ⌜ now index ≡ indexOf (now image) ⌝ }
@@ -104,7 +104,11 @@ fn pairing_passes(image: &[u8], index: &[u8], h: Header, pairing: &[u8]) -> bool
     ensures { λ r. ⌜ r ≡ passes (grammarOf (now (image .entry))) (now (pairing .entry)) ⌝ }
 {
     let n = pairing.len();
-    let mut states = crate::states::start_states();
+    let begun = crate::states::begin_all(image, index, h);
+    if !begun.alive {
+        return false;
+    }
+    let mut states = begun.states;
     let mut i: usize = 0;
     while i < n {
         let p = image::byte_at(pairing, i);

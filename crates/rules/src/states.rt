@@ -1,14 +1,13 @@
-// All rules of an accepted image side by side: each holds one state, and the pairs are fed to all of them.
+// All rules of an accepted image side by side: each holds one state, and the pairs are fed to all of them, the boundary pair first and last.
 ghost use mathlib.Core.Path.{_≡_};
 ghost use Prim.Native.Nat.{_<_, _≤_};
-ghost use lib.ListN.{replicate};
 ghost use Rattle.model.specs.Blocks.{header};
 ghost use Rattle.model.specs.RuleTables.{table, stateCount};
 ghost use Rattle.model.specs.GrammarOf.{grammarOf};
 ghost use Rattle.image.specs.Header.{headerOf};
 ghost use Rattle.image.specs.Accepted.{Accepted};
 ghost use Rattle.image.specs.Index.{indexOf};
-ghost use Rattle.rules.specs.Live.{Live, StepOf, finishOf, endsFinal};
+ghost use Rattle.rules.specs.Live.{Live, StepOf, BegunOf, finishOf, endsFinal};
 use image::Header;
 
 // The state that rule r goes to from state s by pair p. The index has the column.
@@ -99,9 +98,12 @@ pub fn finish_all(image: &[u8], index: &[u8], h: Header, states: [u8; 32]) -> bo
     true
 }
 
-// Every rule starts in state 1; there is room for 32 rules.
-pub fn start_states() -> [u8; 32]
-    ensures { λ s. ⌜ s ≡ replicate 32 1 ⌝ }
+// The boundary pair before the first pair, from state 1; there is room for 32 rules.
+pub fn begin_all(image: &[u8], index: &[u8], h: Header) -> Stepped
+    requires { ⌜ Accepted (now image) (headerOf h) ⌝ }
+    requires { ⌜ now index ≡ indexOf (now image) ⌝ }
+    ensures { λ n. ⌜ BegunOf (now (image .entry)) (n .alive) (n .states) ⌝ }
 {
-    [1; 32]
+    let start = [1u8; 32];
+    step_all(image, index, h, start, h.pairs)
 }

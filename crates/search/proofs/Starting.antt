@@ -1,11 +1,11 @@
--- The search begins at the root of the model's tree, with nothing read.
+-- The search begins at the root of the model's tree, with nothing read, where no rule fails at the front.
 use Prim.Native.Nat.{ℕ}
 use native.Mathlib.Omega.{arith}
-use mathlib.Core.Bool.{false}
+use mathlib.Core.Bool.{Bool, true, false}
 use mathlib.Core.Logic.{inl}
 use mathlib.Core.Path.{_≡_, refl, sym, ap, ap₂, _∙_, subst}
 use mathlib.Core.List.{List, []}
-use lib.ListN.{take, replicate}
+use Rattle.model.specs.Lists.{given}
 use Rattle.model.specs.Blocks.{Header, header}
 use Rattle.model.specs.Lexicon.{inLexicon}
 use Rattle.model.specs.GrammarOf.{grammarOf}
@@ -15,7 +15,7 @@ use Rattle.model.specs.Tree.{Node, start}
 use Rattle.model.specs.Calls.{allReadings}
 use Rattle.image.specs.Accepted.{Accepted}
 use Rattle.image.specs.Index.{indexOf}
-use Rattle.rules.proofs.Stepping.{start-states, start-live}
+use Rattle.rules.specs.Live.{BegunOf}
 use Rattle.rows.specs.declared.Trail.{Trail}
 use Rattle.rows.specs.Trail.{Holds}
 use Rattle.listing.specs.declared.place.Place.{Place}
@@ -29,7 +29,19 @@ use Rattle.search.specs.Here.{Underway}
 abbrev pub root : List ℕ → Place
 root states = record { from = 0; to = 0; onward = 0; nulls = 0; surface = record { letters = 0; nulls = 0 }; states = states }
 
-module _ {image index : List ℕ} {h : Header} {states : List ℕ} {trail : Trail} (ok : Accepted image h) (indexed : index ≡ indexOf image) (ones : states ≡ replicate 32 1) (holds : Holds trail (record { path = []; pairing = [] }) 0 0) where
+-- the readings, by whether all rules are alive after the front
+module _ (image : List ℕ) (request : Request) {lives : Bool} {states : List ℕ} (front : BegunOf image lives states) where
+  front-readings : allReadings image request ≡ given lives (gather (grammarOf image) (queryOf request) 56 (start (grammarOf image) (queryOf request)) (record { path = []; pairing = [] }))
+  unfolding allReadings start
+  front-readings =
+      let g = grammarOf image in
+      let q = queryOf request in
+      readings-gathered g q ∙ ap (λ (b : Bool). given b (gather g q 56 (start g q) (record { path = []; pairing = [] }))) (sym (front .alive-is))
+
+pub dead-found : (image : List ℕ) (request : Request) (states : List ℕ) → BegunOf image false states → allReadings image request ≡ []
+dead-found image request states front = front-readings image request front
+
+module _ {image index : List ℕ} {h : Header} {states : List ℕ} {trail : Trail} (ok : Accepted image h) (indexed : index ≡ indexOf image) (front : BegunOf image true states) (holds : Holds trail (record { path = []; pairing = [] }) 0 0) where
   here : Accepted image (header image)
   here = subst (Accepted image) (ok .laid .header-is) ok
 
@@ -44,7 +56,7 @@ module _ {image index : List ℕ} {h : Header} {states : List ℕ} {trail : Trai
       onward-right = inl (omega (arith, here .laid .limits .lexicons-least));
       nulls-in = omega arith;
       surface-in = record { letters-in = omega arith; nulls-in = omega arith };
-      states-live = rw ones (start-live here);
+      states-live = front .live refl;
     };
     short = holds .short;
   }
@@ -59,7 +71,7 @@ module _ {image index : List ℕ} {h : Header} {states : List ℕ} {trail : Trai
     pairs = 0;
     nulls = 0;
     surface = record { letters = 0; nulls = 0 };
-    states = (ap (take (header image .rules)) ones ∙ start-states (header image .rules) (here .laid .limits .rules-most)) i;
+    states = front .states-are refl i;
   }
 
   root-steps : (request : Request) → stepsFrom (start (grammarOf image) (queryOf request)) ≡ 56
@@ -67,11 +79,11 @@ module _ {image index : List ℕ} {h : Header} {states : List ℕ} {trail : Trai
   root-steps request = refl
 
   pub start-found : (request : Request) → foundAt image (queryOf request) (root states) trail ≡ allReadings image request
-  unfolding foundAt allReadings
+  unfolding foundAt
   start-found request =
       let g = grammarOf image in
       let q = queryOf request in
       let e : nodeAt image (root states) trail ≡ start g q = ap₂ (nodeOf image (root states)) (holds .entries-are) (holds .pairs-are) ∙ root-node request in
       ap₂ (λ (n : Node) (r : Reading). gather g q (stepsFrom n) n r) e (holds .reading)
       ∙ ap (λ (k : ℕ). gather g q k (start g q) (record { path = []; pairing = [] })) (root-steps request)
-      ∙ sym (readings-gathered g q)
+      ∙ sym (front-readings image request front)

@@ -133,7 +133,7 @@ pub fn pair(
     n
 }
 
-// All readings, from the first lexicon on.
+// All readings, from the first lexicon on, with the states that the rules come to at the front; none where one fails there.
 pub fn search(
     image: &[u8],
     index: &[u8],
@@ -147,11 +147,16 @@ pub fn search(
     ensures { λ r. ⌜ (now (out .exit), r) ≡ putAll (rowCount (now (out .entry))) (now (out .entry), 0) (allReadings (now (image .entry)) (requestOf d (now (asked .entry)))) ⌝ }
 {
     let capacity = out.len() / 116;
+    let begun = rules::states::begin_all(image, index, h);
+    let alive = begun.alive;
+    if !alive {
+        return 0;
+    }
+    let states = begun.states;
     let surface = Level {
         letters: 0,
         nulls: 0,
     };
-    let states = rules::states::start_states();
     let place = Place {
         from: 0,
         to: 0,

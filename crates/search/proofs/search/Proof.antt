@@ -1,17 +1,43 @@
--- `search` meets its contract: from the root, all readings.
+-- `search` meets its contract: from the root, all readings; none where a rule fails at the front.
 use borrow.Author.Needs.{needs}
+use borrow.Author.Tests.{not-true, not-false}
 use native.Mathlib.Omega.{arith}
-use mathlib.Core.Path.{refl, ap, _∙_}
+use mathlib.Core.Bool.{Bool, true, false}
+use mathlib.Core.Path.{_≡_, refl, sym, ap, _∙_, subst}
 use Rattle.model.specs.Rows.{rowCount}
+use Rattle.rules.specs.Live.{BegunOf}
 use Rattle.rows.specs.Fill.{putAll}
 use Rattle.listing.specs.Asked.{requestOf}
 use Rattle.search.specs.Here.{opensAt}
-use Rattle.search.proofs.Starting.{start-underway, start-found}
+use Rattle.search.proofs.Starting.{start-underway, start-found, dead-found}
 use Rattle.search.proofs.search.Statement.{statement}
 use Rattle.search.proofs.search.Tie as tie
 
-start-states-requires : tie.Need-start-states-requires
-start-states-requires c κs = search needs
+-- the front
+module _ (c : tie.After-begin-all) where
+  abbrev start : tie.Start
+  start = c .before .before .before .before .before
+
+  front : (b : Bool) → c .begin-all .result .alive ≡ b → BegunOf (start .args .image .now) b (c .begin-all .result .states)
+  front b e = subst (λ (b : Bool). BegunOf (start .args .image .now) b (c .begin-all .result .states)) e (c .begin-all .ensures)
+
+-- the empty trail, and the root that stands beside it
+module _ (c : tie.After-no-trail) where
+  abbrev beginning : tie.After-begin-all
+  beginning = c .before .before .before
+
+  begun : BegunOf (start beginning .args .image .now) true (beginning .begin-all .result .states)
+  begun = front beginning true (not-false (beginning .begin-all .result .alive) (c .before .before .if1 .left))
+
+begin-all-requires : tie.Need-begin-all-requires
+begin-all-requires c κs = search needs
+
+returns : tie.Need-returns
+unfolding putAll
+returns c =
+    let d = c .before in
+    let a = start d .args in
+    sym (ap (putAll (rowCount (a .out .now)) (a .out .now, 0)) (dead-found (a .image .now) (requestOf (a .d) (a .asked .now)) (d .begin-all .result .states) (front d false (not-true (d .begin-all .result .alive) (c .if1 .taken)))))
 
 no-trail-requires : tie.Need-no-trail-requires
 no-trail-requires c κs = search needs
@@ -19,19 +45,20 @@ no-trail-requires c κs = search needs
 open-requires : tie.Need-open-requires
 unfolding opensAt
 open-requires c κs =
-    let s = c .before .before .before .before .before .before .before in
-    (start-underway (s .pre .0) (s .pre .1) (c .before .before .start-states .ensures) (c .before .no-trail .ensures), (refl, (refl, omega arith)))
+    let t = c .before in
+    let s = start (beginning t) in
+    (start-underway (s .pre .0) (s .pre .1) (begun t) (t .no-trail .ensures), (refl, (refl, omega arith)))
 
 same-length : tie.Need-same-length
 same-length c = search needs
 
-returns : tie.Need-returns
-returns c =
-    let w = c .before .before .before .before in
-    let s = w .before .before .before .before .before .before in
+returns-2 : tie.Need-returns-2
+returns-2 c =
+    let t = c .before .before .before .before in
+    let s = start (beginning t) in
     let a = s .args in
     c .before .before .«open» .ensures
-    ∙ ap (putAll (rowCount (a .out .now)) (a .out .now, 0)) (start-found (s .pre .0) (s .pre .1) (w .before .start-states .ensures) (w .no-trail .ensures) (requestOf (a .d) (a .asked .now)))
+    ∙ ap (putAll (rowCount (a .out .now)) (a .out .now, 0)) (start-found (s .pre .0) (s .pre .1) (begun t) (t .no-trail .ensures) (requestOf (a .d) (a .asked .now)))
 
 pub search-spec : {M : Type 1} → statement M
-search-spec = tie.close (tie.spec start-states-requires no-trail-requires open-requires same-length returns)
+search-spec = tie.close (tie.spec begin-all-requires returns no-trail-requires open-requires same-length returns-2)

@@ -3,17 +3,15 @@ use borrow.Author.Needs.{needs}
 use borrow.Author.Tests.{not-true, not-false}
 use native.Mathlib.Omega.{arith}
 use mathlib.Core.Bool.{Bool, true, false}
-use mathlib.Core.List.{List}
-use mathlib.Core.Path.{_≡_, refl, sym, ap, _∙_, subst}
-use Prim.Native.Nat.{ℕ, _-_, _≤_}
+use mathlib.Core.Path.{_≡_, refl, sym, _∙_, subst}
+use Prim.Native.Nat.{_-_, _≤_}
 use lib.ListN.{drop}
 use Rattle.model.specs.GrammarOf.{grammarOf}
 use Rattle.model.specs.Readings.{passes}
-use Rattle.rules.specs.Live.{Live, StepOf}
+use Rattle.rules.specs.Live.{Live, StepOf, BegunOf}
 use Rattle.rules.proofs.Laws.{accepted-here}
 use Rattle.letters.proofs.Laws.{laid-pairs}
-use Rattle.rules.proofs.Stepping.{start-live}
-use Rattle.rules.proofs.PairingLaws.{listed-at, passesIn, pass-start, pass-end, pass-on, pass-fails}
+use Rattle.rules.proofs.PairingLaws.{listed-at, passesIn, pass-begun, pass-dead, pass-end, pass-on, pass-fails}
 use Rattle.rules.proofs.judge.pairing_passes.Statement.{statement}
 use Rattle.rules.proofs.judge.pairing_passes.Tie as tie
 
@@ -23,42 +21,58 @@ Inv-loop image index h pairing n states₀ i₀ states i = (i ≤ n) × (Live im
 abbrev μ-loop : tie.MeasureT-loop
 μ-loop image index h pairing n states₀ i₀ states i = n - i
 
+-- the front
+module _ (c : tie.After-begin-all Inv-loop μ-loop) where
+  abbrev entered : tie.Start Inv-loop μ-loop
+  entered = c .before .before .before .before
+
+  front : (b : Bool) → c .begin-all .result .alive ≡ b → BegunOf (entered .args .image .now) b (c .begin-all .result .states)
+  front b e = subst (λ (b : Bool). BegunOf (entered .args .image .now) b (c .begin-all .result .states)) e (c .begin-all .ensures)
+
+-- the loop, and where it was entered
+module _ (at : tie.At-loop Inv-loop μ-loop) where
+  abbrev start : tie.Start Inv-loop μ-loop
+  start = entered (at .before .before .before .before)
+
 -- the pair that is fed to all rules
 module _ (c : tie.After-step-all Inv-loop μ-loop) where
   abbrev at : tie.At-loop Inv-loop μ-loop
   at = c .before .before .before
 
-  abbrev start : tie.Start Inv-loop μ-loop
-  start = at .before .before .before .before .before
+  step : (b : Bool) → c .step-all .result .alive ≡ b → StepOf (start at .args .image .now) (at .loop .states) (c .before .byte-at .result) b (c .step-all .result .states)
+  step b e = subst (λ (b : Bool). StepOf (start at .args .image .now) (at .loop .states) (c .before .byte-at .result) b (c .step-all .result .states)) e (c .step-all .ensures)
 
-  step : (b : Bool) → c .step-all .result .alive ≡ b → StepOf (start .args .image .now) (at .loop .states) (c .before .byte-at .result) b (c .step-all .result .states)
-  step b e = subst (λ (b : Bool). StepOf (start .args .image .now) (at .loop .states) (c .before .byte-at .result) b (c .step-all .result .states)) e (c .step-all .ensures)
+begin-all-requires : tie.Need-begin-all-requires Inv-loop μ-loop
+begin-all-requires c κs = let s = c .before .before .before in (s .pre .0, s .pre .1 .0)
 
-start-states-requires : tie.Need-start-states-requires Inv-loop μ-loop
-start-states-requires c κs = search needs
+returns : tie.Need-returns Inv-loop μ-loop
+returns c =
+    let d = c .before .before in
+    let s = entered d in
+    sym (pass-dead (s .args .pairing .now) (front d false (not-true (d .begin-all .result .alive) (c .if1 .taken))))
 
 loop-holds : tie.Need-loop-holds Inv-loop μ-loop
 loop-holds c =
-    let s = c .before .before .before .before in
-    let image = s .args .image .now in
-    let ok = accepted-here (s .pre .0) in
-    (search needs, (subst (Live image) (sym (c .start-states .ensures)) (start-live ok), ap (λ (l : List ℕ). passesIn image l (s .args .pairing .now)) (c .start-states .ensures) ∙ pass-start ok (s .args .pairing .now)))
+    let d = c .before .before .before in
+    let s = entered d in
+    let on = front d true (not-false (d .begin-all .result .alive) (c .before .if1 .left)) in
+    (search needs, (on .live refl, pass-begun (s .args .pairing .now) on))
 
 byte-at-requires : tie.Need-byte-at-requires Inv-loop μ-loop
 byte-at-requires c κs = search needs
 
 step-all-requires : tie.Need-step-all-requires Inv-loop μ-loop
 step-all-requires c κs =
-    let at = c .before .before in
-    let s = at .before .before .before .before .before in
-    (s .pre .0, (s .pre .1 .0, (omega (arith, listed-at (s .args .image .now) (s .args .pairing .now) (at .loop .i) (s .pre .1 .1) (c .before .loop-test .taken), c .byte-at .ensures .0, laid-pairs (s .pre .0 .laid)), at .loop .inv .1 .0)))
+    let a = c .before .before in
+    let s = start a in
+    (s .pre .0, (s .pre .1 .0, (omega (arith, listed-at (s .args .image .now) (s .args .pairing .now) (a .loop .i) (s .pre .1 .1) (c .before .loop-test .taken), c .byte-at .ensures .0, laid-pairs (s .pre .0 .laid)), a .loop .inv .1 .0)))
 
-returns : tie.Need-returns Inv-loop μ-loop
-returns c =
+returns-2 : tie.Need-returns-2 Inv-loop μ-loop
+returns-2 c =
     let d = c .before .before in
     let a = at d in
-    let s = start d in
-    sym (pass-fails (accepted-here (s .pre .0)) (a .loop .states) (s .args .pairing .now) (a .loop .i) (d .before .byte-at .result) (d .before .before .loop-test .taken) (d .before .byte-at .ensures .0) (d .step-all .result .states) (step d false (not-true (d .step-all .result .alive) (c .if1 .taken))))
+    let s = start a in
+    sym (pass-fails (accepted-here (s .pre .0)) (a .loop .states) (s .args .pairing .now) (a .loop .i) (d .before .byte-at .result) (d .before .before .loop-test .taken) (d .before .byte-at .ensures .0) (d .step-all .result .states) (step d false (not-true (d .step-all .result .alive) (c .if2 .taken))))
     ∙ a .loop .inv .1 .1
 
 add-i : tie.Need-add-i Inv-loop μ-loop
@@ -71,8 +85,8 @@ loop-again : tie.Need-loop-again Inv-loop μ-loop
 loop-again c =
     let d = c .before .before .before in
     let a = at d in
-    let s = start d in
-    let on = step d true (not-false (d .step-all .result .alive) (c .before .if1 .left)) in (
+    let s = start a in
+    let on = step d true (not-false (d .step-all .result .alive) (c .before .if2 .left)) in (
       omega arith,
       (
         on .live refl,
@@ -84,13 +98,13 @@ loop-again c =
 finish-all-requires : tie.Need-finish-all-requires Inv-loop μ-loop
 finish-all-requires c κs =
     let a = c .before in
-    let s = a .before .before .before .before .before in
+    let s = start a in
     (s .pre .0, (s .pre .1 .0, a .loop .inv .1 .0))
 
-returns-2 : tie.Need-returns-2 Inv-loop μ-loop
-returns-2 c =
+returns-3 : tie.Need-returns-3 Inv-loop μ-loop
+returns-3 c =
     let a = c .before .before in
-    let s = a .before .before .before .before .before in
+    let s = start a in
     c .finish-all .ensures
     ∙ sym (pass-end (accepted-here (s .pre .0)) (a .loop .states) (s .args .pairing .now) (a .loop .i) (a .loop .inv .1 .0) (c .before .loop-test .left))
     ∙ a .loop .inv .1 .1
@@ -101,13 +115,14 @@ pairing-passes-spec =
     (tie.spec
     Inv-loop
     μ-loop
-    start-states-requires
+    begin-all-requires
+    returns
     loop-holds
     byte-at-requires
     step-all-requires
-    returns
+    returns-2
     add-i
     loop-less
     loop-again
     finish-all-requires
-    returns-2)
+    returns-3)

@@ -1,0 +1,74 @@
+-- The front of a word: a rule that fails on the boundary pair there leaves no reading, and rules that stay in state 1 there read as if they were fed the
+-- boundary pair at the end alone.
+use Prim.Native.Nat.{ℕ, _<_}
+use mathlib.Core.Bool.{Bool, false, _&&_}
+use mathlib.Core.Path.{_≡_, refl, ap, _∙_, subst}
+use mathlib.Core.List.{List, [], _∷_, _++_, map}
+use lib.Dec.{T, ltb}
+use Rattle.model.specs.Lists.{below, every, joined, sameList}
+use Rattle.model.specs.RuleTables.{accepts, fed}
+use Rattle.model.specs.Grammar.{Grammar}
+use Rattle.model.specs.GrammarOf.{grammarOf}
+use Rattle.model.specs.Readings.{Reading, spelled, fewNulls, wordLength, pairingLength, passes, isPath, word, isReading}
+use Rattle.model.specs.Query.{Query, Request, queryOf, entryNumbers}
+use Rattle.model.specs.Tree.{readings}
+use Rattle.model.specs.Refusals.{Verdict, firstFailing, judgeTests}
+use Rattle.model.specs.Rows.{Reply, replyTo}
+use Rattle.model.specs.Calls.{replyAfter, requestVerdict, allReadings, listingReply}
+use Rattle.model.specs.Beside.{Judgement, judgementAfter, judged}
+use Rattle.model.proofs.Booleans.{right-false}
+use Rattle.model.proofs.Lists.{below-from, every-same, every-fails}
+use Rattle.model.proofs.Listing.{listing, listing-unique}
+
+accepts-dead : (next : ℕ → ℕ → ℕ) (final : ℕ → Bool) (ps : List ℕ) → accepts next final 0 ps ≡ false
+unfolding accepts
+accepts-dead next final [] = refl
+accepts-dead next final (p ∷ ps) = refl
+
+module _ (g : Grammar) where
+  -- the state that a rule comes to at the front
+  abbrev pub atFront : ℕ → ℕ
+  atFront r = g .next r 1 (g .pairs)
+
+  after-front : (r : ℕ) (ps : List ℕ) → accepts (g .next r) (g .final r) 1 (fed (g .pairs) ps) ≡ accepts (g .next r) (g .final r) (atFront r) (ps ++ (g .pairs ∷ []))
+  unfolding accepts fed
+  after-front r ps = refl
+
+  -- all rules stay in state 1 at the front
+  pub front-idle : ((r : ℕ) → r < g .rules → atFront r ≡ 1) → (ps : List ℕ) → passes g ps ≡ every (λ r. accepts (g .next r) (g .final r) 1 (ps ++ (g .pairs ∷ []))) (below (g .rules))
+  unfolding passes
+  front-idle idle ps =
+      every-same (λ r. accepts (g .next r) (g .final r) 1 (fed (g .pairs) ps)) (λ r. accepts (g .next r) (g .final r) 1 (ps ++ (g .pairs ∷ []))) (below (g .rules))
+      (λ r m. after-front r ps ∙ ap (λ (s : ℕ). accepts (g .next r) (g .final r) s (ps ++ (g .pairs ∷ []))) (idle r (below-from (g .rules) r m)))
+
+  -- rule r fails at the front
+  module _ (r : ℕ) (rule : r < g .rules) (dead : atFront r ≡ 0) where
+    pub dead-passes : (ps : List ℕ) → passes g ps ≡ false
+    unfolding passes
+    dead-passes ps =
+        every-fails (λ r. accepts (g .next r) (g .final r) 1 (fed (g .pairs) ps)) (g .rules) r rule
+        (after-front r ps ∙ ap (λ (s : ℕ). accepts (g .next r) (g .final r) s (ps ++ (g .pairs ∷ []))) dead ∙ accepts-dead (g .next r) (g .final r) (ps ++ (g .pairs ∷ [])))
+
+    pub dead-reading : (x : Reading) → isReading g x ≡ false
+    unfolding isReading
+    dead-reading x =
+        let levels = isPath g (x .path) && pairingLength (x .pairing) && every (λ p. ltb p (g .pairs)) (x .pairing) && sameList (spelled (g .lexical) (x .pairing)) (joined (map (g .form) (x .path))) && fewNulls (g .lexical) (x .pairing) && wordLength (word g x) && fewNulls (g .surface) (x .pairing) in
+        right-false levels (passes g (x .pairing)) (dead-passes (x .pairing))
+
+    pub dead-readings : (q : Query) → readings g q ≡ []
+    dead-readings q = listing-unique g q (readings g q) [] (listing g q) (record { only = λ x. elim [ ]; every-one = λ x t a. absurd (subst T (dead-reading x) t); in-order = tt })
+
+-- in the calls' words: a listing that is not refused replies none, a judge that does not refuse replies fails
+module _ (image : List ℕ) (r : ℕ) (rule : r < grammarOf image .rules) (dead : atFront (grammarOf image) r ≡ 0) where
+  pub dead-listing : (request : Request) (rows : ℕ) → requestVerdict image request ≡ Verdict.accepted → listingReply image request rows ≡ Reply.none
+  unfolding listingReply allReadings replyTo
+  dead-listing request rows taken =
+      ap (λ (v : Verdict). replyAfter v rows (allReadings image request)) taken
+      ∙ ap (replyTo rows) (dead-readings (grammarOf image) r rule dead (queryOf request))
+
+  pub dead-judged : (path pairing : List ℕ) → firstFailing (judgeTests image path pairing) ≡ Verdict.accepted → judged image path pairing ≡ Judgement.fails
+  unfolding judged
+  dead-judged path pairing taken =
+      let x : Reading = record { path = entryNumbers path; pairing = pairing } in
+      ap (λ (v : Verdict). judgementAfter v (isReading (grammarOf image) x)) taken
+      ∙ ap (judgementAfter Verdict.accepted) (dead-reading (grammarOf image) r rule dead x)
