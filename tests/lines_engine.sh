@@ -1,5 +1,5 @@
 #!/bin/bash
-# What the line program prints is what the other engine prints, for images and inputs drawn from a seed.
+# What the line program prints is what the other engine prints, for images and inputs drawn from a seed, and for the stored trials.
 # Usage: lines_engine.sh [SEED [COUNT]]
 set -eu
 cd "$(dirname "$0")/.."
@@ -9,5 +9,14 @@ tools/prove lines
 CARGO_TARGET_DIR=$PWD/target/cargo
 export CARGO_TARGET_DIR
 cargo build --offline --locked --quiet --release --manifest-path engine/Cargo.toml -p other_lines
+cargo build --offline --locked --quiet --release --manifest-path assemble/Cargo.toml
 
 "$CARGO_TARGET_DIR/release/other_lines" target/bin/lines "${1:-1}" "${2:-1000}"
+
+work=$(mktemp -d)
+trap 'rm -rf "$work"' EXIT
+for grammar in tests/trials/*.txt; do
+    trial=$(basename "$grammar" .txt)
+    "$CARGO_TARGET_DIR/release/assemble" "$grammar" "$work/$trial.img"
+    echo "$trial: $("$CARGO_TARGET_DIR/release/other_lines" target/bin/lines --words "$work/$trial.img" "tests/trials/$trial.in")"
+done

@@ -634,7 +634,7 @@ fn columns(prng: &mut Prng, draft: &Draft) -> Damaged {
         finals: 80,
         staying: 30,
     };
-    draft.tables[rule] = with_columns(prng, new, states, &temper);
+    draft.tables[rule] = with_columns(prng, &draft.pairs, new, states, &temper);
     let refusal = certainly.then_some(7);
     Damaged {
         image: draft.image(),

@@ -457,7 +457,7 @@ fn narrow(prng: &mut Prng) -> Draft {
                 columns.insert(prng.below(columns.len() + 1), wide);
             }
             let states = prng.between(1, 3);
-            with_columns(prng, columns, states, &temper)
+            with_columns(prng, &pairs, columns, states, &temper)
         })
         .collect();
     Draft {
@@ -602,7 +602,7 @@ fn at_limits(prng: &mut Prng, all: bool) -> Draft {
                 columns(prng, &pairs, letters, 16)
             };
             let states = if rule < 2 { 24 } else { prng.between(1, 24) };
-            with_columns(prng, drawn, states, &temper)
+            with_columns(prng, &pairs, drawn, states, &temper)
         })
         .collect();
     let mut spread: Vec<Vec<DraftEntry>> = vec![Vec::new(); lexicons];

@@ -2,7 +2,7 @@
 
 use crate::prng::Prng;
 use other_engine::draft::DraftTable;
-use other_engine::grammar::{matches, ANY, BOUNDARY};
+use other_engine::grammar::{columns_taken, matches, ANY, BOUNDARY};
 
 /// How hard a drawn table is on pairings.
 pub struct Temper {
@@ -46,12 +46,13 @@ pub fn table(prng: &mut Prng, pairs: &[(u8, u8)], letters: usize, temper: &Tempe
         1 => prng.between(2, 8),
         _ => 24,
     };
-    with_columns(prng, columns, states, temper)
+    with_columns(prng, pairs, columns, states, temper)
 }
 
-/// A table with these columns and so many states.
+/// A table with these columns and so many states. Of those that fail on the boundary before the first pair, and so leave no reading, most are mended.
 pub fn with_columns(
     prng: &mut Prng,
+    pairs: &[(u8, u8)],
     columns: Vec<(u8, u8)>,
     states: usize,
     temper: &Temper,
@@ -59,7 +60,7 @@ pub fn with_columns(
     let finals = (0..states)
         .map(|_| u8::from(prng.percent(temper.finals)))
         .collect();
-    let rows = (1..=states)
+    let mut rows: Vec<Vec<u8>> = (1..=states)
         .map(|state| {
             (0..columns.len())
                 .map(|_| {
@@ -74,6 +75,12 @@ pub fn with_columns(
                 .collect()
         })
         .collect();
+    let boundary = columns_taken(&columns, pairs).and_then(|taken| taken.last().copied());
+    if let Some(column) = boundary {
+        if rows[0][column] == 0 && prng.percent(80) {
+            rows[0][column] = prng.between(1, states) as u8;
+        }
+    }
     DraftTable {
         columns,
         finals,

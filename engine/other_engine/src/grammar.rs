@@ -71,10 +71,11 @@ pub fn columns_taken(columns: &[(u8, u8)], pairs: &[(u8, u8)]) -> Option<Vec<usi
 }
 
 impl Table {
-    /// Whether the rule, fed a whole pairing and then the boundary pair, never reaches 0 and ends in a final state.
+    /// Whether the rule, fed a whole pairing with the boundary pair before and after it, never reaches 0 and ends in a final state.
     pub fn passes(&self, pairing: &[u8]) -> bool {
         let boundary = self.takes.len() - 1;
-        let fed = pairing.iter().map(|&p| usize::from(p)).chain([boundary]);
+        let pairs = pairing.iter().map(|&p| usize::from(p));
+        let fed = [boundary].into_iter().chain(pairs).chain([boundary]);
         let mut state = 1;
         for pair in fed {
             state = usize::from(self.rows[state - 1][self.takes[pair]]);

@@ -290,6 +290,42 @@ fn the_t_c_table_has_its_four_facts_in_any_column_order() {
     assert_eq!(orders, 24);
 }
 
+/// Letters s and t, entries s and ts, and one rule with these columns and rows, every state final.
+fn s_and_ts(columns: &[(u8, u8)], rows: &[&[u8]]) -> Known {
+    let lexicons = vec![vec![entry(&[2], 255), entry(&[3, 2], 255)]];
+    let mut draft = plain(3, &[(2, 2), (3, 3)], lexicons);
+    draft.tables.push(DraftTable {
+        columns: columns.to_vec(),
+        finals: vec![1; rows.len()],
+        rows: rows.iter().map(|row| row.to_vec()).collect(),
+    });
+    read(&draft.image())
+}
+
+#[test]
+fn a_rule_may_forbid_s_directly_after_the_boundary() {
+    let known = s_and_ts(&[(1, 1), (2, 2), (255, 255)], &[&[2, 1, 1], &[2, 0, 1]]);
+    let grammar = known.as_ref().ok().unwrap();
+    assert!(!grammar.passes(&[0]));
+    assert!(grammar.passes(&[1, 0]));
+    assert_eq!(analyse(&known, &[2]).unwrap(), []);
+    assert_eq!(analyse(&known, &[3, 2]).unwrap(), [reading(&[1], &[1, 0])]);
+    assert_eq!(generate(&known, &bytes(&[0])).unwrap(), []);
+    assert_eq!(generate(&known, &bytes(&[1])).unwrap().len(), 1);
+}
+
+#[test]
+fn a_rule_dead_at_the_front_leaves_no_reading_and_refuses_nothing() {
+    let known = s_and_ts(&[(1, 1), (255, 255)], &[&[0, 2], &[2, 2]]);
+    assert_eq!(calls::check_reply(&known), 1);
+    assert_eq!(analyse(&known, &[3, 2]).unwrap(), []);
+    assert_eq!(generate(&known, &bytes(&[1])).unwrap(), []);
+    assert_eq!(judge(&known, &bytes(&[1]), &[1, 0]), Ok(false));
+    // From state 2 on it would have let the word pass.
+    let known = s_and_ts(&[(1, 1), (255, 255)], &[&[2, 2], &[2, 2]]);
+    assert_eq!(judge(&known, &bytes(&[1]), &[1, 0]), Ok(true));
+}
+
 #[test]
 fn equal_pairings_by_two_paths_are_two_readings() {
     let lexicons = vec![
