@@ -11,19 +11,18 @@ fn matches(column: Column, pair: Pair) -> bool {
     side_matches(column.lexical, pair.lexical) && side_matches(column.surface, pair.surface)
 }
 
-/// Of the matching columns a pair takes the narrowest, the one that matches fewest of all pairs and
-/// the boundary pair. Says what is wrong where some pair has no such column, or two.
-pub fn check(columns: &[Column], pairs: &[Pair], alphabet: &Alphabet) -> Result<(), String> {
+/// The column that each pair takes and, last, the boundary pair: of the matching columns the narrowest,
+/// the one that matches fewest of all pairs and the boundary pair. Or what is wrong where some pair has
+/// no such column, or two.
+pub fn taken(columns: &[Column], pairs: &[Pair], alphabet: &Alphabet) -> Result<Vec<usize>, String> {
     let fed: Vec<Pair> = pairs.iter().copied().chain([BOUNDARY_PAIR]).collect();
     let breadth = |column: Column| fed.iter().filter(|&&pair| matches(column, pair)).count();
     let breadths: Vec<usize> = columns.iter().map(|&column| breadth(column)).collect();
-    for &pair in &fed {
-        let narrowest = narrowest(columns, &breadths, pair);
-        if narrowest.len() != 1 {
-            return Err(trouble(columns, &narrowest, pair, alphabet));
-        }
-    }
-    Ok(())
+    let takes = fed.iter().map(|&pair| match narrowest(columns, &breadths, pair)[..] {
+        [column] => Ok(column),
+        ref others => Err(trouble(columns, others, pair, alphabet)),
+    });
+    takes.collect()
 }
 
 /// The places of the columns that match `pair` and are as narrow as any that does.

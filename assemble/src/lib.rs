@@ -14,6 +14,7 @@ mod place;
 mod rules;
 mod sections;
 mod source;
+mod warnings;
 mod words;
 
 pub use fault::{Fault, Faults};
@@ -22,4 +23,5 @@ pub use image::sealed_image;
 pub use lists::{list_entries, list_letters, list_pairs};
 pub use place::put_in_place;
 pub use source::read_source;
+pub use warnings::warnings;
 pub use words::spell_words;

@@ -1,8 +1,8 @@
 //! The program `assemble`: makes an image of a grammar's text, or lists what the text numbers.
 
 use assemble::{
-    list_entries, list_letters, list_pairs, put_in_place, read_grammar, read_source, sealed_image, spell_words, Fault,
-    Faults, Grammar,
+    list_entries, list_letters, list_pairs, put_in_place, read_grammar, read_source, sealed_image, spell_words,
+    warnings, Fault, Faults, Grammar,
 };
 use std::env;
 use std::ffi::OsString;
@@ -66,6 +66,9 @@ fn assemble(source: &Path, image: &Path) -> Result<(), Failure> {
     let grammar = read(source)?;
     if is_same_file(source, image) {
         return Err(tell_fault(image, &Fault::new(0, "is the grammar's own text")));
+    }
+    for warning in warnings(&grammar) {
+        tell_fault(source, &warning);
     }
     put_in_place(&sealed_image(&grammar), image)
         .map_err(|error| tell_fault(image, &Fault::new(0, format!("cannot be written: {error}"))))

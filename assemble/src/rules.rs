@@ -10,9 +10,21 @@ use crate::sections::Section;
 
 #[derive(Debug)]
 pub struct Rule {
+    pub name: String,
     pub columns: Vec<Column>,
+    /// The column that the boundary pair takes.
+    pub boundary: usize,
     /// States 1, 2, ..
     pub states: Vec<State>,
+    /// The line of state 1's row.
+    pub first_row: usize,
+}
+
+impl Rule {
+    /// Whether the boundary pair, which comes first in every word, leads to failure at once.
+    pub fn fails_at_front(&self) -> bool {
+        self.states[0].next[self.boundary] == 0
+    }
 }
 
 #[derive(Debug)]
@@ -45,9 +57,15 @@ fn read_rule(section: &Section, alphabet: &Alphabet, pairs: &[Pair]) -> Result<R
     };
     let columns = read_columns(lexical, surface, &heading, alphabet)?;
     let states = read_states(rows, &heading, section.last_line())?;
-    columns::check(&columns, pairs, alphabet)
+    let taken = columns::taken(&columns, pairs, alphabet)
         .map_err(|what| Fault::new(lexical.number, format!("rule \"{}\": {what}", heading.name)))?;
-    Ok(Rule { columns, states })
+    Ok(Rule {
+        name: heading.name.to_string(),
+        columns,
+        boundary: taken[pairs.len()],
+        states,
+        first_row: rows[0].number,
+    })
 }
 
 fn read_heading<'a>(section: &Section<'a>) -> Result<Heading<'a>, Fault> {

@@ -1,0 +1,46 @@
+//! What is told of a text that is taken in all the same.
+
+mod support;
+
+use assemble::{read_grammar, warnings, Fault};
+use std::fs;
+use support::{assembled, run, sample, scratch, SAMPLES};
+
+/// luz, whose boundary takes the fifth column, with another row for state 1.
+fn with_row_one(row: &str) -> String {
+    let text = sample("luz");
+    assert_eq!(text.matches("  1: 3 2 1 1 1\n").count(), 1);
+    text.replace("  1: 3 2 1 1 1\n", &format!("  1: {row}\n"))
+}
+
+fn told(text: &str) -> Vec<Fault> {
+    warnings(&read_grammar(text.as_bytes()).unwrap())
+}
+
+#[test]
+fn a_rule_that_fails_at_the_front_is_told_and_the_image_is_made() {
+    let folder = scratch("warnings-front");
+    let text = with_row_one("3 2 1 1 0");
+    fs::write(folder.join("luz.txt"), &text).unwrap();
+    let ran = run(&folder, &["luz.txt", "luz.img"], b"");
+    let line = 1 + text.lines().position(|line| line.ends_with("3 2 1 1 0")).unwrap();
+    let words = "rule \"Z becomes c before +e\" goes from state 1 to 0 by #:#, which comes first in every word: no word has a reading";
+    assert_eq!(ran.stderr, format!("luz.txt:{line}: warning: {words}\n"));
+    assert_eq!((ran.code, ran.stdout.as_str()), (Some(0), ""));
+    assert_eq!(fs::read(folder.join("luz.img")).unwrap(), assembled(&text).unwrap());
+}
+
+#[test]
+fn only_the_boundary_pair_in_state_1_counts() {
+    // A 0 in another column of row 1; rows 3 and 5 of the sample have a 0 in the boundary's column.
+    for row in ["0 2 1 1 1", "3 0 1 1 1", "3 2 0 1 1", "3 2 1 0 1", "0 0 0 0 1"] {
+        assert_eq!(told(&with_row_one(row)), []);
+    }
+}
+
+#[test]
+fn the_samples_have_no_warnings() {
+    for name in SAMPLES {
+        assert_eq!(told(&sample(name)), []);
+    }
+}
