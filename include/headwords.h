@@ -7,6 +7,11 @@
  * Letters, pairs and entries are numbers of the grammar: letters from 1, the boundary, so that a word has letters from 2
  * on; pairs and entries from 0. The assembler lists them: assemble --letters, --pairs, --entries.
  *
+ * A reading is a path through the lexicon and a pairing that spells the path's forms and the word, and that every rule
+ * lets pass: each rule is fed the boundary pair, then the pairs of the pairing, then the boundary pair again, and has to
+ * end in a final state without coming to state 0. So a rule that comes to 0 on the first boundary pair leaves no word
+ * and no path a reading; that is an answer and no refusal.
+ *
  * What the caller owes, and no call can test:
  *   - each pointer is to at least as many bytes as the length after it says, and is not NULL, even where the length is 0;
  *   - the ranges lent to one call do not overlap, save that two ranges that are only read may;
@@ -50,7 +55,7 @@ enum { HEADWORDS_NONE = 0, HEADWORDS_ALL = 1, HEADWORDS_MORE = 2, HEADWORDS_REFU
  * rows_length / 116 rows.
  *   4n + 1  all n readings are in rows 0 to n - 1
  *   4n + 2  there are more readings than the buffer has rows; it has the first n, and n is all its rows
- *   0       there is no reading; nothing is written
+ *   0       there is no reading (also where a rule fails on the first boundary pair); nothing is written
  *   4k + 3  refused (1 to 10); nothing is written
  * No byte past row n - 1 changes. */
 uint64_t headwords_analyse(const uint8_t *image, size_t image_length, const uint8_t *word, size_t word_length, uint8_t *rows, size_t rows_length);
