@@ -62,6 +62,10 @@ pub true-of : (b : Bool) → T b → b ≡ true
 true-of true t = refl
 true-of false t = absurd t
 
+pub false-of : (b : Bool) → (T b → ⊥) → b ≡ false
+false-of true f = absurd (f tt)
+false-of false f = refl
+
 pub of-true : (b : Bool) → b ≡ true → T b
 of-true b e = rw e tt
 

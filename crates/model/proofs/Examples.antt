@@ -7,6 +7,7 @@ use lib.ListN.{length, take, drop, replicate, set}
 use Rattle.model.specs.Lists.{below, joined, flatMap, numberBytes}
 use Rattle.model.specs.Blocks.{sealedImage}
 use Rattle.model.specs.RuleTables.{columnsOf}
+use Rattle.model.specs.GrammarOf.{grammarOf}
 use Rattle.model.specs.Readings.{Reading}
 use Rattle.model.specs.Query.{analysis, generation}
 use Rattle.model.specs.Refusals.{Verdict, imageVerdict}
@@ -14,8 +15,9 @@ use Rattle.model.specs.Rows.{Reply}
 use Rattle.model.specs.Calls.{Sealing, sealingReply, afterSealing, allReadings, listingReply}
 use Rattle.model.specs.Beside.{Judgement, judged, FormReply, formReply, viewed}
 use Rattle.model.specs.Lines.{Line, lineOf, linesOf, decimal, printedReply, printedLine, printed}
-use Rattle.model.specs.Samples.{entryBytes, imageOf, luzLetters, luzPairs, luzTable, luzImage, tcWith}
+use Rattle.model.specs.Samples.{entryBytes, imageOf, luzLetters, luzPairs, luzTable, luzImage, tcWith, tcImage}
 use Rattle.model.specs.Trials.{reading}
+use Rattle.model.proofs.Front.{atFront}
 use Rattle.model.proofs.Computed.{computed}
 
 -- the luz image with one byte changed, and sealed again
@@ -77,6 +79,11 @@ first-by-number = refl
 sealing : (sealingReply (7 ∷ []) ≡ Sealing.refused 1) × (afterSealing (7 ∷ []) ≡ 7 ∷ []) × (sealingReply (set luzImage 7 1) ≡ Sealing.sealed) × (afterSealing (set luzImage 510 77) ≡ luzImage)
 unfolding computed
 sealing = (refl, refl, refl, refl)
+
+-- luz and t:c stay in state 1 at the front: what `front-idle` asks of each rule
+fronts-idle : (atFront (grammarOf luzImage) 0 ≡ 1) × (atFront (grammarOf tcImage) 0 ≡ 1)
+unfolding computed
+fronts-idle = (refl, refl)
 
 -- a listing's replies with 64 rows lent
 abbrev analysed : List ℕ → Reply

@@ -1,53 +1,53 @@
 -- The front of a word: a rule that fails on the boundary pair there leaves no reading, and rules that stay in state 1 there read as if they were fed the
 -- boundary pair at the end alone.
 use Prim.Native.Nat.{ℕ, _<_}
-use mathlib.Core.Bool.{Bool, false, _&&_}
+use mathlib.Core.Bool.{Bool, false, _&&_, not}
 use mathlib.Core.Path.{_≡_, refl, ap, _∙_, subst}
 use mathlib.Core.List.{List, [], _∷_, _++_, map}
+use lib.ListN.{getD}
 use lib.Dec.{T, ltb}
-use Rattle.model.specs.Lists.{below, every, joined, sameList}
+use Rattle.model.specs.Lists.{below, every, joined, sameList, isZero}
 use Rattle.model.specs.RuleTables.{accepts, fed}
 use Rattle.model.specs.Grammar.{Grammar}
 use Rattle.model.specs.GrammarOf.{grammarOf}
 use Rattle.model.specs.Readings.{Reading, spelled, fewNulls, wordLength, pairingLength, passes, isPath, word, isReading}
 use Rattle.model.specs.Query.{Query, Request, queryOf, entryNumbers}
-use Rattle.model.specs.Tree.{readings}
+use Rattle.model.specs.Tree.{alive, begun, readings}
 use Rattle.model.specs.Refusals.{Verdict, firstFailing, judgeTests}
 use Rattle.model.specs.Rows.{Reply, replyTo}
 use Rattle.model.specs.Calls.{replyAfter, requestVerdict, allReadings, listingReply}
 use Rattle.model.specs.Beside.{Judgement, judgementAfter, judged}
-use Rattle.model.proofs.Booleans.{right-false}
-use Rattle.model.proofs.Lists.{below-from, every-same, every-fails}
+use Rattle.model.proofs.Booleans.{right-false, false-of}
+use Rattle.model.proofs.Lists.{below-has, below-from, every-same, every-at}
+use Rattle.model.proofs.Rules.{start-alive, begun-at}
 use Rattle.model.proofs.Listing.{listing, listing-unique}
-
-accepts-dead : (next : ℕ → ℕ → ℕ) (final : ℕ → Bool) (ps : List ℕ) → accepts next final 0 ps ≡ false
-unfolding accepts
-accepts-dead next final [] = refl
-accepts-dead next final (p ∷ ps) = refl
 
 module _ (g : Grammar) where
   -- the state that a rule comes to at the front
   abbrev pub atFront : ℕ → ℕ
   atFront r = g .next r 1 (g .pairs)
 
-  after-front : (r : ℕ) (ps : List ℕ) → accepts (g .next r) (g .final r) 1 (fed (g .pairs) ps) ≡ accepts (g .next r) (g .final r) (atFront r) (ps ++ (g .pairs ∷ []))
-  unfolding accepts fed
-  after-front r ps = refl
-
-  -- all rules stay in state 1 at the front
+  -- all rules stay in state 1 there
   pub front-idle : ((r : ℕ) → r < g .rules → atFront r ≡ 1) → (ps : List ℕ) → passes g ps ≡ every (λ r. accepts (g .next r) (g .final r) 1 (ps ++ (g .pairs ∷ []))) (below (g .rules))
-  unfolding passes
+  unfolding passes accepts fed
   front-idle idle ps =
       every-same (λ r. accepts (g .next r) (g .final r) 1 (fed (g .pairs) ps)) (λ r. accepts (g .next r) (g .final r) 1 (ps ++ (g .pairs ∷ []))) (below (g .rules))
-      (λ r m. after-front r ps ∙ ap (λ (s : ℕ). accepts (g .next r) (g .final r) s (ps ++ (g .pairs ∷ []))) (idle r (below-from (g .rules) r m)))
+      (λ r m. ap (λ (s : ℕ). accepts (g .next r) (g .final r) s (ps ++ (g .pairs ∷ []))) (idle r (below-from (g .rules) r m)))
 
-  -- rule r fails at the front
+  -- rule r fails there
   module _ (r : ℕ) (rule : r < g .rules) (dead : atFront r ≡ 0) where
+    states : List ℕ
+    states = begun (g .rules) (g .next) (g .final) (g .pairs)
+
+    dead-state : not (isZero (getD states r 0)) ≡ false
+    unfolding states
+    dead-state = ap (λ (n : ℕ). not (isZero n)) (begun-at (g .rules) (g .next) (g .final) (g .pairs) r rule ∙ dead)
+
     pub dead-passes : (ps : List ℕ) → passes g ps ≡ false
-    unfolding passes
+    unfolding passes alive states
     dead-passes ps =
-        every-fails (λ r. accepts (g .next r) (g .final r) 1 (fed (g .pairs) ps)) (g .rules) r rule
-        (after-front r ps ∙ ap (λ (s : ℕ). accepts (g .next r) (g .final r) s (ps ++ (g .pairs ∷ []))) dead ∙ accepts-dead (g .next r) (g .final r) (ps ++ (g .pairs ∷ [])))
+        false-of (every (λ r. accepts (g .next r) (g .final r) 1 (fed (g .pairs) ps)) (below (g .rules)))
+        (λ t. subst T dead-state (every-at (λ r. not (isZero (getD states r 0))) (below (g .rules)) (below-has (g .rules) r rule) (start-alive (g .rules) (g .next) (g .final) (g .pairs) ps t)))
 
     pub dead-reading : (x : Reading) → isReading g x ≡ false
     unfolding isReading

@@ -15,7 +15,7 @@ use Rattle.model.specs.Readings.{Reading, nulls, spelled, fewNulls, word
 use Rattle.model.specs.Query.{Query, fits, answers}
 use Rattle.model.specs.Walk.{Accepts, walk}
 use Rattle.model.specs.Tree.{Node, opens, alive, countAt, mayAt, goAt, tree, start, put, readingAt, readings}
-use Rattle.model.proofs.Booleans.{and-out, and-in, true-of, of-true, out8, in8, within-out, within-in, same-out, same-in}
+use Rattle.model.proofs.Booleans.{and-out, and-in, of-true, out8, in8, within-out, within-in, same-out, same-in}
 use Rattle.model.proofs.Lists.{map-from}
 use Rattle.model.proofs.Order.{Once, ascending-once, ascending-unique}
 use Rattle.model.proofs.Walk.{walk-from, walk-has, walk-ascending}
@@ -175,10 +175,6 @@ module _ (g : Grammar) (q : Query) where
   unfolding start
   steps-few r c = omega (arith, steps-length g 0 (r .path) (r .pairing), c .entries-in, c .pairs-in)
 
-  -- a reading that answers keeps every rule alive over the first boundary pair
-  start-alive : (r : Reading) → Completes g q (start g q) (r .path) (r .pairing) → T starts
-  start-alive r c = passes-alive (g .rules) (g .next) (g .final) (g .pairs) (start g q .states) (r .pairing) (c .passing)
-
   abbrev found : List Reading
   found = map (readingAt g q (start g q)) (walk (tree g q) 56 (start g q))
 
@@ -202,7 +198,7 @@ module _ (g : Grammar) (q : Query) where
 
       in-order : Ascending (map (steps g) found)
       in-order = rw (map-back (steps g) (readingAt g q (start g q)) (walk (tree g q) 56 (start g q)) (listed-steps begun)) (walk-ascending (tree g q) 56 (start g q))
-  guarded false e = record { only = λ r. elim [ ]; every-one = λ r t a. absurd (true≢false (sym (true-of starts (start-alive r (completes-from r t a))) ∙ e)); in-order = tt }
+  guarded false e = record { only = λ r. elim [ ]; every-one = λ r t a. absurd (subst T e (passes-alive (g .rules) (g .next) (g .final) (g .pairs) (start g q .states) (r .pairing) (completes-from r t a .passing))); in-order = tt }
 
   pub listing : IsListing g q (readings g q)
   unfolding readings

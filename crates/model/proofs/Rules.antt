@@ -1,7 +1,7 @@
--- Rules side by side: what one more pair, and the end, do to their states. Each law is shown for one rule and lifted to all of them.
-use Prim.Native.Nat.{ℕ, zero, suc, _<_}
-use mathlib.Core.Bool.{Bool, true, false, _&&_, not}
-use mathlib.Core.Path.{_≡_, refl, sym, ap, subst}
+-- Rules side by side: what the front, one more pair and the end do to their states. Each law is shown for one rule and lifted to all of them.
+use Prim.Native.Nat.{ℕ, _<_}
+use mathlib.Core.Bool.{Bool, _&&_, not}
+use mathlib.Core.Path.{_≡_, sym, ap, _∙_, subst}
 use mathlib.Core.List.{List, [], _∷_, _++_, map}
 use lib.ListN.{getD}
 use lib.Dec.{T}
@@ -72,11 +72,20 @@ module _ (rules : ℕ) (next : ℕ → ℕ → ℕ → ℕ) (final : ℕ → ℕ
       (every-map (λ r. accepts (next r) (final r) 1 (toEnd boundary (boundary ∷ ps))) (λ r. accepts (next r) (final r) (getD ones r 0) (toEnd boundary (boundary ∷ ps))) (below rules)
       (λ r m. subst (λ (s : ℕ). T (accepts (next r) (final r) s (toEnd boundary (boundary ∷ ps)))) (sym (getD-map-below (λ r. 1) rules r 0 (below-from rules r m)))) t)
 
+  -- what passes keeps every rule alive over the front
+  pub start-alive : (ps : List ℕ) → T (every (λ r. accepts (next r) (final r) 1 (fed boundary ps)) (below rules)) → T (alive rules next final (begun rules next final boundary))
+  start-alive ps t = passes-alive (begun rules next final boundary) ps (start-to ps t)
+
   pub start-from : (ps : List ℕ) → T (passesFrom (begun rules next final boundary) ps) → T (every (λ r. accepts (next r) (final r) 1 (fed boundary ps)) (below rules))
   unfolding fed begun
   start-from ps t =
       every-map (λ r. accepts (next r) (final r) (getD ones r 0) (toEnd boundary (boundary ∷ ps))) (λ r. accepts (next r) (final r) 1 (toEnd boundary (boundary ∷ ps))) (below rules)
       (λ r m. subst (λ (s : ℕ). T (accepts (next r) (final r) s (toEnd boundary (boundary ∷ ps)))) (getD-map-below (λ r. 1) rules r 0 (below-from rules r m))) (passes-to boundary ones ps alive-ones t)
+
+  -- the state that one rule comes to at the front
+  pub begun-at : (r : ℕ) → r < rules → getD (begun rules next final boundary) r 0 ≡ next r 1 boundary
+  unfolding begun
+  begun-at r h = stepped-at ones boundary r h ∙ ap (λ (s : ℕ). next r s boundary) (getD-map-below {B = ℕ} (λ r. 1) rules r 0 h)
 
   pub finish-from : (states : List ℕ) → T (passesFrom states []) → T (finish rules next final states boundary)
   unfolding finish accepts

@@ -34,8 +34,8 @@ starred =
       front-ts-readings = refl;
       front-path-s = refl;
       front-path-ts = refl;
-      dead-accepted = refl;
-      dead-analysed = refl;
-      dead-generated = refl;
-      dead-judged = refl;
+      dead-front-accepted = refl;
+      dead-front-analysed = refl;
+      dead-front-generated = refl;
+      dead-front-judged = refl;
     }

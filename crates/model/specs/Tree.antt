@@ -77,7 +77,7 @@ module _ (rules : ℕ) (next : ℕ → ℕ → ℕ → ℕ) (final : ℕ → ℕ
   unfoldable pub alive : List ℕ → Bool
   alive states = every (λ r. not (isZero (getD states r 0))) (below rules)
 
-  -- "The start is state 1", and the boundary pair comes first
+  -- "The start is state 1", and, by document 02, (a), "the boundary pair is now fed to every rule before the first pair too"
   unfoldable pub begun : ℕ → List ℕ
   begun boundary = stepAll (map (λ r. 1) (below rules)) boundary
 

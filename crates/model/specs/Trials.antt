@@ -79,7 +79,7 @@ pub record Starred : Type 0 where
   pub front-path-s : listingReply frontImage (generation (0 ∷ 0 ∷ [])) 64 ≡ Reply.none
   pub front-path-ts : listingReply frontImage (generation (1 ∷ 0 ∷ [])) 64 ≡ Reply.all 1
   -- a rule that is dead at the front leaves no reading, and refuses nothing
-  pub dead-accepted : imageVerdict deadImage ≡ Verdict.accepted
-  pub dead-analysed : listingReply deadImage (analysis (3 ∷ 2 ∷ [])) 64 ≡ Reply.none
-  pub dead-generated : listingReply deadImage (generation (1 ∷ 0 ∷ [])) 64 ≡ Reply.none
-  pub dead-judged : judged deadImage (1 ∷ 0 ∷ []) (1 ∷ 0 ∷ []) ≡ Judgement.fails
+  pub dead-front-accepted : imageVerdict deadImage ≡ Verdict.accepted
+  pub dead-front-analysed : listingReply deadImage (analysis (3 ∷ 2 ∷ [])) 64 ≡ Reply.none
+  pub dead-front-generated : listingReply deadImage (generation (1 ∷ 0 ∷ [])) 64 ≡ Reply.none
+  pub dead-front-judged : judged deadImage (1 ∷ 0 ∷ []) (1 ∷ 0 ∷ []) ≡ Judgement.fails

@@ -13,9 +13,9 @@ use Rattle.model.specs.Blocks.{header}
 use Rattle.model.specs.RuleTables.{pairs, boundaryPair}
 use Rattle.model.specs.GrammarOf.{grammarOf}
 use Rattle.model.specs.Readings.{nulls, withoutNulls, spelled, pairingLength, passes}
-use Rattle.model.proofs.Booleans.{true-of}
+use Rattle.model.proofs.Booleans.{true-of, false-of}
 use Rattle.model.proofs.Rest.{drop-step, every-getD}
-use Rattle.model.proofs.Rules.{passesFrom, start-to, start-from, passes-alive, passes-from, passes-to, finish-from, finish-to}
+use Rattle.model.proofs.Rules.{passesFrom, start-to, start-alive, start-from, passes-alive, passes-from, passes-to, finish-from, finish-to}
 use Rattle.image.specs.Accepted.{Accepted}
 use Rattle.lexicon.proofs.Laws.{within-below, within-above, within-true}
 use Rattle.rules.specs.Live.{Live, StepOf, BegunOf, stepOf, begunOf, finishOf}
@@ -171,9 +171,7 @@ module _ {image states : List ℕ} (ps : List ℕ) where
   unfolding passes
   pass-dead front =
       let g = grammarOf image in
-      same-tests (passes g ps) false
-      (λ t. subst T (sym (front .alive-is)) (passes-alive (g .rules) (g .next) (g .final) (g .pairs) (begunOf g) ps (start-to (g .rules) (g .next) (g .final) (g .pairs) ps t)))
-      (λ t. absurd t)
+      false-of (passes g ps) (λ t. subst T (sym (front .alive-is)) (start-alive (g .rules) (g .next) (g .final) (g .pairs) ps t))
 
 -- the rules' states over a pairing
 module _ {image : List ℕ} (ok : Accepted image (header image)) where
@@ -204,6 +202,4 @@ module _ {image : List ℕ} (ok : Accepted image (header image)) where
           let s = take (g .rules) states in
           let rest = drop (i + 1) ps in
           pass-step
-          ∙ same-tests (passesIn image states (p ∷ rest)) false
-          (λ t. subst T (sym (step .alive-is)) (passes-alive (g .rules) (g .next) (g .final) (g .pairs) (stepOf g states p) rest (passes-from (g .rules) (g .next) (g .final) (g .pairs) p s rest t)))
-          (λ t. absurd t)
+          ∙ false-of (passesIn image states (p ∷ rest)) (λ t. subst T (sym (step .alive-is)) (passes-alive (g .rules) (g .next) (g .final) (g .pairs) (stepOf g states p) rest (passes-from (g .rules) (g .next) (g .final) (g .pairs) p s rest t)))

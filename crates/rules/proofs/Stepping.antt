@@ -157,8 +157,8 @@ module _ (image : List ℕ) where
       (λ r m. rw (counted states r (omega (arith, grammar-rules image, below-from (grammarOf image .rules) r m))) refl)
 
 -- all rules in state 1, of which the first n count
-start-states : (n : ℕ) → n ≤ 32 → _≡_ {A = List ℕ} (take n (replicate 32 1)) (map (λ r. 1) (below n))
-start-states n h =
+ones : (n : ℕ) → n ≤ 32 → _≡_ {A = List ℕ} (take n (replicate 32 1)) (map (λ r. 1) (below n))
+ones n h =
     let l = length-take {A = ℕ} n (replicate 32 1) in
     let m = length-map-below {B = ℕ} (λ r. 1) n in
     let k = length-replicate {A = ℕ} 32 1 in
@@ -183,8 +183,8 @@ module _ {image : List ℕ} (ok : Accepted image (header image)) where
       sizes : length (take (grammarOf image .rules) after) ≡ length (stepOf (grammarOf image) states p)
       sizes = omega (arith, length-take (grammarOf image .rules) after, q .size, grammar-rules image, ok .laid .limits .rules-most, length-map-below (λ r. grammarOf image .next r (getD (take (grammarOf image .rules) states) r 0) p) (grammarOf image .rules))
 
-  pub start-live : Live image (replicate 32 1)
-  start-live r h =
+  pub ones-live : Live image (replicate 32 1)
+  ones-live r h =
       let e = getD-replicate {A = ℕ} 32 r 1 0 (omega (arith, ok .laid .limits .rules-most)) in
       (omega (arith, e), omega (arith, e, states-least _ _ (table-ok ok r h)))
 
@@ -193,7 +193,7 @@ module _ {image : List ℕ} (ok : Accepted image (header image)) where
   unfolding begun
   begun-is p e =
       let g = grammarOf image in
-      ap₂ (stepAll (g .rules) (g .next) (g .final)) (start-states (g .rules) (omega (arith, grammar-rules image, ok .laid .limits .rules-most))) (e ∙ sym (grammar-pairs image))
+      ap₂ (stepAll (g .rules) (g .next) (g .final)) (ones (g .rules) (omega (arith, grammar-rules image, ok .laid .limits .rules-most))) (e ∙ sym (grammar-pairs image))
 
   -- rules in states that their tables have are alive
   pub live-alive : (states : List ℕ) → Live image states → T (aliveOf (grammarOf image) (take (grammarOf image .rules) states))

@@ -6,12 +6,12 @@ use Prim.Native.Nat.{ℕ}
 use Rattle.rules.specs.Live.{Reached}
 use Rattle.letters.proofs.Laws.{laid-pairs}
 use Rattle.rules.proofs.Laws.{accepted-here}
-use Rattle.rules.proofs.Stepping.{start-live, begun-is}
+use Rattle.rules.proofs.Stepping.{ones-live, begun-is}
 use Rattle.rules.proofs.states.begin_all.Statement.{statement}
 use Rattle.rules.proofs.states.begin_all.Tie as tie
 
 step-all-requires : tie.Need-step-all-requires
-step-all-requires c κs = let s = c .before .before in (s .pre .0, (s .pre .1, (omega arith, start-live (accepted-here (s .pre .0)))))
+step-all-requires c κs = let s = c .before .before in (s .pre .0, (s .pre .1, (omega arith, ones-live (accepted-here (s .pre .0)))))
 
 returns : tie.Need-returns
 returns c =
