@@ -15,8 +15,10 @@ cargo build --offline --locked --quiet --release --manifest-path assemble/Cargo.
 
 work=$(mktemp -d)
 trap 'rm -rf "$work"' EXIT
-for grammar in tests/trials/*.txt; do
-    trial=$(basename "$grammar" .txt)
-    "$CARGO_TARGET_DIR/release/assemble" "$grammar" "$work/$trial.img"
-    echo "$trial: $("$CARGO_TARGET_DIR/release/other_lines" target/bin/lines --words "$work/$trial.img" "tests/trials/$trial.in")"
+for input in tests/trials/*.in; do
+    grammar=${input%.in}.txt
+    [ -e "$grammar" ] || grammar=grammars/luz.txt
+    "$CARGO_TARGET_DIR/release/assemble" "$grammar" "$work/grammar.img" 2>/dev/null
+    said=$("$CARGO_TARGET_DIR/release/other_lines" target/bin/lines --words "$work/grammar.img" "$input") || { echo "$input: $said"; exit 1; }
+    echo "$input: $said"
 done

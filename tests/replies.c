@@ -164,25 +164,32 @@ static void images(void)
     }
 }
 
-/* luz with a rule that goes from state 1 to 0 by the boundary pair: it is accepted, and no word or path has a reading. */
+/* luz with a rule that fails on the boundary pair at the front and would let all else pass: columns #:#, any:any; rows 1: 0 2; 2: 2 2; both final.
+ * It is accepted, and no word or path has a reading. */
 static void dead_front(void)
 {
+    static const uint8_t table[506] = {2, 2, 1, 1, 255, 255, 1, 1, 0, 2, 2, 2};
     static uint8_t image[65536];
     struct bytes dead = {image, luz.length}, plural = BYTES(0, 0, 3, 0);
     memcpy(image, luz.at, luz.length);
-    image[1536 + 4 + 2 + 10 + 5 + 4] = 0;
+    memcpy(image + 1536 + 4, table, sizeof table);
     headwords_seal(image, luz.length);
     check("dead front", dead, 1);
     for (size_t room = 0; room <= 2 * HEADWORDS_ROW_BYTES; room += HEADWORDS_ROW_BYTES) {
         analyse("dead front, luces", dead, BYTES(5, 7, 3, 4, 6), room, 0, nothing);
         generate("dead front, path 0 3", dead, plural, room, 0, nothing);
     }
-    judge("dead front, reading", dead, plural, BYTES(3, 5, 6, 0, 2, 4), 0);
+    judge("dead front, path 0 3", dead, plural, BYTES(3, 5, 6, 0, 2, 4), 0);
     analyse("dead front, empty word", dead, nothing, MOST, refused(9), nothing);
     analyse("dead front, letter 1", dead, BYTES(1), MOST, refused(10), nothing);
     generate("dead front, 1 byte", dead, BYTES(0), MOST, refused(11), nothing);
     generate("dead front, path that goes on", dead, BYTES(0, 0), MOST, refused(12), nothing);
     judge("dead front, pair 8", dead, plural, BYTES(8), refused(13));
+
+    /* with 2 in row 1's first place it is alive */
+    image[1536 + 4 + 8] = 2;
+    headwords_seal(image, luz.length);
+    judge("live front, path 0 3", dead, plural, BYTES(3, 5, 6, 0, 2, 4), 1);
 }
 
 int main(int argc, char **argv)

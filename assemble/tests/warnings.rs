@@ -4,6 +4,7 @@ mod support;
 
 use assemble::{read_grammar, warnings, Fault};
 use std::fs;
+use std::path::Path;
 use support::{assembled, run, sample, scratch, SAMPLES};
 
 /// luz, whose boundary takes the fifth column, with another row for state 1.
@@ -36,6 +37,18 @@ fn only_the_boundary_pair_in_state_1_counts() {
     for row in ["0 2 1 1 1", "3 0 1 1 1", "3 2 0 1 1", "3 2 1 0 1", "0 0 0 0 1"] {
         assert_eq!(told(&with_row_one(row)), []);
     }
+}
+
+#[test]
+fn the_boundary_may_have_a_column_of_its_own() {
+    let trial = |name: &str| {
+        let trials = Path::new(env!("CARGO_MANIFEST_DIR")).join("../tests/trials");
+        fs::read_to_string(trials.join(format!("{name}.txt"))).unwrap()
+    };
+    let dead = told(&trial("dead_front"));
+    assert_eq!(dead.len(), 1);
+    assert!(dead[0].what.starts_with("warning: rule \"dead at the front\" goes from state 1 to 0 by #:#"));
+    assert_eq!(told(&trial("front")), []);
 }
 
 #[test]
