@@ -55,7 +55,7 @@ enum { HEADWORDS_NONE = 0, HEADWORDS_ALL = 1, HEADWORDS_MORE = 2, HEADWORDS_REFU
  * rows_length / 116 rows.
  *   4n + 1  all n readings are in rows 0 to n - 1
  *   4n + 2  there are more readings than the buffer has rows; it has the first n, and n is all its rows
- *   0       there is no reading (also where a rule fails on the first boundary pair); nothing is written
+ *   0       there is no reading; nothing is written
  *   4k + 3  refused (1 to 10); nothing is written
  * No byte past row n - 1 changes. */
 uint64_t headwords_analyse(const uint8_t *image, size_t image_length, const uint8_t *word, size_t word_length, uint8_t *rows, size_t rows_length);
