@@ -1,5 +1,6 @@
 #!/usr/bin/env bash
-# Another engine, written from the scope document and the change requests by another method: its own tests, and then every call of the C entry beside it, reply and bytes.
+# Another engine, written from the scope document and the change requests by another method: its own tests, and then every call of the C entry beside
+# it, reply and bytes.
 # Usage: engine.sh [SEED [CALLS]]
 set -eu
 cd "$(dirname "$0")/.."

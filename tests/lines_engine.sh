@@ -18,7 +18,7 @@ trap 'rm -rf "$work"' EXIT
 for input in tests/trials/*.in; do
     grammar=${input%.in}.txt
     [ -e "$grammar" ] || grammar=grammars/luz.txt
-    "$CARGO_TARGET_DIR/release/assemble" "$grammar" "$work/grammar.img" 2>/dev/null
+    "$CARGO_TARGET_DIR/release/assemble" "$grammar" "$work/grammar.img"
     said=$("$CARGO_TARGET_DIR/release/other_lines" target/bin/lines --words "$work/grammar.img" "$input") || { echo "$input: $said"; exit 1; }
     echo "$input: $said"
 done

@@ -36,15 +36,14 @@ module _ (g : Grammar) where
 
   -- rule r fails there
   module _ (r : ℕ) (rule : r < g .rules) (dead : atFront r ≡ 0) where
-    states : List ℕ
+    abbrev states : List ℕ
     states = begun (g .rules) (g .next) (g .final) (g .pairs)
 
     dead-state : not (isZero (getD states r 0)) ≡ false
-    unfolding states
     dead-state = ap (λ (n : ℕ). not (isZero n)) (begun-at (g .rules) (g .next) (g .final) (g .pairs) r rule ∙ dead)
 
     pub dead-passes : (ps : List ℕ) → passes g ps ≡ false
-    unfolding passes alive states
+    unfolding passes alive
     dead-passes ps =
         false-of (every (λ r. accepts (g .next r) (g .final r) 1 (fed (g .pairs) ps)) (below (g .rules)))
         (λ t. subst T dead-state (every-at (λ r. not (isZero (getD states r 0))) (below (g .rules)) (below-has (g .rules) r rule) (start-alive (g .rules) (g .next) (g .final) (g .pairs) ps t)))

@@ -1,4 +1,4 @@
--- Document 01 as definitions. Its headings, in its order, and the files that stand for them:
+-- Document 01 as definitions; a change that document 02 makes is quoted where it is made. Its headings, in its order, and the files that stand for them:
 -- "Blocks": Blocks. "Letters, pairs, rule tables": RuleTables. "Lexicon": Lexicon. "Readings and step order": Readings.
 -- "Analysis, then generation": Query, Walk and Tree (the list of all readings), Rows, Calls; demand 3: Demand.
 -- "Beside the listings": Beside, Lines. "When a call is turned down": Refusals. "The luz grammar and other trials": Samples.
