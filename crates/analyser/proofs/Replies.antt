@@ -14,7 +14,8 @@ use Rattle.model.specs.Refusals.{Verdict, accepted, refused, firstFailing, imag
 use Rattle.model.specs.Rows.{Reply, rowCount, filled}
 use Rattle.model.specs.Calls.{replyAfter, rowsAfter, requestVerdict, allReadings, listingReply, listingRows, afterListing}
 use Rattle.image.specs.Accepted.{Accepted}
-use Rattle.grammar.proofs.Verdicts.{accepted-image, tests-refused, tests-accepted}
+use Rattle.model.proofs.Tests.{tests-refused, tests-accepted}
+use Rattle.grammar.proofs.Verdicts.{accepted-image}
 use Rattle.rows.specs.Fill.{putAll, replyFor}
 use Rattle.rows.proofs.Fill.{listed}
 

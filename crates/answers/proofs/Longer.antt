@@ -7,14 +7,14 @@ use mathlib.Core.List.{List}
 use lib.ListN.{length, take, length-take}
 use lib.Seq.{take-all}
 use borrow.Author.Tests.{le-leb, lt-leb}
-use Rattle.model.specs.Refusals.{refused, rightLength, imageTests, imageVerdict}
+use Rattle.model.specs.Refusals.{refused, rightLength, formatTests, imageTests, imageVerdict}
 use Rattle.model.specs.Lines as lines
 use Rattle.model.specs.Lines.{lineOf, linesOf, printedLine, printed}
 use Rattle.model.proofs.Parts.{flatMap-same}
 use Rattle.answers.proofs.Reading.{refused-line}
 
 long-refused : (image : List ℕ) → 65536 < length image → imageVerdict image ≡ refused 1
-unfolding imageVerdict imageTests rightLength
+unfolding imageVerdict imageTests formatTests rightLength
 long-refused image h = rw (le-leb 1 (length image) (omega arith), lt-leb (length image) 65536 h) refl
 
 -- two images that are refused alike

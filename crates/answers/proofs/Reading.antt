@@ -16,7 +16,7 @@ use Rattle.model.specs.Rows.{Reply}
 use Rattle.model.specs.Calls.{requestVerdict, listingReply, listingRows}
 use Rattle.model.specs.Lines as lines
 use Rattle.model.specs.Lines.{lineOf, linesFrom, linesOf, printedReply, printedLine, printed}
-use Rattle.grammar.proofs.Verdicts.{tests-refused}
+use Rattle.model.proofs.Tests.{tests-refused}
 use Rattle.print.specs.Text.{Put}
 use Rattle.print.proofs.Text.{put-none, put-same, put-then}
 use Rattle.parse.specs.Fields.{Begun, lineAfter}

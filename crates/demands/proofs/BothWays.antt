@@ -20,7 +20,7 @@ use Rattle.model.specs.Demand.{Demand3, IsMore, rowsHandedBack}
 use Rattle.model.proofs.Booleans.{and-out, and-in, true-of, of-true, eq→eqb, within-in}
 use Rattle.model.proofs.Lists.{member-at, length-map-below, getD-map-below, flatMap-append}
 use Rattle.model.proofs.Parts.{length-parts}
-use Rattle.model.proofs.Demand.{tests-append}
+use Rattle.model.proofs.Tests.{tests-append}
 use Rattle.model.proofs.Converse.{converse}
 use Rattle.letters.proofs.Laws.{IsSide, right-pair}
 use Rattle.grammar.proofs.Verdicts.{accepted-image}

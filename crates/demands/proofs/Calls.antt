@@ -11,16 +11,17 @@ use Rattle.model.specs.Blocks.{sealedImage}
 use Rattle.model.specs.Lexicon.{entry, formLength}
 use Rattle.model.specs.Readings.{Reading}
 use Rattle.model.specs.Query.{Request, analysis, generation}
-use Rattle.model.specs.Refusals.{Verdict, accepted, refused, unless, firstFailing, rightLength, imageTests, imageVerdict, wordTests, pathTests, pairingTests, ownTests, requestTests, judgeTests, viewTests}
+use Rattle.model.specs.Refusals.{Verdict, accepted, refused, unless, firstFailing, rightLength, formatTests, imageTests, imageVerdict, wordTests, pathTests, pairingTests, ownTests, requestTests, judgeTests, viewTests}
 use Rattle.model.specs.Rows.{Reply, rowCount}
 use Rattle.model.specs.Calls.{Sealing, sealingReply, afterSealing, requestVerdict, allReadings, listingReply, afterListing}
 use Rattle.model.specs.Beside.{Judgement, FormReply, judgementAfter, judged, viewAfter, formReplyAfter, viewed, formReply}
 use Rattle.model.specs.Demand.{Demand3, asRows}
 use Rattle.model.proofs.Booleans.{of-true}
-use Rattle.model.proofs.Demand.{tests-append, demand3-call}
+use Rattle.model.proofs.Demand.{demand3-call}
+use Rattle.model.proofs.Tests.{clash, tests-append}
 use Rattle.analyser.proofs.Replies.{refused-by}
 use Rattle.demands.specs.Words.{IsJudged, Judged, formLetters}
-use Rattle.demands.proofs.Refusing.{clash, Case, InTable}
+use Rattle.demands.proofs.Refusing.{Case, InTable}
 
 -- a reply that refuses lists nothing
 refused-lists-not : (l : List Reading) (k : ℕ) (before after : List ℕ) → Demand3 l (Reply.refused k) before after → ⊥
@@ -33,20 +34,20 @@ refused-lists-not l k before after d = go l (d .none-when-empty .1) (d .equal-un
 -- the numbers of the tests
 module _ (image : List ℕ) where
   pub request-table : (request : Request) → T (InTable (requestTests image request))
-  unfolding requestTests ownTests imageTests wordTests pathTests
+  unfolding requestTests ownTests formatTests imageTests wordTests pathTests
   request-table (analysis word) = tt
   request-table (generation path) = tt
 
   pub check-table : T (InTable (imageTests image))
-  unfolding imageTests
+  unfolding formatTests imageTests
   check-table = tt
 
   pub judge-table : (path pairing : List ℕ) → T (InTable (judgeTests image path pairing))
-  unfolding judgeTests imageTests pathTests pairingTests
+  unfolding judgeTests formatTests imageTests pathTests pairingTests
   judge-table path pairing = tt
 
   pub view-table : (e : ℕ) → T (InTable (viewTests image e))
-  unfolding viewTests imageTests
+  unfolding viewTests formatTests imageTests
   view-table e = tt
 
 -- what the contracts of analysis and generation promise

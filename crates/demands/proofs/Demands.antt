@@ -7,20 +7,22 @@ use mathlib.Core.Logic.{_↔_, _⊎_, inl, inr}
 use mathlib.Core.List.{List, [], _∷_, map, List·Memᴰ}
 use lib.ListN.{length, take, drop}
 use lib.Dec.{T}
-use Rattle.model.specs.Lists.{joined, within}
+use Rattle.model.specs.Lists.{joined}
 use Rattle.model.specs.Blocks.{sealedImage}
 use Rattle.model.specs.RuleTables.{fed, accepts}
 use Rattle.model.specs.Lexicon.{entry, formLength}
 use Rattle.model.specs.GrammarOf.{grammarOf}
 use Rattle.model.specs.Readings.{Reading, spelled, isPath, isReading, word}
 use Rattle.model.specs.Query.{Request, analysis, generation, queryOf}
-use Rattle.model.specs.Refusals.{Verdict, accepted, firstFailing, rightLength, imageTests, imageVerdict, wordTests, pathTests, pairingTests, ownTests, requestTests, judgeTests, viewTests}
+use Rattle.model.specs.Refusals.{Verdict, accepted, firstFailing, rightLength, formatTests, imageTests, imageVerdict, wordTests, pathTests, pairingTests, ownTests, requestTests, judgeTests, viewTests}
 use Rattle.model.specs.Rows.{Reply, rowBytes, replyNumber}
 use Rattle.model.specs.Calls.{Sealing, allReadings}
 use Rattle.model.specs.Beside.{Judgement, FormReply, formReply}
 use Rattle.model.specs.Demand.{Demand3, IsMore, rowsHandedBack}
+use Rattle.model.specs.Unspelled.{Unspelled}
 use Rattle.model.proofs.Listing.{IsListing, listing-iff}
 use Rattle.model.proofs.Demand.{demand3-call}
+use Rattle.model.proofs.Unspelled.{refused-14, refused-by-each}
 use Rattle.image.specs.Sealing.{sealingOf}
 use Rattle.grammar.specs.Answers.{verdictOf, formReplyOf}
 use Rattle.judge.specs.Answers.{judgementOf}
@@ -40,9 +42,9 @@ use Rattle.headwords.proofs.headwords_judge.Reads as headwords-judge
 use Rattle.headwords.proofs.headwords_form.Reads as headwords-form
 use Rattle.headwords.specs.Numbers.{verdictNumber, sealingNumber, judgementNumber, formNumber}
 use Rattle.print.proofs.Small.{Small}
-use Rattle.demands.specs.Words.{FirstFails, Coding, Judged, JudgedNumber, formLetters, FormCopied, Asks, pathBytes}
+use Rattle.demands.specs.Words.{inTable, FirstFails, Coding, Judged, JudgedNumber, formLetters, FormCopied, Asks, pathBytes}
 use Rattle.demands.proofs.Ends.{Ends, each-ends}
-use Rattle.demands.proofs.Refusing.{InTable, Case, either-of, not-both-of, by-first, by-table, unchanged-of}
+use Rattle.demands.proofs.Refusing.{InTable, fails-first, Case, either-of, not-both-of, by-first, by-table, unchanged-of}
 use Rattle.demands.proofs.Calls as calls
 use Rattle.demands.proofs.Calls.{Promised}
 use Rattle.demands.proofs.Numbers as numbers
@@ -97,7 +99,7 @@ pub record Demand1 (tests : List (ℕ × Bool)) (Refused : ℕ → Type 0) (Unch
   pub not-both : (k : ℕ) → Refused k → Work → ⊥
   -- "with a number of document 01's table": with k exactly when test k fails and every test before it passes
   pub first-failing : (k : ℕ) → Refused k ↔ FirstFails k tests
-  pub in-table : (k : ℕ) → Refused k → T (within 1 13 k)
+  pub in-table : (k : ℕ) → Refused k → T (inTable k)
   -- "A refusal changes no byte that was lent."
   pub unchanged : (k : ℕ) → Refused k → Unchanged
 
@@ -111,14 +113,14 @@ demand1 {tests} {Refused} {Unchanged} {Work} t c =
       unchanged = unchanged-of Refused Unchanged Work tests c;
     }
 
--- "the image check .. 1-8; every other call 1-8 and then its own": the numbers of the tests of each
+-- "the image check .. 1-8; every other call 1-8 and then its own"; 14 "tested after 8 and before 9": the numbers of the tests of each, in their order
 pub tests-made : (image word path pairing : List ℕ) (e : ℕ)
-    → (map (λ t. t .0) (imageTests image) ≡ 1 ∷ 2 ∷ 3 ∷ 4 ∷ 5 ∷ 6 ∷ 7 ∷ 8 ∷ [])
-    × (map (λ t. t .0) (requestTests image (analysis word)) ≡ 1 ∷ 2 ∷ 3 ∷ 4 ∷ 5 ∷ 6 ∷ 7 ∷ 8 ∷ 9 ∷ 10 ∷ [])
-    × (map (λ t. t .0) (requestTests image (generation path)) ≡ 1 ∷ 2 ∷ 3 ∷ 4 ∷ 5 ∷ 6 ∷ 7 ∷ 8 ∷ 11 ∷ 12 ∷ [])
-    × (map (λ t. t .0) (judgeTests image path pairing) ≡ 1 ∷ 2 ∷ 3 ∷ 4 ∷ 5 ∷ 6 ∷ 7 ∷ 8 ∷ 11 ∷ 12 ∷ 13 ∷ [])
-    × (map (λ t. t .0) (viewTests image e) ≡ 1 ∷ 2 ∷ 3 ∷ 4 ∷ 5 ∷ 6 ∷ 7 ∷ 8 ∷ 12 ∷ [])
-unfolding imageTests requestTests ownTests wordTests pathTests pairingTests judgeTests viewTests
+    → (map (λ t. t .0) (imageTests image) ≡ 1 ∷ 2 ∷ 3 ∷ 4 ∷ 5 ∷ 6 ∷ 7 ∷ 8 ∷ 14 ∷ [])
+    × (map (λ t. t .0) (requestTests image (analysis word)) ≡ 1 ∷ 2 ∷ 3 ∷ 4 ∷ 5 ∷ 6 ∷ 7 ∷ 8 ∷ 14 ∷ 9 ∷ 10 ∷ [])
+    × (map (λ t. t .0) (requestTests image (generation path)) ≡ 1 ∷ 2 ∷ 3 ∷ 4 ∷ 5 ∷ 6 ∷ 7 ∷ 8 ∷ 14 ∷ 11 ∷ 12 ∷ [])
+    × (map (λ t. t .0) (judgeTests image path pairing) ≡ 1 ∷ 2 ∷ 3 ∷ 4 ∷ 5 ∷ 6 ∷ 7 ∷ 8 ∷ 14 ∷ 11 ∷ 12 ∷ 13 ∷ [])
+    × (map (λ t. t .0) (viewTests image e) ≡ 1 ∷ 2 ∷ 3 ∷ 4 ∷ 5 ∷ 6 ∷ 7 ∷ 8 ∷ 14 ∷ 12 ∷ [])
+unfolding formatTests imageTests requestTests ownTests wordTests pathTests pairingTests judgeTests viewTests
 tests-made image word path pairing e = (refl, refl, refl, refl, refl)
 
 -- analysis and generation, from Rattle and from C: the image's tests and then the word's or the path's; their work is demand 3
@@ -132,19 +134,19 @@ pub demand1-seal : (κs : _) (a : _) (r : _) (s : _) → seal.Post κs a r s
     Demand1 ((1, rightLength image) ∷ []) (λ k. sealingOf r ≡ Sealing.refused k) (after ≡ image) ((sealingOf r ≡ Sealing.sealed) × (after ≡ sealedImage image))
 demand1-seal κs a r s p = demand1 tt (calls.sealing-case (a .0 .now) (s .0 .now) (sealingOf r) (p .0) (p .1))
 
--- the image check: tests 1 to 8. It, the judge, the view and its companion are lent nothing to be written.
+-- the image check: tests 1 to 8 and 14. It, the judge, the view and its companion are lent nothing to be written.
 pub demand1-check : (κs : _) (a : _) (r : _) (s : _) → check.Post κs a r s
     → let image = a .0 .now in
     Demand1 (imageTests image) (λ k. verdictOf r ≡ Verdict.refused k) Unit (verdictOf r ≡ accepted)
 demand1-check κs a r s p = demand1 (calls.check-table (a .0 .now)) (calls.check-case (a .0 .now) (verdictOf r) p)
 
--- the judge: 1 to 8, 11, 12 and 13
+-- the judge: 1 to 8, 14, 11, 12 and 13
 pub demand1-judge : (κs : _) (a : _) (r : _) (s : _) → judge.Post κs a r s
     → let image = a .0 .now in let path = a .1 .0 .now in let pairing = a .1 .1 .0 .now in
     Demand1 (judgeTests image path pairing) (λ k. judgementOf r ≡ Judgement.refused k) Unit (Judged image path pairing (judgementOf r))
 demand1-judge κs a r s p = demand1 (calls.judge-table (a .0 .now) (a .1 .0 .now) (a .1 .1 .0 .now)) (calls.judge-case (a .0 .now) (a .1 .0 .now) (a .1 .1 .0 .now) (judgementOf r) p)
 
--- the companion of the entry view: 1 to 8, and 12 for a missing entry
+-- the companion of the entry view: 1 to 8, 14, and 12 for a missing entry
 pub demand1-form-reply : (κs : _) (a : _) (r : _) (s : _) → form-reply.Post κs a r s
     → let image = a .0 .now in let e = a .1 .0 in
     Demand1 (viewTests image e) (λ k. formReplyOf r ≡ FormReply.refused k) Unit (formReplyOf r ≡ FormReply.letters (formLength (entry image e)))
@@ -200,6 +202,25 @@ pub demand1-headwords-form : (κs : _) (a : _) (r : _) (s : _) → headwords-for
     Demand1 (viewTests image e) (λ k. r ≡ 4 * k + 3) (after ≡ before) (FormCopied image e before after r)
 demand1-headwords-form κs a r s p = demand1 (calls.view-table (a .0 .now) (a .1 .0)) (numbers.form-number-case (a .0 .now) (a .1 .0) (a .1 .1 .0 .now) (s .1 .1 .0 .now) r (p .0) (p .1))
 
+-- Document 02, (b): "Such an image is to be refused by every call but sealing." An image that passes tests 1 to 8 and has an entry that can never be spelled
+-- is refused with 14 by each call that begins with the image's tests, whatever it is asked for, and no byte changes.
+abbrev RefusesWith14 : List (ℕ × Bool) → Type 1
+RefusesWith14 tests = (Refused : ℕ → Type 0) (Unchanged Work : Type 0) → Demand1 tests Refused Unchanged Work → Refused 14 × Unchanged
+
+refuses-14 : (tests : List (ℕ × Bool)) → firstFailing tests ≡ Verdict.refused 14 → RefusesWith14 tests
+refuses-14 tests f Refused Unchanged Work d = let r = d .first-failing 14 .1 (fails-first tests 14 .0 f) in (r, d .unchanged 14 r)
+
+pub unspelled-refused : (image : List ℕ) (e : ℕ) → firstFailing (formatTests image) ≡ accepted → Unspelled image e
+    → RefusesWith14 (imageTests image)
+    × ((request : Request) → RefusesWith14 (requestTests image request))
+    × ((path pairing : List ℕ) → RefusesWith14 (judgeTests image path pairing))
+    × ((entry : ℕ) → RefusesWith14 (viewTests image entry))
+unfolding imageVerdict
+unspelled-refused image e f u =
+    let v = refused-14 image .1 (f, (e, u)) in
+    let t = refused-by-each image v in
+    (refuses-14 (imageTests image) v, λ request. refuses-14 (requestTests image request) (t .0 request), λ path pairing. refuses-14 (judgeTests image path pairing) (t .1 path pairing), λ entry. refuses-14 (viewTests image entry) (t .2 entry))
+
 -- DEMAND 2
 
 -- "A row is given only if its path runs through the lexicon, its pairing spells path and word, and every rule table accepts it."
@@ -212,7 +233,7 @@ pub record Given (image : List ℕ) (request : Request) (row : List ℕ) : Type 
   pub spells-path : spelled (grammarOf image .lexical) (reading .pairing) ≡ joined (map (grammarOf image .form) (reading .path))
   -- "and word": the word that was asked for; generation is asked for the path
   pub asked : Asks (grammarOf image) request reading
-  -- "every rule table accepts it", with the boundary pair after it
+  -- "every rule table accepts it", with the boundary pair before and after it
   pub tables-accept : (rule : ℕ) → rule < grammarOf image .rules → T (accepts (grammarOf image .next rule) (grammarOf image .final rule) 1 (fed (grammarOf image .pairs) (reading .pairing)))
   -- and document 01's limits
   pub is-reading : T (isReading (grammarOf image) reading)

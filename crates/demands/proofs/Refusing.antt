@@ -1,18 +1,14 @@
 -- The first test that fails, in words, and what follows for a call whose reply goes by it.
 use Prim.Native.Nat.{ℕ}
-use native.Mathlib.Omega.{arith}
 use mathlib.Core.Bool.{Bool, true, false, _&&_}
 use mathlib.Core.Path.{_≡_, refl, sym, ap, _∙_, subst}
 use mathlib.Core.Logic.{_↔_, _⊎_, inl, inr}
 use mathlib.Core.List.{List, [], _∷_, _++_}
 use lib.Dec.{T}
-use Rattle.model.specs.Lists.{every, within}
+use Rattle.model.specs.Lists.{every}
 use Rattle.model.specs.Refusals.{Verdict, refused, unless, firstFailing}
-use Rattle.model.proofs.Booleans.{and-out}
-use Rattle.demands.specs.Words.{FirstFails}
-
-pub clash : {A : Type 0} → _≡_ {A = ℕ} 0 1 → A
-clash z = absurd (omega arith)
+use Rattle.model.proofs.Tests.{clash, tests-number}
+use Rattle.demands.specs.Words.{inTable, FirstFails}
 
 fails-from : (tests : List (ℕ × Bool)) (k : ℕ) → firstFailing tests ≡ refused k → FirstFails k tests
 fails-from [] k e = clash (cc)
@@ -30,20 +26,12 @@ fails-to (x ∷ earlier) later k t = go (x .1) t (fails-to earlier later k)
     go true t r = r t
     go false t r = absurd t
 
-fails-first : (tests : List (ℕ × Bool)) (k : ℕ) → (firstFailing tests ≡ refused k) ↔ FirstFails k tests
+pub fails-first : (tests : List (ℕ × Bool)) (k : ℕ) → (firstFailing tests ≡ refused k) ↔ FirstFails k tests
 fails-first tests k = (fails-from tests k, λ f. ap firstFailing (f .in-turn) ∙ fails-to (f .earlier) (f .later) k (f .earlier-pass))
 
--- the tests have numbers of document 01's table
+-- the tests have numbers of the table
 abbrev pub InTable : List (ℕ × Bool) → Bool
-InTable tests = every (λ t. within 1 13 (t .0)) tests
-
-number-in-table : (tests : List (ℕ × Bool)) (k : ℕ) → T (InTable tests) → firstFailing tests ≡ refused k → T (within 1 13 k)
-number-in-table [] k t e = clash (cc)
-number-in-table (x ∷ tests) k t e = let u = and-out (within 1 13 (x .0)) (InTable tests) t in go (x .1) e (u .0) (number-in-table tests k (u .1))
-  where
-    go : (b : Bool) → unless b (x .0) (firstFailing tests) ≡ refused k → T (within 1 13 (x .0)) → (firstFailing tests ≡ refused k → T (within 1 13 k)) → T (within 1 13 k)
-    go true e t r = r e
-    go false e t r = let m : x .0 ≡ k = cc in subst (λ (m : ℕ). T (within 1 13 m)) m t
+InTable tests = every (λ t. inTable (t .0)) tests
 
 -- what a call is to show for each verdict of its tests
 module _ (Refused : ℕ → Type 0) (Unchanged Work : Type 0) where
@@ -63,8 +51,8 @@ module _ (Refused : ℕ → Type 0) (Unchanged Work : Type 0) where
     pub by-first : (k : ℕ) → Refused k ↔ FirstFails k tests
     by-first k = (λ r. fails-first tests k .0 (refused-is k .0 r), λ f. refused-is k .1 (fails-first tests k .1 f))
 
-    pub by-table : T (InTable tests) → (k : ℕ) → Refused k → T (within 1 13 k)
-    by-table t k r = number-in-table tests k t (refused-is k .0 r)
+    pub by-table : T (InTable tests) → (k : ℕ) → Refused k → T (inTable k)
+    by-table t k r = tests-number inTable tests k t (refused-is k .0 r)
 
     pub either-of : Work ⊎ ((k : ℕ) × Refused k)
     either-of = go (firstFailing tests) here

@@ -7,7 +7,7 @@ use mathlib.Core.Logic.{_↔_, _⊎_}
 use mathlib.Core.List.{List, _∷_, _++_}
 use lib.ListN.{length, take, drop}
 use lib.Dec.{T}
-use Rattle.model.specs.Lists.{every, flatMap, numberBytes}
+use Rattle.model.specs.Lists.{every, flatMap, within, numberBytes}
 use Rattle.model.specs.Lexicon.{entry, formLength}
 use Rattle.model.specs.Grammar.{Grammar}
 use Rattle.model.specs.GrammarOf.{grammarOf}
@@ -15,7 +15,11 @@ use Rattle.model.specs.Readings.{Reading, spelled, isReading}
 use Rattle.model.specs.Query.{Request, analysis, generation, entryNumbers}
 use Rattle.model.specs.Beside.{Judgement, formStart}
 
--- "Tested by number": test k fails, and every test before it passes
+-- "a number of document 01's table", which the answers of document 02 join
+abbrev pub inTable : ℕ → Bool
+inTable = within 1 14
+
+-- in the order of the tests: test k fails, and every test before it passes
 pub record FirstFails (k : ℕ) (tests : List (ℕ × Bool)) : Type 0 where
   pub earlier : List (ℕ × Bool)
   pub later : List (ℕ × Bool)

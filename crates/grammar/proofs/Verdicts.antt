@@ -1,25 +1,26 @@
 -- The verdict by the first test that fails, and what an accepted image has passed.
 use Prim.Native.Nat.{ℕ, _+_, _<_, _≤_}
-use mathlib.Core.Bool.{Bool, true, false}
-use mathlib.Core.Path.{_≡_, refl, sym, ap, _∙_}
-use mathlib.Core.List.{List, [], _∷_, _++_}
+use mathlib.Core.Bool.{Bool, true, false, _&&_}
+use mathlib.Core.Path.{_≡_, refl, sym, ap, ap₂, _∙_, subst}
+use mathlib.Core.List.{List, [], _∷_}
 use lib.ListN.{length, take, drop, length-take, length-drop}
-use lib.Dec.{ltb}
+use lib.Dec.{T, ltb}
 use borrow.Author.Tests.{lt-ltb, le-ltb, ltb-true, ltb-false}
 use native.Mathlib.Omega.{arith}
 use Rattle.model.specs.Blocks.{Header, header, blockTotal}
-use Rattle.model.specs.Refusals.{Verdict, accepted, refused, unless, firstFailing, rightLength, rightChecks, rightLayout, rightLetters, rightPairs, rightTables, rightColumns, rightEntries, imageTests, imageVerdict, viewTests}
+use Rattle.model.specs.Refusals.{Verdict, accepted, refused, unless, firstFailing, rightLength, rightChecks, rightLayout, rightLetters, rightPairs, rightTables, rightColumns, rightEntries, rightForms, formatTests, imageTests, imageVerdict, viewTests}
 use Rattle.model.specs.Lexicon.{entry, formLength}
 use Rattle.model.specs.Beside as beside
 use Rattle.model.specs.Beside.{formStart, viewAfter, formReplyAfter, viewed, formReply}
 use Rattle.model.proofs.Booleans.{of-true}
+use Rattle.model.proofs.Tests.{clash, tests-refused, tests-accepted}
 use Rattle.image.specs.Laid.{Laid}
 use Rattle.image.specs.Accepted.{Accepted}
 use Rattle.lexicon.proofs.Laws as entries
 use Rattle.layout.proofs.Laid.{laid}
 use Rattle.grammar.specs.Answers.{recordsVerdict}
 
--- tests 4 to 8
+-- tests 4 to 8, and then 14
 module _ (image : List ℕ) where
   pub refused-4 : rightLetters image ≡ false → refused 4 ≡ recordsVerdict image
   unfolding recordsVerdict
@@ -37,34 +38,50 @@ module _ (image : List ℕ) where
   unfolding recordsVerdict
   refused-7 a b c e = rw (a, b, c, e) refl
 
-  pub records-last : rightLetters image ≡ true → rightPairs image ≡ true → rightTables image ≡ true → rightColumns image ≡ true → unless (rightEntries image) 8 accepted ≡ recordsVerdict image
-  unfolding recordsVerdict
-  records-last a b c d = rw (a, b, c, d) refl
+  -- past those four: tests 8 and 14 together, and apart
+  module _ (a : rightLetters image ≡ true) (b : rightPairs image ≡ true) (c : rightTables image ≡ true) (d : rightColumns image ≡ true) where
+    last-two : recordsVerdict image ≡ unless (rightEntries image) 8 (unless (rightForms image) 14 accepted)
+    unfolding recordsVerdict
+    last-two = rw (a, b, c, d) refl
+
+    pub accepted-records : true ≡ (rightEntries image && rightForms image) → accepted ≡ recordsVerdict image
+    accepted-records e = go (rightEntries image) (rightForms image) e ∙ sym last-two
+      where
+        go : (x y : Bool) → true ≡ (x && y) → accepted ≡ unless x 8 (unless y 14 accepted)
+        go true true e = refl
+        go true false e = absurd (subst T e tt)
+        go false y e = absurd (subst T e tt)
+
+    pub refused-8 : rightEntries image ≡ false → refused 8 ≡ recordsVerdict image
+    refused-8 e = sym (last-two ∙ ap (λ (x : Bool). unless x 8 (unless (rightForms image) 14 accepted)) e)
+
+    pub refused-14 : false ≡ (rightEntries image && rightForms image) → rightEntries image ≡ true → refused 14 ≡ recordsVerdict image
+    refused-14 e f = sym (last-two ∙ ap₂ (λ (x y : Bool). unless x 8 (unless y 14 accepted)) f (sym (e ∙ ap (λ (x : Bool). x && rightForms image) f)))
 
   -- tests 1 to 3
   pub refused-1 : rightLength image ≡ false → refused 1 ≡ imageVerdict image
-  unfolding imageVerdict imageTests
+  unfolding imageVerdict imageTests formatTests
   refused-1 e = rw e refl
 
   pub refused-2 : rightLength image ≡ true → rightChecks image ≡ false → refused 2 ≡ imageVerdict image
-  unfolding imageVerdict imageTests
+  unfolding imageVerdict imageTests formatTests
   refused-2 a e = rw (a, e) refl
 
   pub refused-3 : rightLength image ≡ true → rightChecks image ≡ true → rightLayout image ≡ false → refused 3 ≡ imageVerdict image
-  unfolding imageVerdict imageTests
+  unfolding imageVerdict imageTests formatTests
   refused-3 a b e = rw (a, b, e) refl
 
   pub records-judged : rightLength image ≡ true → rightChecks image ≡ true → rightLayout image ≡ true → recordsVerdict image ≡ imageVerdict image
-  unfolding imageVerdict imageTests recordsVerdict
+  unfolding imageVerdict imageTests formatTests recordsVerdict
   records-judged a b c = rw (a, b, c) refl
 
 -- a verdict that accepts, of tests one after the other
 passed : (b : Bool) (k : ℕ) (v : Verdict) → unless b k v ≡ accepted → (b ≡ true) × (v ≡ accepted)
 passed true k v e = (refl, e)
-passed false k v e = let z : _≡_ {A = ℕ} 0 1 = cc in absurd (omega arith)
+passed false k v e = clash (cc)
 
 pub accepted-image : (image : List ℕ) → imageVerdict image ≡ accepted → Accepted image (header image)
-unfolding imageVerdict imageTests
+unfolding imageVerdict imageTests formatTests
 accepted-image image e =
     let t1 = passed (rightLength image) 1 _ e in
     let t2 = passed (rightChecks image) 2 _ (t1 .1) in
@@ -79,23 +96,6 @@ accepted-image image e =
 pub laid-some : (image : List ℕ) (h : Header) → Laid image h → 512 ≤ length image
 unfolding blockTotal
 laid-some image h l = omega (arith, l .whole)
-
--- tests before others: their refusal is that of all, and where they accept the others decide
-pub tests-refused : (ts us : List (ℕ × Bool)) (k : ℕ) → firstFailing ts ≡ refused k → firstFailing (ts ++ us) ≡ refused k
-tests-refused [] us k f = let z : _≡_ {A = ℕ} 0 1 = cc in absurd (omega arith)
-tests-refused (t ∷ ts) us k f = go (t .1) (tests-refused ts us k) f
-  where
-    go : (b : Bool) → (firstFailing ts ≡ refused k → firstFailing (ts ++ us) ≡ refused k) → unless b (t .0) (firstFailing ts) ≡ refused k → unless b (t .0) (firstFailing (ts ++ us)) ≡ refused k
-    go true r f = r f
-    go false r f = f
-
-pub tests-accepted : (ts us : List (ℕ × Bool)) → firstFailing ts ≡ accepted → firstFailing (ts ++ us) ≡ firstFailing us
-tests-accepted [] us f = refl
-tests-accepted (t ∷ ts) us f = go (t .1) (tests-accepted ts us) f
-  where
-    go : (b : Bool) → (firstFailing ts ≡ accepted → firstFailing (ts ++ us) ≡ firstFailing us) → unless b (t .0) (firstFailing ts) ≡ accepted → unless b (t .0) (firstFailing (ts ++ us)) ≡ firstFailing us
-    go true r f = r f
-    go false r f = let z : _≡_ {A = ℕ} 0 1 = cc in absurd (omega arith)
 
 -- the entry view and its companion, by the verdict and by whether the entry is there
 module _ (image : List ℕ) (e : ℕ) where
@@ -131,12 +131,12 @@ module _ (image : List ℕ) (e : ℕ) where
 
   -- the two agree
   none-viewed : (v : Verdict) (k : ℕ) → reply v ≡ beside.FormReply.refused k → view v ≡ []
-  none-viewed Verdict.accepted k f = let z : _≡_ {A = ℕ} 0 1 = cc in absurd (omega arith)
+  none-viewed Verdict.accepted k f = clash (cc)
   none-viewed (Verdict.refused j) k f = refl
 
   letters-viewed : (v : Verdict) (n : ℕ) → reply v ≡ beside.FormReply.letters n → view v ≡ letters n
   letters-viewed Verdict.accepted n f = let m : formLength (entry image e) ≡ n = cc in ap letters m
-  letters-viewed (Verdict.refused j) n f = let z : _≡_ {A = ℕ} 0 1 = cc in absurd (omega arith)
+  letters-viewed (Verdict.refused j) n f = clash (cc)
 
   pub view-none : (k : ℕ) → formReply image e ≡ beside.FormReply.refused k → [] ≡ viewed image e
   unfolding viewed formReply
@@ -157,8 +157,8 @@ pub record Viewed (image : List ℕ) (e n : ℕ) : Type 0 where
 module _ (image : List ℕ) (e n : ℕ) where
   there-of : (v : Verdict) → imageVerdict image ≡ v → (b : Bool) → ltb e (header image .entries) ≡ b → formReply image e ≡ beside.FormReply.letters n → (v ≡ accepted) × (b ≡ true)
   there-of Verdict.accepted a true t f = (refl, refl)
-  there-of Verdict.accepted a false t f = let g = form-missing image e a (ltb-false e (header image .entries) t) in let z : _≡_ {A = ℕ} 0 1 = cc in absurd (omega arith)
-  there-of (Verdict.refused k) a b t f = let g = form-refused image e k a in let z : _≡_ {A = ℕ} 0 1 = cc in absurd (omega arith)
+  there-of Verdict.accepted a false t f = let g = form-missing image e a (ltb-false e (header image .entries) t) in clash (cc)
+  there-of (Verdict.refused k) a b t f = let g = form-refused image e k a in clash (cc)
 
   pub viewed-there : formReply image e ≡ beside.FormReply.letters n → Viewed image e n
   viewed-there f =

@@ -2,7 +2,7 @@
 use mathlib.Core.List.{List, [], _∷_}
 use Prim.Native.Nat.{ℕ}
 use Rattle.model.specs.Refusals as refusals
-use Rattle.model.specs.Refusals.{firstFailing, rightLetters, rightPairs, rightTables, rightColumns, rightEntries}
+use Rattle.model.specs.Refusals.{firstFailing, rightLetters, rightPairs, rightTables, rightColumns, rightEntries, rightForms}
 use Rattle.model.specs.Beside as beside
 use Rattle.grammar.specs.declared.Verdict.{Verdict}
 use Rattle.grammar.specs.declared.Verdict.the-variants as verdict
@@ -17,6 +17,6 @@ abbrev pub formReplyOf : FormReply → beside.FormReply
 formReplyOf (form.Letters n) = beside.FormReply.letters n
 formReplyOf (form.Refused k) = beside.FormReply.refused k
 
--- tests 4 to 8
+-- tests 4 to 8, and then 14
 unfoldable pub recordsVerdict : List ℕ → refusals.Verdict
-recordsVerdict image = firstFailing ((4, rightLetters image) ∷ (5, rightPairs image) ∷ (6, rightTables image) ∷ (7, rightColumns image) ∷ (8, rightEntries image) ∷ [])
+recordsVerdict image = firstFailing ((4, rightLetters image) ∷ (5, rightPairs image) ∷ (6, rightTables image) ∷ (7, rightColumns image) ∷ (8, rightEntries image) ∷ (14, rightForms image) ∷ [])

@@ -1,4 +1,4 @@
--- An image that passed tests 1 to 8, as facts for the code that reads it.
+-- An image that passed the image check, as facts for the code that reads it; no code needs what test 14 says.
 use Prim.Native.Nat.{ℕ}
 use mathlib.Core.Bool.{true}
 use mathlib.Core.Path.{_≡_}

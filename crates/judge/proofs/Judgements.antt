@@ -13,7 +13,7 @@ use Rattle.model.specs.Readings.{isLinked, pairingLength, isReading}
 use Rattle.model.specs.Query.{entryNumbers}
 use Rattle.model.specs.Refusals.{Verdict, accepted, refused, imageTests, imageVerdict, pathTests, pairingTests, judgeTests}
 use Rattle.model.specs.Beside.{Judgement, judgementAfter, judged}
-use Rattle.grammar.proofs.Verdicts.{tests-refused, tests-accepted}
+use Rattle.model.proofs.Tests.{tests-refused, tests-accepted}
 use Rattle.judge.specs.Answers.{judgedAccepted}
 
 module _ (image path pairing : List ℕ) where
@@ -45,13 +45,13 @@ module _ (image path pairing : List ℕ) where
 
   -- the image check comes first
   pub image-refused : (k : ℕ) → imageVerdict image ≡ refused k → Judgement.refused k ≡ judged image path pairing
-  unfolding judged judgeTests imageVerdict imageTests pairingTests pathTests
+  unfolding judged judgeTests imageVerdict
   image-refused k e =
       let here = isReading (grammarOf image) (record { path = entryNumbers path; pairing = pairing }) in
       sym (ap (λ (v : Verdict). judgementAfter v here) (tests-refused (imageTests image) (pathTests image path ++ pairingTests image pairing) k e))
 
   pub image-accepted : imageVerdict image ≡ accepted → judgedAccepted image path pairing ≡ judged image path pairing
-  unfolding judged judgeTests imageVerdict judgedAccepted imageTests pairingTests pathTests
+  unfolding judged judgeTests imageVerdict judgedAccepted
   image-accepted e =
       let here = isReading (grammarOf image) (record { path = entryNumbers path; pairing = pairing }) in
       sym (ap (λ (v : Verdict). judgementAfter v here) (tests-accepted (imageTests image) (pathTests image path ++ pairingTests image pairing) e))

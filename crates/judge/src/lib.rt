@@ -25,7 +25,7 @@ pub fn judge(image: &[u8], path: &[u8], pairing: &[u8]) -> Judgement
     }
 }
 
-// Tests 11 to 13 by number, and then the reading. The index is made where they hold.
+// Tests 11 to 13 in order, and then the reading. The index is made where they hold.
 fn judge_accepted(image: &[u8], h: Header, path: &[u8], pairing: &[u8]) -> Judgement
     requires { ⌜ Accepted (now image) (headerOf h) ⌝ }
     ensures { λ r. ⌜ judgementOf r ≡ judgedAccepted (now (image .entry)) (now (path .entry)) (now (pairing .entry)) ⌝ }

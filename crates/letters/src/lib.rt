@@ -14,6 +14,8 @@ ghost use Rattle.letters.specs.Sides.{pairOf};
 use image::Header;
 use image::kinds;
 
+pub mod marks;
+
 // A letter of the lexical level.
 pub struct Lexical(pub u8);
 

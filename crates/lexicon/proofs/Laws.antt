@@ -22,6 +22,7 @@ use Rattle.model.proofs.Lists.{below-has, drop-take, every-at, map-below}
 use Rattle.model.proofs.Rest.{every-getD}
 use Rattle.model.proofs.Blocks.{block-number}
 use Rattle.image.specs.Laid.{Laid}
+use Rattle.lexicon.specs.Entries.{isEntryOf}
 
 -- a range's test by the order
 module _ (low high n : ℕ) where
@@ -72,18 +73,18 @@ module _ (image : List ℕ) (at : ℕ) where
       ap (drop (1 + n)) (take-take 13 16 (drop at image) (omega arith) ∙ sym (drop-take at 13 image))
       ∙ drop-drop (1 + n) at (take (at + 13) image)
 
-  module _ (letters lexicons : ℕ) where
-    pub entry-long : 12 < byte image at → isEntry (take 16 (drop at image)) letters lexicons ≡ false
-    unfolding isEntry
+  module _ (may : ℕ → Bool) (lexicons : ℕ) where
+    pub entry-long : 12 < byte image at → isEntryOf may (take 16 (drop at image)) lexicons ≡ false
+    unfolding isEntryOf
     entry-long h = rw (lt-leb (formLength (take 16 (drop at image))) 12 (omega (arith, length-there))) refl
 
     -- by the form length n and the continuation m that were read
     pub entry-there : (n m : ℕ) → n ≡ byte image at → m ≡ byte image (at + 13) → n ≤ 12
-        → isEntry (take 16 (drop at image)) letters lexicons
-        ≡ (every (within 2 letters) (drop (at + 1) (take (at + (1 + n)) image))
+        → isEntryOf may (take 16 (drop at image)) lexicons
+        ≡ (every may (drop (at + 1) (take (at + (1 + n)) image))
         && every isZero (drop (at + (1 + n)) (take (at + 13) image))
         && (ltb m lexicons || eqb m 255))
-    unfolding isEntry formOf
+    unfolding isEntryOf formOf
     entry-there n m e q h =
         rw (length-there ∙ sym e, form-between n h, rest-there n, byte-there 13 (omega arith) ∙ sym q, le-leb n 12 h) refl
 

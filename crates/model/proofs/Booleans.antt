@@ -1,9 +1,9 @@
 -- Tests joined by &&, taken apart and put together; tests of numbers and lists.
-use Prim.Native.Nat.{ℕ, suc, _≤_, _<_}
+use Prim.Native.Nat.{ℕ, _≤_}
 use mathlib.Core.Bool.{Bool, true, false, _&&_, _||_, not}
 use mathlib.Core.Path.{_≡_, refl, ap, subst}
 use mathlib.Core.List.{List, [], _∷_}
-use lib.Dec.{T, leb, ltb, eqb, eqb→eq, eqb-refl, leb→le, le→leb}
+use lib.Dec.{T, leb, eqb, eqb→eq, eqb-refl, leb→le, le→leb}
 use Rattle.model.specs.Lists.{sameList, within}
 
 pub and-out : (a b : Bool) → T (a && b) → T a × T b
@@ -13,6 +13,24 @@ and-out false b h = absurd h
 pub and-in : (a b : Bool) → T a → T b → T (a && b)
 and-in true b s t = t
 and-in false b s t = absurd s
+
+pub and-assoc : (a b c : Bool) → (a && (b && c)) ≡ (a && b && c)
+and-assoc true b c = refl
+and-assoc false b c = refl
+
+pub and-exchange : (a b c d : Bool) → (a && b && (c && d)) ≡ (a && c && (b && d))
+and-exchange false b c d = refl
+and-exchange true true c d = refl
+and-exchange true false true d = refl
+and-exchange true false false d = refl
+
+pub left-or : (a b : Bool) → T a → T (a || b)
+left-or true b t = tt
+left-or false b t = absurd t
+
+pub right-or : (a b : Bool) → T b → T (a || b)
+right-or true b t = tt
+right-or false b t = t
 
 module _ (a b c : Bool) where
   pub out3 : T (a && b && c) → T a × T b × T c

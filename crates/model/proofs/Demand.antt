@@ -1,27 +1,25 @@
 -- Demand 3 is the same as two equations with definitions, one for the reply and one for every byte of the buffer. They go into contracts.
 -- Two idle listers are refuted from its own words.
-use Prim.Native.Nat.{ℕ, zero, suc, _+_, _*_, _/_, _<_, _≤_, min}
+use Prim.Native.Nat.{ℕ, zero, suc, _*_, _<_, _≤_}
 use mathlib.Core.Bool.{Bool, true, false, cond}
-use mathlib.Core.Path.{_≡_, refl, sym, ap, ap₂, _∙_, subst}
+use mathlib.Core.Path.{_≡_, refl, sym, ap, _∙_, subst}
 use mathlib.Core.Logic.{_↔_}
-use mathlib.Core.List.{List, [], _∷_, _++_, map}
-use lib.ListN.{length, getD, take, drop, length-take, length-map, List·getD-map}
+use mathlib.Core.List.{List, [], _∷_, map}
+use lib.ListN.{length, take, drop, length-take, length-map}
 use lib.Seq.{take-all, take-nil, getD-take, ext-getD}
-use lib.Dec.{T, leb}
+use lib.Dec.{leb}
 use borrow.Author.Tests.{leb-true, leb-false, le-leb, lt-leb}
 use native.Mathlib.Omega.{arith}
 use Rattle.model.specs.Lists.{below}
 use Rattle.model.specs.Readings.{Reading}
 use Rattle.model.specs.Query.{Request}
-use Rattle.model.specs.Refusals.{Verdict, firstFailing, imageTests, imageVerdict, ownTests, requestTests, unless}
+use Rattle.model.specs.Refusals.{Verdict, firstFailing, imageTests, imageVerdict, ownTests, requestTests}
 use Rattle.model.specs.Rows.{Reply, all, more, none, refused, rowBytes, rowCount, rowAt, filled, replyTo}
-use Rattle.model.specs.Calls.{replyAfter, rowsAfter, requestVerdict, allReadings, listingReply, listingRows, afterListing}
+use Rattle.model.specs.Calls.{requestVerdict, allReadings, listingReply, listingRows, afterListing}
 use Rattle.model.specs.Demand.{Demand3, ProperBeginning, IsMore, replyRows, rowsHandedBack, asRows}
 use Rattle.model.proofs.Lists.{length-map-below}
+use Rattle.model.proofs.Tests.{clash, tests-append}
 use Rattle.model.proofs.Rows.{filled-rows, filled-past, length-filled, rows-count, rows-in, filled-from}
-
-clash : {A : Type 0} → _≡_ {A = ℕ} 0 1 → A
-clash z = absurd (omega arith)
 
 take-rows : (n : ℕ) (l : List Reading) → take n (asRows l) ≡ asRows (take n l)
 take-rows zero l = refl
@@ -151,16 +149,6 @@ module _ (l : List Reading) (before after : List ℕ) where
   pub demand3-iff : (reply : Reply) → Demand3 l reply before after ↔ ((reply ≡ replyTo (rowCount before) l) × (after ≡ filled before (take (rowCount before) l)))
   unfolding Fixed
   demand3-iff reply = (fixed reply, λ e. rw (e .0, e .1) (demand-holds before l))
-
--- the tests of a call are passed when those of the image and its own are
-pub tests-append : (ts us : List (ℕ × Bool)) → (firstFailing (ts ++ us) ≡ Verdict.accepted) ↔ ((firstFailing ts ≡ Verdict.accepted) × (firstFailing us ≡ Verdict.accepted))
-tests-append [] us = (λ e. (refl, e), λ e. e .1)
-tests-append (t ∷ ts) us = go (t .1) (tests-append ts us)
-  where
-    go : (b : Bool) → (firstFailing (ts ++ us) ≡ Verdict.accepted) ↔ ((firstFailing ts ≡ Verdict.accepted) × (firstFailing us ≡ Verdict.accepted))
-        → (unless b (t .0) (firstFailing (ts ++ us)) ≡ Verdict.accepted) ↔ ((unless b (t .0) (firstFailing ts) ≡ Verdict.accepted) × (firstFailing us ≡ Verdict.accepted))
-    go true r = r
-    go false r = (λ e. clash (cc), λ e. let f = e .0 in clash (cc))
 
 -- "For every accepted grammar, admissible word, complete path and lent buffer, whatever it held": for every request, one proof
 module _ (image : List ℕ) (request : Request) (before after : List ℕ) where

@@ -1,10 +1,9 @@
 -- Document 01's table of refusals, its small example for each number and its neighbours; its other trials; and its traps.
-use Prim.Native.Nat.{ℕ, _+_, _*_}
-use mathlib.Core.Bool.{Bool, true, false}
+use Prim.Native.Nat.{ℕ, _+_}
 use mathlib.Core.Path.{_≡_, refl}
 use mathlib.Core.List.{List, [], _∷_, _++_, map}
-use lib.ListN.{length, take, drop, replicate, set}
-use Rattle.model.specs.Lists.{below, joined, flatMap, numberBytes}
+use lib.ListN.{length, take, replicate, set}
+use Rattle.model.specs.Lists.{below, flatMap, numberBytes}
 use Rattle.model.specs.Blocks.{sealedImage}
 use Rattle.model.specs.RuleTables.{columnsOf}
 use Rattle.model.specs.GrammarOf.{grammarOf}
@@ -60,7 +59,7 @@ unfolding computed
 refusal-7 = refl
 
 -- "the P pairs and the boundary pair together": columns t:t and any:any where t:t alone is listed; the boundary makes any:any the wider
-boundary-counted : let image = tcWith (2 ∷ 2 ∷ []) (2 ∷ 1 ∷ 2 ∷ 2 ∷ 255 ∷ 255 ∷ 1 ∷ 1 ∷ 1 ∷ []) in (columnsOf image 0 ≡ 0 ∷ 1 ∷ []) × (imageVerdict image ≡ Verdict.accepted)
+boundary-counted : let image = imageOf (35 ∷ 116 ∷ []) (2 ∷ 2 ∷ []) (2 ∷ 1 ∷ 2 ∷ 2 ∷ 255 ∷ 255 ∷ 1 ∷ 1 ∷ 1 ∷ []) ((entryBytes (2 ∷ []) 255 0 ∷ []) ∷ []) in (columnsOf image 0 ≡ 0 ∷ 1 ∷ []) × (imageVerdict image ≡ Verdict.accepted)
 unfolding computed
 boundary-counted = (refl, refl)
 
@@ -69,11 +68,18 @@ refusal-8 : (changed 2564 13 ∷ changed 2565 10 ∷ changed 2568 2 ∷ changed 
 unfolding computed
 refusal-8 = refl
 
--- two tests fail: the first by number, over the whole image, is told. (A table with two equal columns and a next state out of range fails 6 and 7.)
-first-by-number : (imageVerdict (take 511 (set luzImage 7 1)) ∷ imageVerdict (set luzImage 6 1) ∷ imageVerdict (sealedImage (set (set luzImage 6 1) 516 0)) ∷ imageVerdict (sealedImage (set (set luzImage 518 99) 1028 0)) ∷ imageVerdict (sealedImage (set (set luzImage 1028 0) 1542 10)) ∷ imageVerdict (tcWith (2 ∷ 2 ∷ []) (2 ∷ 1 ∷ 255 ∷ 255 ∷ 255 ∷ 255 ∷ 1 ∷ 2 ∷ 1 ∷ [])) ∷ imageVerdict (sealedImage (set (tcWith (2 ∷ 2 ∷ []) (2 ∷ 1 ∷ 255 ∷ 255 ∷ 255 ∷ 255 ∷ 1 ∷ 1 ∷ 1 ∷ [])) 2564 13)) ∷ [])
+-- z on surface sides alone: the first letter of entry 0, a letter of entry 2, once empty, and the last letter of the last entry. Pairs l:l and 0:s and an entry ls: s is only inserted.
+-- A twelfth letter; the 32nd entry, the first of the second block.
+refusal-14 : (changed 2565 8 ∷ imageVerdict (sealedImage (set (set luzImage 2596 1) 2597 8)) ∷ changed 2615 8 ∷ imageVerdict (imageOf luzLetters (5 ∷ 5 ∷ 0 ∷ 6 ∷ []) (1 ∷ 1 ∷ 255 ∷ 255 ∷ 1 ∷ 1 ∷ []) ((entryBytes (5 ∷ 6 ∷ []) 255 0 ∷ []) ∷ [])) ∷ imageVerdict (imageOf luzLetters luzPairs luzTable ((entryBytes (replicate 11 5 ++ (8 ∷ [])) 255 0 ∷ []) ∷ [])) ∷ imageVerdict (imageOf luzLetters luzPairs luzTable ((replicate 31 (entryBytes (5 ∷ []) 255 0) ++ (entryBytes (8 ∷ []) 255 0 ∷ [])) ∷ [])) ∷ [])
+    ≡ replicate 6 (Verdict.refused 14)
+unfolding computed
+refusal-14 = refl
+
+-- two tests fail: the first in order, over the whole image, is told. (A table with two equal columns and a next state out of range fails 6 and 7.)
+first-in-order : (imageVerdict (take 511 (set luzImage 7 1)) ∷ imageVerdict (set luzImage 6 1) ∷ imageVerdict (sealedImage (set (set luzImage 6 1) 516 0)) ∷ imageVerdict (sealedImage (set (set luzImage 518 99) 1028 0)) ∷ imageVerdict (sealedImage (set (set luzImage 1028 0) 1542 10)) ∷ imageVerdict (tcWith (2 ∷ 2 ∷ []) (2 ∷ 1 ∷ 255 ∷ 255 ∷ 255 ∷ 255 ∷ 1 ∷ 2 ∷ 1 ∷ [])) ∷ imageVerdict (sealedImage (set (tcWith (2 ∷ 2 ∷ []) (2 ∷ 1 ∷ 255 ∷ 255 ∷ 255 ∷ 255 ∷ 1 ∷ 1 ∷ 1 ∷ [])) 2564 13)) ∷ [])
     ≡ Verdict.refused 1 ∷ Verdict.refused 2 ∷ Verdict.refused 3 ∷ Verdict.refused 4 ∷ Verdict.refused 5 ∷ Verdict.refused 6 ∷ Verdict.refused 7 ∷ []
 unfolding computed
-first-by-number = refl
+first-in-order = refl
 
 -- sealing: 1 alone, and nothing written
 sealing : (sealingReply (7 ∷ []) ≡ Sealing.refused 1) × (afterSealing (7 ∷ []) ≡ 7 ∷ []) × (sealingReply (set luzImage 7 1) ≡ Sealing.sealed) × (afterSealing (set luzImage 510 77) ≡ luzImage)

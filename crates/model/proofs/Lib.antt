@@ -8,8 +8,10 @@ pub mod Steps
 pub mod Completes
 pub mod Listing
 pub mod Front
+pub mod Unspelled
 pub mod Converse
 pub mod Rest
+pub mod Tests
 pub mod Parts
 pub mod Blocks
 pub mod Rows

@@ -1,18 +1,18 @@
 -- Laws of the lists' vocabulary: numbers below a bound, places and parts of a list, tests over it, maps and joins.
-use Prim.Native.Nat.{ℕ, zero, suc, _+_, _<_, _≤_}
+use Prim.Native.Nat.{ℕ, zero, suc, _+_, _<_}
 use native.Mathlib.Nat.{zero-add, suc-add}
 use native.Mathlib.Numerals.{add-one}
-use mathlib.Core.Bool.{Bool, true, false, _&&_}
+use mathlib.Core.Bool.{Bool, true, false, _&&_, _||_}
 use mathlib.Core.Path.{_≡_, refl, sym, ap, ap₂, _∙_, subst}
 use mathlib.Core.Logic.{_⊎_, inl, inr}
-use mathlib.Core.List.{List, [], _∷_, _++_, map, append-assoc, append-nil, List·Memᴰ, List·Memᴰ·head, List·Memᴰ·tail, List·Memᴰ·not-nil, List·Memᴰ·append-cases, List·Memᴰ·eq-of-singleton, Memᴰ·append-left, Memᴰ·append-right, Memᴰ·cast}
+use mathlib.Core.List.{List, [], _∷_, _++_, map, append-assoc, append-nil, List·Memᴰ, List·Memᴰ·head, List·Memᴰ·tail, List·Memᴰ·not-nil, List·Memᴰ·append-cases, List·Memᴰ·eq-of-singleton, Memᴰ·append-left, Memᴰ·append-right}
 use lib.ListN.{length, getD, take, drop, length-append, List·getD-append}
 use lib.Seq.{getD-at, take-nil}
 use lib.Dec.{T}
 use native.Mathlib.Omega.{arith}
 use native.Mathlib.Decide.{ℕ-discrete}
-use Rattle.model.specs.Lists.{below, given, every, flatMap}
-use Rattle.model.proofs.Booleans.{and-out, and-in, left-false, right-false}
+use Rattle.model.specs.Lists.{below, given, every, any, flatMap}
+use Rattle.model.proofs.Booleans.{and-out, and-in, and-exchange, left-or, right-or, left-false, right-false}
 
 pub length-below : (n : ℕ) → length (below n) ≡ n
 length-below zero = refl
@@ -62,6 +62,10 @@ module _ {A : Type 0} where
       go true e = e
       go false e = refl
 
+  pub every-and : (f h : A → Bool) (xs : List A) → every (λ x. f x && h x) xs ≡ (every f xs && every h xs)
+  every-and f h [] = refl
+  every-and f h (x ∷ xs) = ap (λ (b : Bool). f x && h x && b) (every-and f h xs) ∙ and-exchange (f x) (h x) (every f xs) (every h xs)
+
   -- a test that follows from another at each member follows over the list
   pub every-map : (f h : A → Bool) (xs : List A) → ((x : A) → List·Memᴰ x xs → T (f x) → T (h x)) → T (every f xs) → T (every h xs)
   every-map f h [] i t = tt
@@ -93,6 +97,27 @@ module _ {A : Type 0} where
   pub every-in : (f : A → Bool) (xs : List A) → ((x : A) → List·Memᴰ x xs → T (f x)) → T (every f xs)
   every-in f [] i = tt
   every-in f (x ∷ xs) i = and-in (f x) (every f xs) (i x (List·Memᴰ·head refl)) (every-in f xs (λ y m. i y (List·Memᴰ·tail m)))
+
+  -- a list that fails has a member that fails
+  pub every-miss : (f : A → Bool) (xs : List A) → every f xs ≡ false → (x : A) × List·Memᴰ x xs × (f x ≡ false)
+  every-miss f [] e = absurd (subst T e tt)
+  every-miss f (x ∷ xs) e = go (f x) refl e (every-miss f xs)
+    where
+      go : (b : Bool) → f x ≡ b → (b && every f xs) ≡ false → (every f xs ≡ false → (y : A) × List·Memᴰ y xs × (f y ≡ false)) → (y : A) × List·Memᴰ y (x ∷ xs) × (f y ≡ false)
+      go true h k r = let t = r k in (t .0, List·Memᴰ·tail (t .1), t .2)
+      go false h k r = (x, List·Memᴰ·head refl, h)
+
+  pub any-from : (f : A → Bool) (xs : List A) → T (any f xs) → (x : A) × List·Memᴰ x xs × T (f x)
+  any-from f [] t = absurd t
+  any-from f (x ∷ xs) t = go (f x) refl t (any-from f xs)
+    where
+      go : (b : Bool) → f x ≡ b → T (b || any f xs) → (T (any f xs) → (y : A) × List·Memᴰ y xs × T (f y)) → (y : A) × List·Memᴰ y (x ∷ xs) × T (f y)
+      go true h k r = (x, List·Memᴰ·head refl, rw h tt)
+      go false h k r = let u = r k in (u .0, List·Memᴰ·tail (u .1), u .2)
+
+  pub any-has : (f : A → Bool) (xs : List A) {x : A} → List·Memᴰ x xs → T (f x) → T (any f xs)
+  any-has f (y ∷ xs) (List·Memᴰ·head e) t = left-or (f y) (any f xs) (subst (λ z. T (f z)) e t)
+  any-has f (y ∷ xs) (List·Memᴰ·tail m) t = right-or (f y) (any f xs) (any-has f xs m t)
 
 module _ {A B : Type 0} where
   pub map-from : (f : A → B) (xs : List A) {b : B} → List·Memᴰ b (map f xs) → (x : A) × List·Memᴰ x xs × (b ≡ f x)

@@ -38,4 +38,13 @@ starred =
       dead-front-analysed = refl;
       dead-front-generated = refl;
       dead-front-judged = refl;
+      slip-checked = refl;
+      slip-analysed = refl;
+      slip-generated = refl;
+      slip-judged = refl;
+      slip-form = refl;
+      slip-viewed = refl;
+      slip-sealed = (refl, refl);
+      slip-bad-word = refl;
+      slip-and-8 = refl;
     }

@@ -1,7 +1,7 @@
 -- Document 01 as definitions; a change that document 02 makes is quoted where it is made. Its headings, in its order, and the files that stand for them:
 -- "Blocks": Blocks. "Letters, pairs, rule tables": RuleTables. "Lexicon": Lexicon. "Readings and step order": Readings.
 -- "Analysis, then generation": Query, Walk and Tree (the list of all readings), Rows, Calls; demand 3: Demand.
--- "Beside the listings": Beside, Lines. "When a call is turned down": Refusals. "The luz grammar and other trials": Samples.
+-- "Beside the listings": Beside, Lines. "When a call is turned down": Refusals, Unspelled. "The luz grammar and other trials": Samples.
 -- Grammar is what the image of every form stands for, GrammarOf how an image of form 1 does; Lists is the vocabulary.
 pub mod Lists
 pub mod Blocks
@@ -14,6 +14,7 @@ pub mod Query
 pub mod Walk
 pub mod Tree
 pub mod Refusals
+pub mod Unspelled
 pub mod Rows
 pub mod Calls
 pub mod Demand

@@ -1,13 +1,14 @@
--- Document 01, "When a call is turned down": the tests 1 to 13, and the first by number that fails.
+-- Document 01, "When a call is turned down", and the answer that document 02, (b), adds: the tests 1 to 14, and the first that fails, in the order in which
+-- they are made.
 use Prim.Native.Nat.{ℕ, _%_}
 use mathlib.Core.Bool.{Bool, true, false, _&&_}
 use mathlib.Core.List.{List, [], _∷_, _++_, map}
 use lib.ListN.{length}
 use lib.Dec.{ltb, eqb}
-use Rattle.model.specs.Lists.{below, every, distinct, sum, within}
+use Rattle.model.specs.Lists.{below, every, any, distinct, sum, within}
 use Rattle.model.specs.Blocks.{block, blockCount, blockNumber, blockCheck, checkOf, header, withinLimits, blockTotal, laidOut}
 use Rattle.model.specs.RuleTables.{codePoints, isCodePoint, pairs, isPair, sameSides, table, isTable, columnCount, columnsOf}
-use Rattle.model.specs.Lexicon.{entryCount, entry, isEntry, pathLength}
+use Rattle.model.specs.Lexicon.{entryCount, entry, formOf, isEntry, pathLength}
 use Rattle.model.specs.GrammarOf.{grammarOf}
 use Rattle.model.specs.Readings.{isLinked, wordLength, pairingLength}
 use Rattle.model.specs.Query.{Request, analysis, generation, entryNumbers}
@@ -20,7 +21,7 @@ abbrev pub unless : Bool → ℕ → Verdict → Verdict
 unless true k v = v
 unless false k v = refused k
 
--- "Tested by number": the first of the numbered tests that fails
+-- "Tested by number", but for 14, "tested after 8 and before 9": the first that fails, in the order of the list
 abbrev pub firstFailing : List (ℕ × Bool) → Verdict
 firstFailing [] = accepted
 firstFailing (t ∷ ts) = unless (t .1) (t .0) (firstFailing ts)
@@ -66,10 +67,22 @@ module _ (image : List ℕ) where
       eqb (sum (map (entryCount image) (below (h .lexicons)))) (h .entries)
       && every (λ e. isEntry (entry image e) (h .letters) (h .lexicons)) (below (h .entries))
 
-  unfoldable pub imageTests : List (ℕ × Bool)
-  imageTests = (1, rightLength) ∷ (2, rightChecks) ∷ (3, rightLayout) ∷ (4, rightLetters) ∷ (5, rightPairs) ∷ (6, rightTables) ∷ (7, rightColumns) ∷ (8, rightEntries) ∷ []
+  -- a letter that some pair has on its lexical side
+  unfoldable pub isLexical : ℕ → Bool
+  isLexical a = any (λ p. eqb (p .lexical) a) (pairs image)
 
-  -- "the image check, which replies accepted otherwise, 1-8"
+  -- 14, "a form letter that is the lexical side of no pair"
+  unfoldable pub rightForms : Bool
+  rightForms = every (λ e. every isLexical (formOf (entry image e))) (below (header image .entries))
+
+  unfoldable pub formatTests : List (ℕ × Bool)
+  formatTests = (1, rightLength) ∷ (2, rightChecks) ∷ (3, rightLayout) ∷ (4, rightLetters) ∷ (5, rightPairs) ∷ (6, rightTables) ∷ (7, rightColumns) ∷ (8, rightEntries) ∷ []
+
+  -- "Such an image is to be refused by every call but sealing .. tested after 8 and before 9": each of those calls begins with these
+  unfoldable pub imageTests : List (ℕ × Bool)
+  imageTests = formatTests ++ ((14, rightForms) ∷ [])
+
+  -- "the image check, which replies accepted otherwise, 1-8", and 14
   unfoldable pub imageVerdict : Verdict
   imageVerdict = firstFailing imageTests
 
@@ -87,7 +100,7 @@ module _ (image : List ℕ) where
   unfoldable pub pairingTests : List ℕ → List (ℕ × Bool)
   pairingTests pairing = (13, pairingLength pairing && every (λ p. ltb p (header image .pairs)) pairing) ∷ []
 
-  -- "every other call 1-8 and then its own"
+  -- "every other call 1-8", and 14, "and then its own"
   unfoldable pub ownTests : Request → List (ℕ × Bool)
   ownTests (analysis word) = wordTests word
   ownTests (generation path) = pathTests path
@@ -97,7 +110,7 @@ module _ (image : List ℕ) where
 
   -- "the judge 11, 12, 13"
   unfoldable pub judgeTests : List ℕ → List ℕ → List (ℕ × Bool)
-  judgeTests path pairing = imageTests ++ pathTests path ++ pairingTests pairing
+  judgeTests path pairing = imageTests ++ (pathTests path ++ pairingTests pairing)
 
   -- "The view uses 12 for a missing entry only"
   unfoldable pub viewTests : ℕ → List (ℕ × Bool)

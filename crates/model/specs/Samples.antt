@@ -1,7 +1,7 @@
 -- Document 01, "The luz grammar and other trials": the images that the trials are about, as bytes.
 use Prim.Native.Nat.{ℕ, _+_, _-_, _/_}
 use mathlib.Core.List.{List, [], _∷_, _++_, map}
-use lib.ListN.{length, replicate}
+use lib.ListN.{length, replicate, set}
 use Rattle.model.specs.Lists.{below, part, joined, flatMap, numberBytes}
 use Rattle.model.specs.Blocks.{sealedImage}
 
@@ -69,3 +69,7 @@ frontImage = frontWith (3 ∷ 2 ∷ 1 ∷ 1 ∷ 2 ∷ 2 ∷ 255 ∷ 255 ∷ 1 �
 -- a rule that fails on the boundary at the front, and would let every end pass. Columns #:#, any:any; rows 1: 0 2; 2: 2 2; both final.
 unfoldable pub deadImage : List ℕ
 deadImage = frontWith (2 ∷ 2 ∷ 1 ∷ 1 ∷ 255 ∷ 255 ∷ 1 ∷ 1 ∷ 0 ∷ 2 ∷ 2 ∷ 2 ∷ [])
+
+-- document 02, (b): "A typing slip left a letter in an entry which no pair has on its lexical side." Byte 2567 is the third letter of entry 0: luz for luZ.
+unfoldable pub slipImage : List ℕ
+slipImage = sealedImage (set luzImage 2567 8)

@@ -1,19 +1,19 @@
 -- Document 01, "The luz grammar and other trials": the starred trials, and those of document 02, as rows of one theorem. Its proof is `starred` in
 -- proofs/Trials.antt.
 use Prim.Native.Nat.{ℕ, _*_}
-use mathlib.Core.Bool.{Bool, true, false}
+use mathlib.Core.Bool.{true, false}
 use mathlib.Core.Path.{_≡_}
 use mathlib.Core.List.{List, [], _∷_, _++_}
-use lib.ListN.{length, replicate}
-use Rattle.model.specs.Blocks.{checkOf}
+use lib.ListN.{replicate, set}
+use Rattle.model.specs.Blocks.{checkOf, sealedImage}
 use Rattle.model.specs.GrammarOf.{grammarOf}
 use Rattle.model.specs.Readings.{Reading, steps, word, passes}
 use Rattle.model.specs.Query.{analysis, generation}
 use Rattle.model.specs.Refusals.{Verdict, imageVerdict}
 use Rattle.model.specs.Rows.{Reply, replyNumber}
-use Rattle.model.specs.Calls.{allReadings, listingReply, afterListing}
-use Rattle.model.specs.Beside.{Judgement, judged}
-use Rattle.model.specs.Samples.{luzImage, tcImage, frontImage, deadImage}
+use Rattle.model.specs.Calls.{Sealing, sealingReply, afterSealing, allReadings, listingReply, afterListing}
+use Rattle.model.specs.Beside.{Judgement, judged, FormReply, formReply, viewed}
+use Rattle.model.specs.Samples.{luzImage, tcImage, frontImage, deadImage, slipImage}
 
 abbrev pub luz : List ℕ
 luz = 5 ∷ 7 ∷ 8 ∷ []
@@ -83,3 +83,13 @@ pub record Starred : Type 0 where
   pub dead-front-analysed : listingReply deadImage (analysis (3 ∷ 2 ∷ [])) 64 ≡ Reply.none
   pub dead-front-generated : listingReply deadImage (generation (1 ∷ 0 ∷ [])) 64 ≡ Reply.none
   pub dead-front-judged : judged deadImage (1 ∷ 0 ∷ []) (1 ∷ 0 ∷ []) ≡ Judgement.fails
+  -- document 02, (b): "Such an image is to be refused by every call but sealing." 14 comes before a call's own refusals, and after 8 (form length 13)
+  pub slip-checked : imageVerdict slipImage ≡ Verdict.refused 14
+  pub slip-analysed : listingReply slipImage (analysis luc) 64 ≡ Reply.refused 14
+  pub slip-generated : listingReply slipImage (generation (1 ∷ 0 ∷ 2 ∷ 0 ∷ [])) 64 ≡ Reply.refused 14
+  pub slip-judged : judged slipImage (1 ∷ 0 ∷ 2 ∷ 0 ∷ []) (3 ∷ 5 ∷ 1 ∷ []) ≡ Judgement.refused 14
+  pub slip-form : formReply slipImage 1 ≡ FormReply.refused 14
+  pub slip-viewed : viewed slipImage 1 ≡ []
+  pub slip-sealed : (sealingReply slipImage ≡ Sealing.sealed) × (afterSealing slipImage ≡ slipImage)
+  pub slip-bad-word : listingReply slipImage (analysis (1 ∷ [])) 64 ≡ Reply.refused 14
+  pub slip-and-8 : imageVerdict (sealedImage (set slipImage 2580 13)) ≡ Verdict.refused 8

@@ -1,5 +1,5 @@
 // Document 01's small example for each of refusals 1 to 8, made from the luz image, and the verdict on each. Those of 6 and 7 are about another table;
-// the like is done to luz's.
+// the like is done to luz's. Then the typing slip of refusal 14.
 ghost use Prim.Native.Nat.{_<_};
 
 fn changed(image: [u8; 3072], at: usize, value: u8) -> [u8; 3072]
@@ -53,4 +53,6 @@ fn main() {
     print_sealed(changed(two, 1549, 255));
     // form length 13
     print_sealed(changed(image, 2564, 13));
+    // luz for luZ
+    print_sealed(changed(image, 2567, 8));
 }

@@ -1,13 +1,11 @@
--- `check` meets its contract: the first of tests 1 to 8 that fails.
+-- `check` meets its contract: the first that fails of tests 1 to 8 and then 14.
 use borrow.Author.Needs.{needs}
 use borrow.Author.Tests.{not-true, not-false}
-use mathlib.Core.Bool.{true, false}
+use mathlib.Core.Bool.{true}
 use mathlib.Core.Path.{_≡_, sym, subst, _∙_}
-use Rattle.model.specs.Blocks.{Header}
 use Rattle.model.specs.Refusals.{rightLength, rightChecks, rightLayout}
 use Rattle.model.proofs.Sealing.{right-some}
 use Rattle.image.specs.Laid.{Laid}
-use Rattle.image.specs.Header.{headerOf}
 use Rattle.layout.proofs.Laid.{laid}
 use Rattle.grammar.proofs.Verdicts.{refused-1, refused-2, refused-3, records-judged}
 use Rattle.grammar.proofs.check.Statement.{statement}

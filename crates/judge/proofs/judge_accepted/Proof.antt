@@ -1,4 +1,4 @@
--- `judge_accepted` meets its contract: tests 11 to 13 by number, and then the reading.
+-- `judge_accepted` meets its contract: tests 11 to 13 in order, and then the reading.
 use borrow.Author.Needs.{needs}
 use borrow.Author.Tests.{not-true, not-false}
 use mathlib.Core.Bool.{true, false}

@@ -5,6 +5,7 @@ use native.Mathlib.Omega.{arith}
 use mathlib.Core.Path.{refl, sym, _∙_}
 use Prim.Native.Nat.{_+_}
 use Rattle.model.specs.Lists.{byte}
+use Rattle.letters.specs.Marks.{isMarked}
 use Rattle.lexicon.proofs.Laws.{entry-long, entry-there}
 use Rattle.lexicon.proofs.is_entry.Statement.{statement}
 use Rattle.lexicon.proofs.is_entry.Tie as tie
@@ -15,7 +16,7 @@ byte-at-requires c κs = search needs
 returns : tie.Need-returns
 returns c =
     let a = c .before .before .before .args in
-    sym (entry-long (a .image .now) (a .at) (a .letters) (a .lexicons) (omega (arith, c .before .byte-at .ensures .0)))
+    sym (entry-long (a .image .now) (a .at) (isMarked (a .may .now)) (a .lexicons) (omega (arith, c .before .byte-at .ensures .0)))
 
 add-form-end : tie.Need-add-form-end
 add-form-end c = search needs
@@ -23,18 +24,18 @@ add-form-end c = search needs
 add-form-end-2 : tie.Need-add-form-end-2
 add-form-end-2 c = search needs
 
-add-are-letters : tie.Need-add-are-letters
-add-are-letters c = search needs
+add-are-marked : tie.Need-add-are-marked
+add-are-marked c = search needs
 
-are-letters-requires : tie.Need-are-letters-requires
-are-letters-requires c κs = search needs
+are-marked-requires : tie.Need-are-marked-requires
+are-marked-requires c κs = search needs
 
 returns-2 : tie.Need-returns-2
 returns-2 c =
     let b = c .before .before .before in
     let a = b .before .before .args in
-    let e = entry-there (a .image .now) (a .at) (a .letters) (a .lexicons) (b .byte-at .result) (byte (a .image .now) (a .at + 13)) (b .byte-at .ensures .0) refl (omega arith) in
-    let letters = sym (c .before .are-letters .ensures) ∙ not-true (c .before .are-letters .result) (c .if2 .taken) in
+    let e = entry-there (a .image .now) (a .at) (isMarked (a .may .now)) (a .lexicons) (b .byte-at .result) (byte (a .image .now) (a .at + 13)) (b .byte-at .ensures .0) refl (omega arith) in
+    let letters = sym (c .before .are-marked .ensures) ∙ not-true (c .before .are-marked .result) (c .if2 .taken) in
     rw (e, letters) refl
 
 add-are-zeros : tie.Need-add-are-zeros
@@ -47,8 +48,8 @@ returns-3 : tie.Need-returns-3
 returns-3 c =
     let b = c .before .before .before .before .before in
     let a = b .before .before .args in
-    let e = entry-there (a .image .now) (a .at) (a .letters) (a .lexicons) (b .byte-at .result) (byte (a .image .now) (a .at + 13)) (b .byte-at .ensures .0) refl (omega arith) in
-    let l = c .before .before .before .are-letters in
+    let e = entry-there (a .image .now) (a .at) (isMarked (a .may .now)) (a .lexicons) (b .byte-at .result) (byte (a .image .now) (a .at + 13)) (b .byte-at .ensures .0) refl (omega arith) in
+    let l = c .before .before .before .are-marked in
     let letters = sym (l .ensures) ∙ not-false (l .result) (c .before .before .if2 .left) in
     let zeros = sym (c .before .are-zeros .ensures) ∙ not-true (c .before .are-zeros .result) (c .if3 .taken) in
     rw (e, letters, zeros) refl
@@ -66,8 +67,8 @@ returns-4 : tie.Need-returns-4
 returns-4 c =
     let b = c .before .before .before .before .before .before .before in
     let a = b .before .before .args in
-    let e = entry-there (a .image .now) (a .at) (a .letters) (a .lexicons) (b .byte-at .result) (c .before .byte-at2 .result) (b .byte-at .ensures .0) (c .before .byte-at2 .ensures .0) (omega arith) in
-    let l = c .before .before .before .before .before .are-letters in
+    let e = entry-there (a .image .now) (a .at) (isMarked (a .may .now)) (a .lexicons) (b .byte-at .result) (c .before .byte-at2 .result) (b .byte-at .ensures .0) (c .before .byte-at2 .ensures .0) (omega arith) in
+    let l = c .before .before .before .before .before .are-marked in
     let z = c .before .before .before .are-zeros in
     let letters = sym (l .ensures) ∙ not-false (l .result) (c .before .before .before .before .if2 .left) in
     let zeros = sym (z .ensures) ∙ not-false (z .result) (c .before .before .if3 .left) in
@@ -81,8 +82,8 @@ is-entry-spec =
     returns
     add-form-end
     add-form-end-2
-    add-are-letters
-    are-letters-requires
+    add-are-marked
+    are-marked-requires
     returns-2
     add-are-zeros
     are-zeros-requires

@@ -1,32 +1,26 @@
--- `right_entries` meets its contract: the counts' sum, then every entry.
+-- `right_entries` meets its contract: the letters from 2 to L are marked.
 use borrow.Author.Needs.{needs}
-use borrow.Author.Tests.{eq-eqb, ne-eqb}
-use native.Mathlib.Omega.{arith}
-use mathlib.Core.Path.{refl}
-use Rattle.model.specs.Lexicon.{firstEntry}
+use mathlib.Core.Path.{ap, _∙_}
+use mathlib.Core.List.{List}
+use Prim.Native.Nat.{ℕ}
 use Rattle.image.specs.Header.{headerOf}
-use Rattle.lexicon.proofs.Laws.{right-is}
+use Rattle.letters.specs.Marks.{isMarked}
+use Rattle.lexicon.specs.Entries.{isLexiconOf}
+use Rattle.lexicon.proofs.Marked.{letters-lexicon}
 use Rattle.lexicon.proofs.right_entries.Statement.{statement}
 use Rattle.lexicon.proofs.right_entries.Tie as tie
 
-first-entry-requires : tie.Need-first-entry-requires
-first-entry-requires c κs = search needs
+letter-marks-requires : tie.Need-letter-marks-requires
+letter-marks-requires c κs = search needs
+
+is-lexicon-requires : tie.Need-is-lexicon-requires
+is-lexicon-requires c κs = search needs
 
 returns : tie.Need-returns
 returns c =
-    let a = c .before .before .before in
-    let f = c .before .first-entry in
-    rw (right-is (a .args .image .now) (headerOf (a .args .h)) (a .pre), ne-eqb (firstEntry (a .args .image .now) (a .args .h .lexicons)) (a .args .h .entries) (omega (arith, f .ensures .0))) refl
-
-are-entries-requires : tie.Need-are-entries-requires
-are-entries-requires c κs = search needs
-
-returns-2 : tie.Need-returns-2
-returns-2 c =
     let b = c .before .before in
     let a = b .before .before in
-    rw (right-is (a .args .image .now) (headerOf (a .args .h)) (a .pre), eq-eqb (firstEntry (a .args .image .now) (a .args .h .lexicons)) (a .args .h .entries) (omega (arith, b .first-entry .ensures .0))) (c .are-entries .ensures)
+    c .is-lexicon .ensures ∙ ap (λ (m : List ℕ). isLexiconOf (isMarked m) (a .args .image .now) (headerOf (a .args .h))) (b .letter-marks .ensures) ∙ letters-lexicon (a .args .image .now) (headerOf (a .args .h)) (a .pre)
 
 pub right-entries-spec : {M : Type 1} → statement M
-right-entries-spec =
-    tie.close (tie.spec first-entry-requires returns are-entries-requires returns-2)
+right-entries-spec = tie.close (tie.spec letter-marks-requires is-lexicon-requires returns)
