@@ -7,8 +7,8 @@ use crate::pairs::{self, Pair};
 use crate::rules::{self, Rule};
 use crate::{lines, sections};
 
-/// Only `read_grammar` makes one, so every grammar keeps the limits and has one narrowest column for
-/// each pair in each rule.
+/// Only `read_grammar` makes one, so every grammar keeps the limits, has one narrowest column for each
+/// pair in each rule, and has each letter of a form on the lexical side of a pair.
 #[derive(Debug)]
 pub struct Grammar {
     pub(crate) alphabet: Alphabet,
@@ -26,6 +26,6 @@ pub fn read_grammar(bytes: &[u8]) -> Result<Grammar, Faults> {
     let pairs = pairs::read(&sections.pairs, &alphabet)?;
     let mut faults = Faults::default();
     let rules = rules::read(&sections.rules, &alphabet, &pairs, &mut faults);
-    let lexicons = lexicons::read(&sections.lexicons, &alphabet, &mut faults);
+    let lexicons = lexicons::read(&sections.lexicons, &alphabet, &pairs, &mut faults);
     faults.or(Grammar { alphabet, pairs, rules, lexicons })
 }

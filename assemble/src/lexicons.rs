@@ -4,6 +4,7 @@ use crate::alphabet::{Alphabet, ANY, BOUNDARY, NULL};
 use crate::fault::{Fault, Faults};
 use crate::limits;
 use crate::lines::{name, number, Line, Word};
+use crate::pairs::Pair;
 use crate::sections::{Keyword, Section};
 use std::collections::HashMap;
 
@@ -33,7 +34,7 @@ pub enum Continuation {
 /// Lexicon numbers by name.
 type Numbers<'a> = HashMap<&'a str, u8>;
 
-pub fn read(sections: &[Section], alphabet: &Alphabet, faults: &mut Faults) -> Vec<Lexicon> {
+pub fn read(sections: &[Section], alphabet: &Alphabet, pairs: &[Pair], faults: &mut Faults) -> Vec<Lexicon> {
     if faults.keep(check_counts(sections)).is_none() {
         return Vec::new();
     }
@@ -42,7 +43,7 @@ pub fn read(sections: &[Section], alphabet: &Alphabet, faults: &mut Faults) -> V
     let mut lexicons = Vec::new();
     for section in sections {
         let numbered = section.body.iter().zip(entry_numbers.by_ref());
-        let entries = numbered.map(|(line, number)| read_entry(line, number, alphabet, &numbers));
+        let entries = numbered.map(|(line, number)| read_entry(line, number, alphabet, pairs, &numbers));
         lexicons.push(Lexicon {
             name: read_name(section, alphabet).unwrap_or_default().to_string(),
             entries: entries.filter_map(|entry| faults.keep(entry)).collect(),
@@ -98,7 +99,13 @@ fn is_alone(text: &str, side: u8, alphabet: &Alphabet) -> bool {
     characters.next() == Some(alphabet.character(side)) && characters.next().is_none()
 }
 
-fn read_entry(line: &Line, number: u16, alphabet: &Alphabet, numbers: &Numbers) -> Result<Entry, Fault> {
+fn read_entry(
+    line: &Line,
+    number: u16,
+    alphabet: &Alphabet,
+    pairs: &[Pair],
+    numbers: &Numbers,
+) -> Result<Entry, Fault> {
     let at_fault = |what: String| Fault::new(line.number, what);
     let (form, continuation, gloss) = match line.words[..] {
         [Word::Bare(form), Word::Bare(continuation)] => (form, continuation, Word::Quoted("")),
@@ -110,14 +117,14 @@ fn read_entry(line: &Line, number: u16, alphabet: &Alphabet, numbers: &Numbers) 
     };
     let (gloss, gloss_text) = read_gloss(gloss, number).map_err(at_fault)?;
     Ok(Entry {
-        form: read_form(form, alphabet).map_err(at_fault)?,
+        form: read_form(form, alphabet, pairs).map_err(at_fault)?,
         continuation: read_continuation(continuation, alphabet, numbers).map_err(at_fault)?,
         gloss,
         gloss_text: gloss_text.to_string(),
     })
 }
 
-fn read_form(form: &str, alphabet: &Alphabet) -> Result<Vec<u8>, String> {
+fn read_form(form: &str, alphabet: &Alphabet, pairs: &[Pair]) -> Result<Vec<u8>, String> {
     if is_alone(form, NULL, alphabet) {
         return Ok(Vec::new());
     }
@@ -125,6 +132,9 @@ fn read_form(form: &str, alphabet: &Alphabet) -> Result<Vec<u8>, String> {
     if !limits::FORM.contains(&letters.len()) {
         let (found, most) = (letters.len(), limits::FORM.end());
         return Err(format!("form {form} has {found} letters; allowed are {most}"));
+    }
+    for &letter in &letters {
+        check_lexical(letter, alphabet, pairs).map_err(|what| format!("form {form}: {what}"))?;
     }
     Ok(letters)
 }
@@ -136,6 +146,19 @@ fn read_form_letter(character: char, alphabet: &Alphabet) -> Result<u8, String> 
         Some(BOUNDARY) => Err(format!("{character} is the boundary, which cannot stand in a form")),
         Some(ANY) => Err(format!("{character} stands for any letter, which only a rule's column may")),
         Some(letter) => Ok(letter),
+    }
+}
+
+/// An entry with a letter that no pair has on its lexical side can never be spelled. A surface letter may
+/// have been written for a lexical one, so the fault shows a pair that has it on its surface side.
+fn check_lexical(letter: u8, alphabet: &Alphabet, pairs: &[Pair]) -> Result<(), String> {
+    if pairs.iter().any(|pair| pair.lexical == letter) {
+        return Ok(());
+    }
+    let what = format!("no pair has {} on its lexical side", name(alphabet.character(letter)));
+    match pairs.iter().find(|pair| pair.surface == letter) {
+        Some(pair) => Err(format!("{what}; it is a surface side only, as in {}", pair.show(alphabet))),
+        None => Err(what),
     }
 }
 

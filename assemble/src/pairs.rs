@@ -12,7 +12,7 @@ pub struct Pair {
     pub surface: u8,
 }
 
-/// The pair that ends every pairing; it is not listed.
+/// The pair that every rule is fed before and after a pairing; it is not listed.
 pub const BOUNDARY_PAIR: Pair = Pair { lexical: BOUNDARY, surface: BOUNDARY };
 
 impl Pair {

@@ -117,6 +117,7 @@ fn of_sections() {
                 22,
                 &format!("RULE after LEXICON; {order}"),
             ),
+            ("LEXICON Number", "PAIRS z:z\nLEXICON Number", 22, &format!("PAIRS after LEXICON; {order}")),
             ("END\n", "", 24, "no END after this; the text may have been cut off"),
             ("END\n", "END\n; a comment\n  +s #\n", 27, "only comments may follow END"),
             ("END\n", "END\nEND\n", 26, "only comments may follow END"),
@@ -287,6 +288,41 @@ fn of_entries() {
             ("luc Number 7", "luc Number -1", 21, &format!("gloss -1: {gloss}")),
         ],
     );
+}
+
+#[test]
+fn of_letters_that_no_pair_has_on_its_lexical_side() {
+    let no_z = "no pair has z (U+007A) on its lexical side; it is a surface side only, as in Z:z";
+    let no_e = "form +es: no pair has e (U+0065) on its lexical side";
+    check(
+        "faults-spelling",
+        &[
+            ("luZ Number", "luz Number", 20, &format!("form luz: {no_z}")),
+            ("luZ Number", "zuz Number", 20, &format!("form zuz: {no_z}")),
+            ("+es #", "+ez #", 24, &format!("form +ez: {no_z}")),
+            // The rule keeps its column e:e, which is no pair.
+            ("c:c e:e", "c:c", 24, no_e),
+            ("c:c e:e", "c:c 0:e", 24, &format!("{no_e}; it is a surface side only, as in 0:e")),
+            ("c:c e:e", "c:c Z:e s:e", 24, &format!("{no_e}; it is a surface side only, as in Z:e")),
+            // A form is read whole before its pairs are looked for, and its continuation comes after.
+            ("luZ Number", "zk Number", 20, "k (U+006B) is no letter of the alphabet"),
+            ("luZ Number", "zluZluZluZluZ Number", 20, "form zluZluZluZluZ has 13 letters; allowed are 12"),
+            ("luZ Number", "luz Plural", 20, &format!("form luz: {no_z}")),
+        ],
+    );
+}
+
+#[test]
+fn every_entry_with_such_a_letter_is_told() {
+    let text = edited("l:l s:s", "s:s").replace("+es #", "+ez #").replace("4: 3 2", "4: 9 2");
+    let ran = refused("faults-every-entry", text.as_bytes());
+    let stderr = "\
+grammar.txt:17: a next state is a number from 0 to 5
+grammar.txt:20: form luZ: no pair has l (U+006C) on its lexical side
+grammar.txt:21: form luc: no pair has l (U+006C) on its lexical side
+grammar.txt:24: form +ez: no pair has z (U+007A) on its lexical side; it is a surface side only, as in Z:z
+";
+    assert_eq!(ran, Ran { code: Some(1), stdout: String::new(), stderr: stderr.to_string() });
 }
 
 #[test]

@@ -78,12 +78,19 @@ fn a_grammar_over_the_length_that_is_read() {
     image_stays(&folder, &["long.txt"]);
 }
 
+/// k is no letter, and z is the lexical side of no pair.
 #[test]
-fn a_faulty_grammar_lists_nothing() {
+fn a_faulty_grammar_lists_and_writes_nothing() {
     let folder = luz_folder("files-faulty");
-    fs::write(folder.join("faulty.txt"), sample("luz").replace("luc  Number", "luk  Number")).unwrap();
-    for option in ["--letters", "--pairs", "--entries", "--words"] {
-        fails(run(&folder, &[option, "faulty.txt"], b"luz\n"), "faulty.txt:");
+    for slip in ["luk  Number", "luz  Number"] {
+        fs::write(folder.join("faulty.txt"), sample("luz").replace("luc  Number", slip)).unwrap();
+        for option in ["--letters", "--pairs", "--entries", "--words"] {
+            fails(run(&folder, &[option, "faulty.txt"], b"luz\n"), "faulty.txt:");
+        }
+        for image in ["luz.img", "new.img"] {
+            fails(run(&folder, &["faulty.txt", image], b""), "faulty.txt:");
+        }
+        image_stays(&folder, &["faulty.txt"]);
     }
 }
 

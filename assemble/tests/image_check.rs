@@ -98,3 +98,20 @@ fn a_wrong_lexicon_is_refused_with_8() {
     assert_eq!(refusal(&altered(5, 8, 5)), Some(8), "a letter past the length");
     assert_eq!(refusal(&altered(5, 17, 2)), Some(8), "no such lexicon");
 }
+
+#[test]
+fn a_form_letter_that_is_no_lexical_side_is_refused_with_14() {
+    assert_eq!(refusal(&altered(5, 7, 8)), Some(14), "z for the Z of luZ");
+    assert_eq!(refusal(&altered(5, 55, 8)), Some(14), "z for the last letter of the last entry");
+    assert_eq!(refusal(&altered(2, 10, 0)), Some(14), "0:l for l:l");
+    assert_eq!(refusal(&altered(2, 10, 9)), Some(14), "Z:l for l:l");
+    assert_eq!(refusal(&altered(2, 11, 0)), None, "l:0 for l:l");
+}
+
+#[test]
+fn an_entry_s_layout_is_tested_before_its_letters() {
+    let mut both = altered(5, 7, 8);
+    both[5 * BLOCK + 4 + 3 * 16] = 13;
+    seal(&mut both);
+    assert_eq!(refusal(&both), Some(8), "z in the first entry, length 13 in the last");
+}

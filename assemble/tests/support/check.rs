@@ -1,21 +1,22 @@
-//! Document 01's image check, tests 1 to 8, written from its text.
+//! Document 01's image check, tests 1 to 8 and then 14, which document 02 adds, written from their text.
 
 const BLOCK: usize = 512;
 
 /// The number of the first test that an image fails; none where it is accepted.
 pub fn refusal(image: &[u8]) -> Option<u8> {
     type Test = fn(&[u8]) -> bool;
-    let tests: [Test; 8] = [
-        right_length,
-        right_checks,
-        right_layout,
-        right_letters,
-        right_pairs,
-        right_tables,
-        right_columns,
-        right_lexicons,
+    let tests: [(u8, Test); 9] = [
+        (1, right_length),
+        (2, right_checks),
+        (3, right_layout),
+        (4, right_letters),
+        (5, right_pairs),
+        (6, right_tables),
+        (7, right_columns),
+        (8, right_lexicons),
+        (14, right_form_letters),
     ];
-    (1..).zip(tests).find(|(_, test)| !test(image)).map(|(number, _)| number)
+    tests.into_iter().find(|(_, test)| !test(image)).map(|(number, _)| number)
 }
 
 /// Writes number and check into every block.
@@ -200,4 +201,11 @@ fn right_lexicons(image: &[u8]) -> bool {
                 && entry[1 + length..13].iter().all(|&byte| byte == 0)
                 && ((entry[13] as usize) < c.lexicons || entry[13] == 255)
         })
+}
+
+// 14: a form letter that is the lexical side of no pair.
+fn right_form_letters(image: &[u8]) -> bool {
+    let pairs = pairs(image);
+    let is_lexical = |letter: &u8| pairs.iter().any(|(lexical, _)| lexical == letter);
+    entries(image).into_iter().all(|entry| entry[1..1 + entry[0] as usize].iter().all(is_lexical))
 }
