@@ -1,6 +1,5 @@
 #!/usr/bin/env bash
-# The line program: the trials in tests/trials (a grammar, its input and what has to be printed; `lines` has the luz grammar), no image and one that
-# is too long, a line without end at constant memory, a standard output that closes, and reads and writes that fail, stop short or are interrupted.
+# The line program: the trials in tests/trials (an image, its input and what has to be printed), no image and one that is too long, a line without end at constant memory, a standard output that closes, and reads and writes that fail, stop short or are interrupted.
 set -eu
 cd "$(dirname "$0")/.."
 root=$PWD
@@ -13,9 +12,7 @@ cd "$work"
 
 for input in "$root"/tests/trials/*.in; do
     trial=${input%.in}
-    grammar=$trial.txt
-    [ -e "$grammar" ] || grammar=$root/grammars/luz.txt
-    "$CARGO_TARGET_DIR/release/assemble" "$grammar" grammar.img
+    "$root/tests/trial_image" "$(basename "$trial")" grammar.img
     "$root/target/bin/lines" <"$input" | diff - "$trial.out"
     echo "$(basename "$trial"): as stored"
 done

@@ -9,16 +9,13 @@ tools/prove lines
 CARGO_TARGET_DIR=$PWD/target/cargo
 export CARGO_TARGET_DIR
 cargo build --offline --locked --quiet --release --manifest-path engine/Cargo.toml -p other_lines
-cargo build --offline --locked --quiet --release --manifest-path assemble/Cargo.toml
 
 "$CARGO_TARGET_DIR/release/other_lines" target/bin/lines "${1:-1}" "${2:-1000}"
 
 work=$(mktemp -d)
 trap 'rm -rf "$work"' EXIT
 for input in tests/trials/*.in; do
-    grammar=${input%.in}.txt
-    [ -e "$grammar" ] || grammar=grammars/luz.txt
-    "$CARGO_TARGET_DIR/release/assemble" "$grammar" "$work/grammar.img"
+    tests/trial_image "$(basename "$input" .in)" "$work/grammar.img"
     said=$("$CARGO_TARGET_DIR/release/other_lines" target/bin/lines --words "$work/grammar.img" "$input") || { echo "$input: $said"; exit 1; }
     echo "$input: $said"
 done

@@ -164,6 +164,49 @@ static void images(void)
     }
 }
 
+/* luz with an entry that can never be spelled, by bytes that are changed. Each call refuses it with 14, whatever it is asked for, and sealing seals it; where
+ * an entry breaks its layout as well, the refusal is 8. */
+static void unspelled(void)
+{
+    static const struct {
+        const char *what;
+        unsigned k;
+        struct {
+            size_t at;
+            uint8_t byte;
+        } bytes[2];
+    } changes[] = {
+        {"luz for luZ", 14, {{2567, 8}}},
+        {"zuZ for luZ", 14, {{2565, 8}}},
+        {"z for the empty entry", 14, {{2596, 1}, {2597, 8}}},
+        {"+ez for +es, the last letter of the last entry", 14, {{2615, 8}}},
+        {"s on a surface side alone", 14, {{1036, 9}}},
+        {"s only inserted", 14, {{1036, 0}}},
+        {"luz for luZ, and a continuation past the lexicons", 8, {{2567, 8}, {2593, 2}}},
+    };
+    static uint8_t image[65536];
+    struct bytes whole = {image, luz.length};
+    for (size_t i = 0; i < sizeof changes / sizeof *changes; i++) {
+        memcpy(image, luz.at, luz.length);
+        for (size_t j = 0; j < 2; j++)
+            if (changes[i].bytes[j].at > 0)
+                image[changes[i].bytes[j].at] = changes[i].bytes[j].byte;
+        headwords_seal(image, luz.length);
+        refused_image(changes[i].what, whole, changes[i].k);
+        seal(changes[i].what, whole, 1, whole);
+    }
+
+    /* twelve letters are accepted where each can be spelled */
+    memcpy(image, luz.at, luz.length);
+    image[2564] = 12;
+    memset(image + 2565, 5, 12);
+    headwords_seal(image, luz.length);
+    check("twelve l", whole, 1);
+    image[2576] = 8;
+    headwords_seal(image, luz.length);
+    refused_image("eleven l and z", whole, 14);
+}
+
 /* luz with a rule that fails on the boundary pair at the front and would let all else pass: columns #:#, any:any; rows 1: 0 2; 2: 2 2; both final.
  * It is accepted, and no word or path has a reading. */
 static void dead_front(void)
@@ -210,6 +253,7 @@ int main(int argc, char **argv)
     judgements();
     forms();
     images();
+    unspelled();
     dead_front();
     return failures > 0;
 }
