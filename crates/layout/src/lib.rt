@@ -136,7 +136,7 @@ fn laid_out(block: &[u8], h: Header, k: usize) -> bool
     if image::byte_at(block, 3) != records {
         return false;
     }
-    image::are_zeros(block, 4 + kinds::width(kind) * records, 510)
+    image::is_blank(block, 4 + kinds::width(kind) * records, 510)
 }
 
 fn all_laid_out(image: &[u8], h: Header) -> bool

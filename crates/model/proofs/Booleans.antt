@@ -68,6 +68,10 @@ module _ (a b : Bool) where
   pub left-false : a ≡ false → (a && b) ≡ false
   left-false e = ap (λ (x : Bool). x && b) e
 
+pub right-true : (a b : Bool) → b ≡ true → (a && b) ≡ a
+right-true true b e = e
+right-true false b e = refl
+
 pub right-false : (a b : Bool) → b ≡ false → (a && b) ≡ false
 right-false true b e = e
 right-false false b e = refl

@@ -1,12 +1,12 @@
 -- A table by its counts and its four ranges of bytes: the first that is out of bounds decides.
-use Prim.Native.Nat.{ℕ, zero, suc, _+_, _*_, _<_, _≤_}
+use Prim.Native.Nat.{ℕ, _+_, _*_, _<_, _≤_}
 use native.Mathlib.Nat.{mul-le-mul}
 use mathlib.Core.Bool.{Bool, true, false, _&&_, _||_, not}
-use mathlib.Core.Path.{_≡_, refl, sym, ap, ap₂, _∙_}
-use mathlib.Core.List.{List, [], _∷_}
+use mathlib.Core.Path.{_≡_, refl, sym, ap, _∙_}
+use mathlib.Core.List.{List}
 use lib.ListN.{take, drop}
 use lib.Seq.{slice}
-use lib.Dec.{leb, eqb, leb·suc-zero, eqb·suc-zero}
+use lib.Dec.{leb, eqb}
 use borrow.Author.Tests.{le-leb, lt-leb}
 use Rattle.model.specs.Lists.{every, within, isZero}
 use Rattle.model.proofs.Booleans.{and-out, left-true, left-false, right-false, of-true, within-out}
@@ -34,15 +34,6 @@ module _ (most b : ℕ) where
   pub allowed-none : (any : Bool) → any ≡ false → most < b → allowed any most b ≡ false
   unfolding allowed
   allowed-none any e h = rw e (lt-leb b most h)
-
--- at most 0 is 0
-only-zero : (b : ℕ) → leb b 0 ≡ isZero b
-only-zero zero = refl
-only-zero (suc b) = leb·suc-zero b ∙ sym (eqb·suc-zero b)
-
-every-zero : (l : List ℕ) → every (λ b. leb b 0) l ≡ every isZero l
-every-zero [] = refl
-every-zero (b ∷ l) = ap₂ (λ (x y : Bool). x && y) (only-zero b) (every-zero l)
 
 -- five tests in a row: one that fails, or all but the last pass
 module _ (a b c d e : Bool) where
@@ -98,9 +89,8 @@ module _ (t : List ℕ) (letters : ℕ) where
     unfolding allowed
     nexts-are = rw (C, S) (ap (every (λ b. leb b (stateCount t))) (drop-take (rowsAt t) (columnCount t * stateCount t) t))
 
-    rest-is : every (allowed false 0) (slice (6 + 2 * c + s + c * s) 510 t) ≡ rest
-    unfolding allowed
-    rest-is = rw (C, S) (every-zero (slice (tableEnd t) 510 t))
+    rest-is : every isZero (slice (6 + 2 * c + s + c * s) 510 t) ≡ rest
+    rest-is = rw (C, S) refl
 
     -- a callee's answer that fails
     pub counts-fail : (r : Bool) → r ≡ rightCounts c s → not r ≡ true → isTable t letters ≡ false
@@ -129,7 +119,7 @@ module _ (t : List ℕ) (letters : ℕ) where
     nexts-pass r q k = passes r (q ∙ nexts-are) k
 
     pub rest-decides : counts ≡ true → sides ≡ true → marks ≡ true → nexts ≡ true
-        → (r : Bool) → r ≡ every (allowed false 0) (slice (6 + 2 * c + s + c * s) 510 t) → r ≡ isTable t letters
+        → (r : Bool) → r ≡ every isZero (slice (6 + 2 * c + s + c * s) 510 t) → r ≡ isTable t letters
     rest-decides p q u v r e = e ∙ rest-is ∙ sym (table-is ∙ last-decides counts sides marks nexts rest p q u v)
 
 -- counts in range keep the table before the check

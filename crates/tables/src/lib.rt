@@ -36,7 +36,7 @@ fn is_table(t: &[u8], letters: usize) -> bool
     if !range::all_allowed(t, rows, end, states, false) {
         return false;
     }
-    range::all_allowed(t, end, 510, 0, false)
+    image::is_blank(t, end, 510)
 }
 
 // The block of the table of rule r.

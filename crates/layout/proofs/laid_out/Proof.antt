@@ -2,7 +2,6 @@
 use borrow.Author.Needs.{needs}
 use native.Mathlib.Omega.{arith}
 use native.Mathlib.Nat.{mul-le-mul}
-use mathlib.Core.List.{List}
 use mathlib.Core.Path.{_≡_, sym, ap, ap₂, _∙_}
 use Prim.Native.Nat.{ℕ, _+_, _*_, _≤_}
 use lib.ListN.{take, drop}
@@ -48,14 +47,14 @@ returns-2 c =
 width-requires : tie.Need-width-requires
 width-requires c κs = search needs
 
-mul-are-zeros : tie.Need-mul-are-zeros
-mul-are-zeros c = omega (arith, small c)
+mul-is-blank : tie.Need-mul-is-blank
+mul-is-blank c = omega (arith, small c)
 
-add-are-zeros : tie.Need-add-are-zeros
-add-are-zeros c = omega (arith, small c)
+add-is-blank : tie.Need-add-is-blank
+add-is-blank c = omega (arith, small c)
 
-are-zeros-requires : tie.Need-are-zeros-requires
-are-zeros-requires c κs = search needs
+is-blank-requires : tie.Need-is-blank-requires
+is-blank-requires c κs = search needs
 
 returns-3 : tie.Need-returns-3
 returns-3 c =
@@ -66,7 +65,7 @@ returns-3 c =
     let b = start .args .block .now in
     let k = one .before .before .kind-at in
     let n = two .before .before .records-at in
-    c .are-zeros .ensures
+    c .is-blank .ensures
     ∙ ap (λ (w : ℕ). every isZero (drop (4 + w * n .result) (take 510 b))) (width .ensures)
     ∙ ap₂ (λ (x y : ℕ). every isZero (drop (4 + recordWidth x * y) (take 510 b))) (k .ensures .0) (n .ensures .0)
     ∙ sym (laid-rest (headerOf (start .args .h)) (start .args .k) b (kind one) (sym (two .before .byte-at2 .ensures .0) ∙ two .if2 .left ∙ n .ensures .0))
@@ -82,7 +81,7 @@ laid-out-spec =
     byte-at-requires-2
     returns-2
     width-requires
-    mul-are-zeros
-    add-are-zeros
-    are-zeros-requires
+    mul-is-blank
+    add-is-blank
+    is-blank-requires
     returns-3)

@@ -78,8 +78,8 @@ returns-4 c =
     let a = m .before .before .args in
     sym (nexts-fail (a .t .now) (a .letters) (m .byte-at .result) (n .byte-at2 .result) (m .byte-at .ensures .0) (n .byte-at2 .ensures .0) (k .all-allowed3 .result) (k .all-allowed3 .ensures) (c .if4 .taken))
 
-all-allowed-requires-4 : tie.Need-all-allowed-requires-4
-all-allowed-requires-4 c κs = let b = bounds (c .before .before .before .before .before .before) in omega arith
+is-blank-requires : tie.Need-is-blank-requires
+is-blank-requires c κs = search needs
 
 returns-5 : tie.Need-returns-5
 returns-5 c =
@@ -100,7 +100,7 @@ returns-5 c =
     (sides-pass t a x y p q (k .before .all-allowed .result) (k .before .all-allowed .ensures) (k .if2 .left))
     (marks-pass t a x y p q (j .before .all-allowed2 .result) (j .before .all-allowed2 .ensures) (j .if3 .left))
     (nexts-pass t a x y p q (i .before .all-allowed3 .result) (i .before .all-allowed3 .ensures) (i .if4 .left))
-    (c .all-allowed4 .result) (c .all-allowed4 .ensures)
+    (c .is-blank .result) (c .is-blank .ensures)
 
 pub is-table-spec : {M : Type 1} → statement M
 is-table-spec =
@@ -121,5 +121,5 @@ is-table-spec =
     add-end
     all-allowed-requires-3
     returns-4
-    all-allowed-requires-4
+    is-blank-requires
     returns-5)
