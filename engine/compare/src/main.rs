@@ -7,7 +7,7 @@ mod touched;
 
 use draw::damage::{damaged, damaged_often, Damaged};
 use draw::grammars::{self, Many};
-use draw::inputs::{any_room, entry, room, Pool};
+use draw::inputs::{any_room, any_word, entry, room, Pool};
 use draw::prng::Prng;
 use lent::Lent;
 use other_engine::calls::{self, Known};
@@ -21,6 +21,21 @@ use std::process::exit;
 use tally::{Kind, Tally};
 
 const USAGE: &str = "usage: compare [SEED [CALLS]]";
+
+/// The refusals that images are damaged for, with their weights; 0 is a change that does no harm, and none is several at once.
+const DAMAGES: [(usize, Option<u8>); 11] = [
+    (12, Some(0)),
+    (6, Some(1)),
+    (10, Some(2)),
+    (20, Some(3)),
+    (10, Some(4)),
+    (10, Some(5)),
+    (14, Some(6)),
+    (12, Some(7)),
+    (16, Some(8)),
+    (14, Some(14)),
+    (18, None),
+];
 
 fn main() {
     let mut arguments = std::env::args().skip(1);
@@ -47,10 +62,20 @@ fn main() {
     };
     touched::watch();
     run.many_readings();
-    let mut draft = grammars::largest(&mut run.prng);
-    while !run.over() {
+    // Late entries are seldom listed, so a run begins with grammars that have them.
+    let first: [fn(&mut Prng) -> Draft; 4] = [
+        grammars::largest,
+        grammars::widest,
+        grammars::widest,
+        grammars::widest,
+    ];
+    for drawn in first {
+        let draft = drawn(&mut run.prng);
         run.grammar(&draft);
-        draft = grammars::grammar(&mut run.prng);
+    }
+    while !run.over() {
+        let draft = grammars::grammar(&mut run.prng);
+        run.grammar(&draft);
     }
     println!(
         "seed {seed} calls {} skipped {}{}",
@@ -153,7 +178,7 @@ impl Run {
         let big = image.bytes.len() > 40 * BLOCK;
         let turns = match (accepted, big) {
             (false, _) => 3,
-            (true, true) => 10,
+            (true, true) => 20,
             (true, false) => 30,
         };
         for _ in 0..turns {
@@ -161,13 +186,13 @@ impl Run {
         }
         let damages = if big { 4 } else { 14 };
         for _ in 0..damages {
-            let k = self.prng.weighted(&[12, 6, 10, 20, 10, 10, 14, 12, 16, 16]) as u8;
+            let weights = DAMAGES.map(|(weight, _)| weight);
             let Damaged {
                 image: bytes,
                 refusal,
-            } = match k {
-                9 => damaged_often(&mut self.prng, draft),
-                _ => damaged(&mut self.prng, draft, k),
+            } = match DAMAGES[self.prng.weighted(&weights)].1 {
+                Some(k) => damaged(&mut self.prng, draft, k),
+                None => damaged_often(&mut self.prng, draft),
             };
             let image = self.image(bytes);
             let found = image.known.as_ref().err().copied().unwrap_or(0);
@@ -208,10 +233,7 @@ impl Run {
     fn analyse(&mut self, image: &Image, pool: &Pool) {
         let word = match &image.known {
             Ok(grammar) => pool.word(&mut self.prng, grammar),
-            Err(_) => {
-                let length = self.prng.one_of(&[0, 1, 3, 33]);
-                self.prng.bytes(length)
-            }
+            Err(_) => any_word(&mut self.prng),
         };
         let readings = calls::analyse(&image.known, &word);
         self.listing(image, Kind::Analyse, "word", &word, readings);

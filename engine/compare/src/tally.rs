@@ -41,7 +41,7 @@ impl Kind {
         }
     }
 
-    /// The refusals that can occur.
+    /// The refusals that can occur, in the order of their tests.
     fn refusals(self) -> Vec<usize> {
         let own: &[usize] = match self {
             Kind::Analyse => &[9, 10],
@@ -51,7 +51,7 @@ impl Kind {
             Kind::Check => &[],
             Kind::Seal => return vec![1],
         };
-        (1..=8).chain(own.iter().copied()).collect()
+        (1..=8).chain([14]).chain(own.iter().copied()).collect()
     }
 }
 
@@ -74,7 +74,7 @@ const OF_EACH: usize = 7;
 #[derive(Default)]
 pub struct Tally {
     replies: [[u64; 3]; 6],
-    refusals: [[u64; 14]; 6],
+    refusals: [[u64; 15]; 6],
     limits: [[u64; 9]; 2],
 }
 

@@ -1,9 +1,10 @@
 //! An image is damaged so that one known test is the first it fails, or several tests at once, or in ways that do no harm.
 
+use crate::grammars::lexical_letters;
 use crate::prng::Prng;
 use crate::tables::{with_columns, Temper};
 use other_engine::draft::{Draft, DraftEntry};
-use other_engine::grammar::{columns_taken, matches, ANY, BOUNDARY, END};
+use other_engine::grammar::{columns_taken, matches, ANY, BOUNDARY, END, NULL};
 use other_engine::image::{block_check, seal, BLOCK};
 
 /// A damaged image, and the refusal it is made for where that is certain; 0 is none.
@@ -108,6 +109,7 @@ pub fn damaged(prng: &mut Prng, draft: &Draft, k: u8) -> Damaged {
         2 => check_or_number(prng, draft),
         3 => plan(prng, draft),
         7 => columns(prng, draft),
+        14 => certain(unspelled(prng, draft).image(), 14),
         _ => {
             let draft = with_a_rule(draft);
             let mut image = draft.image();
@@ -119,18 +121,21 @@ pub fn damaged(prng: &mut Prng, draft: &Draft, k: u8) -> Damaged {
 
 /// An image damaged for several tests at once.
 pub fn damaged_often(prng: &mut Prng, draft: &Draft) -> Damaged {
-    let mut draft = with_a_rule(draft);
+    // Two tests or three, the later ones first, since those read what the earlier ones spoil.
+    let mut tests = vec![3, 4, 5, 6, 7, 8, 14];
+    prng.shuffle(&mut tests);
+    tests.truncate(if prng.percent(75) { 2 } else { 3 });
+    tests.sort_unstable();
+    let mut draft = match tests.pop_if(|k| *k == 14) {
+        Some(_) => with_a_rule(&unspelled(prng, draft)),
+        None => with_a_rule(draft),
+    };
     while draft.tables.len() < 3 {
         let table = draft.tables[0].clone();
         draft.tables.push(table);
     }
     let place = Place::of(&draft);
     let mut image = draft.image();
-    // Two tests or three, the later ones first, since those read what the earlier ones spoil.
-    let mut tests = vec![3, 4, 5, 6, 7, 8];
-    prng.shuffle(&mut tests);
-    tests.truncate(if prng.percent(75) { 2 } else { 3 });
-    tests.sort_unstable();
     for &k in tests.iter().rev() {
         in_place(prng, &place, &mut image, k);
     }
@@ -452,7 +457,7 @@ fn past_modulus(prng: &mut Prng, draft: &Draft, higher: bool) -> Damaged {
     let mut draft = draft.clone();
     while draft.entries().count() < 31 {
         let filler = DraftEntry {
-            form: vec![2],
+            form: lexical_letters(&draft.pairs).into_iter().take(1).collect(),
             continuation: END,
             gloss: 0,
         };
@@ -642,6 +647,95 @@ fn columns(prng: &mut Prng, draft: &Draft) -> Damaged {
     }
 }
 
+/// The draft with a letter in one form, or in several, that is the lexical side of no pair.
+fn unspelled(prng: &mut Prng, draft: &Draft) -> Draft {
+    let mut draft = draft.clone();
+    let letter = unpaired(prng, &mut draft);
+    let lexical = lexical_letters(&draft.pairs);
+    // Mostly the letter stands at one place alone.
+    if prng.percent(80) {
+        for entry in draft.lexicons.iter_mut().flatten() {
+            if lexical.is_empty() {
+                entry.form.clear();
+            }
+            for other in &mut entry.form {
+                if !lexical.contains(other) {
+                    *other = prng.one_of(&lexical);
+                }
+            }
+        }
+    }
+    let number = some_entry(prng, draft.entries().count());
+    let mut entries = draft.lexicons.iter_mut().flatten();
+    let form = &mut entries.nth(number).expect("an entry").form;
+    if prng.percent(15) {
+        let filler = lexical.first().copied().unwrap_or(letter);
+        form.resize(12, filler);
+    }
+    let length = form.len();
+    match prng.below(4) {
+        0 if length < 12 => form.insert(prng.below(length + 1), letter),
+        1 if length > 0 => form[length - 1] = letter,
+        _ if length > 0 => form[prng.below(length)] = letter,
+        _ => form.push(letter),
+    }
+    // A rule that the changed pairs do not fit would be refused first.
+    let pairs = &draft.pairs;
+    draft
+        .tables
+        .retain(|table| columns_taken(&table.columns, pairs).is_some());
+    draft
+}
+
+/// A letter that is the lexical side of no pair: one of those there are, a new one, or one whose pairs are taken away.
+fn unpaired(prng: &mut Prng, draft: &mut Draft) -> u8 {
+    let last = draft.letters.len() as u8;
+    let lexical = lexical_letters(&draft.pairs);
+    let others: Vec<u8> = (2..=last).filter(|x| !lexical.contains(x)).collect();
+    let letter = if !others.is_empty() && prng.percent(50) {
+        prng.one_of(&others)
+    } else if last < 120 && prng.percent(50) {
+        let point = (1..).find(|point| !draft.letters.contains(point));
+        draft.letters.extend(point);
+        last + 1
+    } else {
+        let any = prng.between(2, usize::from(last)) as u8;
+        prng.one_of(&[any, last])
+    };
+    let pairs = &mut draft.pairs;
+    pairs.retain(|pair| pair.0 != letter);
+    let lexical = lexical_letters(pairs);
+    // It is in no pair at all, only inserted, written for another letter, or as it was.
+    let manner = prng.below(4);
+    if manner < 2 {
+        pairs.retain(|pair| pair.1 != letter);
+    }
+    let another = match manner {
+        1 => Some((NULL, letter)),
+        2 if !lexical.is_empty() => Some((prng.one_of(&lexical), letter)),
+        _ => None,
+    };
+    if let Some(pair) = another {
+        if pairs.len() < 250 && !pairs.contains(&pair) {
+            pairs.insert(prng.below(pairs.len() + 1), pair);
+        }
+    }
+    if pairs.is_empty() {
+        pairs.push((NULL, letter));
+    }
+    letter
+}
+
+/// The number of an entry, often of the last one or of one at the edge of a block.
+fn some_entry(prng: &mut Prng, entries: usize) -> usize {
+    let last = entries - 1;
+    match prng.below(4) {
+        0 => last,
+        1 => (31 * prng.between(1, 1 + last / 31) - prng.below(2)).min(last),
+        _ => prng.between(0, last),
+    }
+}
+
 /// Changes at the edge of what is refused, none of them over it.
 fn harmless(prng: &mut Prng, draft: &Draft) -> Damaged {
     let mut draft = draft.clone();
@@ -691,4 +785,58 @@ fn harmless(prng: &mut Prng, draft: &Draft) -> Damaged {
         _ => {}
     }
     certain(draft.image(), 0)
+}
+
+#[cfg(test)]
+mod tests {
+    use super::unspelled;
+    use crate::grammars::{grammar, lexical_letters};
+    use crate::prng::Prng;
+    use other_engine::grammar::NULL;
+    use other_engine::image::read;
+
+    #[test]
+    fn a_letter_without_pair_is_met_in_every_way() {
+        let mut prng = Prng::new(1);
+        let mut met = [0; 10];
+        for _ in 0..600 {
+            let draft = grammar(&mut prng);
+            let draft = unspelled(&mut prng, &draft);
+            assert_eq!(read(&draft.image()).err(), Some(14));
+            let lexical = lexical_letters(&draft.pairs);
+            let mut places = Vec::new();
+            for (number, entry) in draft.entries().enumerate() {
+                for (place, letter) in entry.form.iter().enumerate() {
+                    if !lexical.contains(letter) {
+                        places.push((number, place, entry.form.len(), *letter));
+                    }
+                }
+            }
+            let [(number, place, length, letter)] = places[..] else {
+                // Several at once are a way too.
+                met[0] += 1;
+                continue;
+            };
+            let entries = draft.entries().count();
+            let written = |inserted: bool| {
+                let mut pairs = draft.pairs.iter();
+                pairs.any(|pair| pair.1 == letter && inserted == (pair.0 == NULL))
+            };
+            let ways = [
+                number == 0 && entries > 1,
+                number + 1 == entries && entries > 1,
+                number > 30,
+                place == 0 && length > 1,
+                place + 1 == length && length > 1,
+                place == 11,
+                written(true) && !written(false),
+                written(false) && !written(true),
+                !written(true) && !written(false),
+            ];
+            for (count, way) in met[1..].iter_mut().zip(ways) {
+                *count += usize::from(way);
+            }
+        }
+        assert!(met.iter().all(|&count| count > 5), "{met:?}");
+    }
 }

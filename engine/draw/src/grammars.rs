@@ -97,30 +97,42 @@ fn tables(prng: &mut Prng, pairs: &[(u8, u8)], letters: usize) -> Vec<DraftTable
         .collect()
 }
 
-/// A form of so many letters, mostly such as have a pair.
-fn form(prng: &mut Prng, length: usize, alphabet: &[u8], letters: usize) -> Vec<u8> {
+/// The letters that are the lexical side of some pair.
+pub(crate) fn lexical_letters(pairs: &[(u8, u8)]) -> Vec<u8> {
+    let mut letters: Vec<u8> = pairs.iter().map(|p| p.0).filter(|&x| x != NULL).collect();
+    letters.sort_unstable();
+    letters.dedup();
+    letters
+}
+
+/// The lexical letters that have a pair, and the few of them that forms mostly consist of.
+struct Alphabet {
+    all: Vec<u8>,
+    few: Vec<u8>,
+}
+
+fn alphabet(prng: &mut Prng, pairs: &[(u8, u8)], most: usize) -> Alphabet {
+    let all = lexical_letters(pairs);
+    let mut few = all.clone();
+    prng.shuffle(&mut few);
+    few.truncate(prng.between(1, most));
+    Alphabet { all, few }
+}
+
+/// A form of so many letters, or an empty one where every pair is an insertion.
+fn form(prng: &mut Prng, length: usize, alphabet: &Alphabet) -> Vec<u8> {
+    if alphabet.all.is_empty() {
+        return Vec::new();
+    }
     (0..length)
         .map(|_| {
             if prng.percent(3) {
-                letter(prng, letters)
+                prng.one_of(&alphabet.all)
             } else {
-                prng.one_of(alphabet)
+                prng.one_of(&alphabet.few)
             }
         })
         .collect()
-}
-
-/// Some of the lexical letters that have a pair.
-fn alphabet(prng: &mut Prng, pairs: &[(u8, u8)], most: usize) -> Vec<u8> {
-    let mut paired: Vec<u8> = pairs.iter().map(|p| p.0).filter(|&x| x != NULL).collect();
-    paired.sort_unstable();
-    paired.dedup();
-    prng.shuffle(&mut paired);
-    paired.truncate(prng.between(1, most));
-    if paired.is_empty() {
-        paired.push(2);
-    }
-    paired
 }
 
 fn entry(prng: &mut Prng, form: Vec<u8>, continuation: u8) -> DraftEntry {
@@ -143,12 +155,7 @@ struct Spread {
     going_on_empty: usize,
 }
 
-fn lexicons(
-    prng: &mut Prng,
-    alphabet: &[u8],
-    letters: usize,
-    spread: &Spread,
-) -> Vec<Vec<DraftEntry>> {
+fn lexicons(prng: &mut Prng, alphabet: &Alphabet, spread: &Spread) -> Vec<Vec<DraftEntry>> {
     let count = prng.between(1, spread.most_lexicons);
     let mut empties = 0;
     (0..count)
@@ -158,19 +165,19 @@ fn lexicons(
             (0..entries)
                 .map(|_| {
                     let length = prng.weighted(spread.lengths);
+                    let form = form(prng, length, alphabet);
                     let mut continuation = if prng.percent(spread.ending) {
                         END
                     } else {
                         prng.below(count) as u8
                     };
-                    if length == 0 && continuation != END {
+                    if form.is_empty() && continuation != END {
                         if empties == spread.going_on_empty {
                             continuation = END;
                         } else {
                             empties += 1;
                         }
                     }
-                    let form = form(prng, length, alphabet, letters);
                     entry(prng, form, continuation)
                 })
                 .collect()
@@ -197,7 +204,7 @@ fn mixed(prng: &mut Prng) -> Draft {
         ending: 50,
         going_on_empty: 1,
     };
-    let lexicons = lexicons(prng, &alphabet, letters, &spread);
+    let lexicons = lexicons(prng, &alphabet, &spread);
     Draft {
         letters: code_points(prng, letters),
         tables: tables(prng, &pairs, letters),
@@ -226,7 +233,7 @@ fn twins(prng: &mut Prng) -> Draft {
         ending: 55,
         going_on_empty: 2,
     };
-    let lexicons = lexicons(prng, &alphabet, letters, &spread);
+    let lexicons = lexicons(prng, &alphabet, &spread);
     Draft {
         letters: code_points(prng, letters),
         tables: tables(prng, &pairs, letters),
@@ -248,8 +255,8 @@ fn cycles(prng: &mut Prng) -> Draft {
         .collect();
     for _ in 0..prng.between(1, 3) {
         let length = prng.weighted(&[1, 3, 1]);
-        let form = form(prng, length, &alphabet, letters);
-        let going_on = length > 0 && prng.percent(30);
+        let form = form(prng, length, &alphabet);
+        let going_on = !form.is_empty() && prng.percent(30);
         let continuation = if going_on {
             prng.below(round) as u8
         } else {
@@ -261,7 +268,7 @@ fn cycles(prng: &mut Prng) -> Draft {
         lexicons[lexicon].insert(place, entry);
     }
     if prng.percent(60) {
-        let form = form(prng, 1, &alphabet, letters);
+        let form = form(prng, 1, &alphabet);
         let entry = entry(prng, form, END);
         lexicons[round - 1].push(entry);
     }
@@ -307,9 +314,11 @@ fn long(prng: &mut Prng) -> Draft {
         prng.one_of(&[0, 1, 7, 8, 8, 8, 9, 9])
     };
     let mut whole = vec![STAY; staying];
-    for place in whole.iter_mut() {
-        if prng.percent(2) {
-            *place = ALSO;
+    if lexical_letters(&pairs).contains(&ALSO) {
+        for place in whole.iter_mut() {
+            if prng.percent(2) {
+                *place = ALSO;
+            }
         }
     }
     for _ in 0..dropping {
@@ -395,7 +404,7 @@ fn many(prng: &mut Prng) -> Draft {
     let stems = prng.between(entries / 2, entries - 2);
     for number in 0..entries {
         let length = prng.weighted(&[0, 10, 35, 35, 20]);
-        let form = form(prng, length, &alphabet, letters);
+        let form = form(prng, length, &alphabet);
         if number < stems {
             let continuation = if prng.percent(30) {
                 END
@@ -442,7 +451,7 @@ fn narrow(prng: &mut Prng) -> Draft {
         ending: 60,
         going_on_empty: 1,
     };
-    let lexicons = lexicons(prng, &alphabet, letters, &spread);
+    let lexicons = lexicons(prng, &alphabet, &spread);
     let rules = prng.between(1, 3);
     let tables = (0..rules)
         .map(|_| {
@@ -517,7 +526,7 @@ fn tiny(prng: &mut Prng) -> Draft {
         ending: 65,
         going_on_empty: 1,
     };
-    let lexicons = lexicons(prng, &alphabet, letters, &spread);
+    let lexicons = lexicons(prng, &alphabet, &spread);
     Draft {
         letters: code_points(prng, letters),
         tables: tables(prng, &all, letters),
@@ -605,6 +614,7 @@ fn at_limits(prng: &mut Prng, all: bool) -> Draft {
             with_columns(prng, &pairs, drawn, states, &temper)
         })
         .collect();
+    let lexical = lexical_letters(&pairs);
     let mut spread: Vec<Vec<DraftEntry>> = vec![Vec::new(); lexicons];
     for number in 0..entries {
         let lexicon = match favoured {
@@ -613,7 +623,7 @@ fn at_limits(prng: &mut Prng, all: bool) -> Draft {
             _ => prng.below(lexicons),
         };
         let length = prng.between(1, 4);
-        let form = (0..length).map(|_| letter(prng, letters)).collect();
+        let form = (0..length).map(|_| prng.one_of(&lexical)).collect();
         let continuation = match favoured {
             _ if prng.percent(60) => END,
             Some(lexicon) if prng.percent(50) => lexicon as u8,
@@ -646,7 +656,8 @@ pub fn widest(prng: &mut Prng) -> Draft {
         form.insert(prng.below(3), DROP);
     }
     let others = prng.one_of(&[1_000, 2_047, 2_048, 2_600]);
-    let mut first = vec![entry(prng, vec![LETTERS - 2], END); others];
+    // The entries ahead of the long path spell no letter and so have no reading.
+    let mut first = vec![entry(prng, vec![DROP], END); others];
     first.push(entry(prng, forms[0].clone(), 1));
     let mut lexicons = vec![first];
     for (link, form) in forms.iter().enumerate().take(15).skip(1) {

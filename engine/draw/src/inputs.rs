@@ -56,17 +56,15 @@ fn walk(prng: &mut Prng, grammar: &Grammar, most: usize, dawdles: bool) -> (Vec<
 }
 
 /// A pairing of a path's letters with some insertions, drawn without asking the rules.
-fn sample(prng: &mut Prng, grammar: &Grammar, path: &[u16]) -> Option<Vec<u8>> {
+fn sample(prng: &mut Prng, grammar: &Grammar, path: &[u16]) -> Vec<u8> {
     let numbered = || grammar.pairs.iter().enumerate();
     let mut pairing = Vec::new();
     for letter in grammar.joined(path) {
+        // Never empty: test 14 has passed.
         let choices: Vec<u8> = numbered()
             .filter(|(_, p)| p.0 == letter)
             .map(|(n, _)| n as u8)
             .collect();
-        if choices.is_empty() {
-            return None;
-        }
         pairing.push(prng.one_of(&choices));
     }
     let inserted: Vec<u8> = numbered()
@@ -80,7 +78,7 @@ fn sample(prng: &mut Prng, grammar: &Grammar, path: &[u16]) -> Option<Vec<u8>> {
             pairing.insert(prng.below(pairing.len() + 1), pair);
         }
     }
-    Some(pairing)
+    pairing
 }
 
 /// How many insertions a sample of so many letters gets: few, or around the limit, or what brings it to about 32 letters.
@@ -126,10 +124,9 @@ impl Pool {
                 break;
             }
             let path = pool.path(prng);
-            if let Some(pairing) = sample(prng, grammar, &path) {
-                if calls::judge(known, &path_bytes(&path), &pairing) == Ok(true) {
-                    pool.readings.push(Reading { path, pairing });
-                }
+            let pairing = sample(prng, grammar, &path);
+            if calls::judge(known, &path_bytes(&path), &pairing) == Ok(true) {
+                pool.readings.push(Reading { path, pairing });
             }
         }
         pool
@@ -154,7 +151,7 @@ impl Pool {
         if !grammar.linked(&path) {
             return None;
         }
-        let pairing = sample(prng, grammar, &path)?;
+        let pairing = sample(prng, grammar, &path);
         Some(Reading { path, pairing })
     }
 
@@ -364,6 +361,16 @@ pub fn room(prng: &mut Prng, readings: usize) -> usize {
         _ => prng.below(readings + 4),
     };
     rows * ROW + prng.one_of(&[0, 0, 0, 1, 115, 58])
+}
+
+/// A word for a refused image: of any bytes, or of the letter that every grammar has.
+pub fn any_word(prng: &mut Prng) -> Vec<u8> {
+    let length = prng.one_of(&[0, 1, 1, 2, 3, 5, 32, 33]);
+    if prng.percent(50) {
+        vec![2; length]
+    } else {
+        prng.bytes(length)
+    }
 }
 
 /// The length of a buffer that nothing will be written in.

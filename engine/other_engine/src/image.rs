@@ -1,4 +1,4 @@
-//! An image is turned down by the first of eight numbered tests it fails, each run over the whole image before the next.
+//! An image is turned down by the first test it fails, each run over the whole image before the next.
 
 use crate::grammar::{columns_taken, Entry, Grammar, Table, ANY, END, NULL};
 
@@ -26,20 +26,26 @@ pub fn seal(image: &mut [u8]) -> Result<(), u8> {
     Ok(())
 }
 
+/// Whether an image passes a test, all earlier ones passed.
+type Test = fn(&[u8]) -> bool;
+
+/// The tests of an image in the order they are made, each with its number.
+const TESTS: [(u8, Test); 9] = [
+    (1, length_fits),
+    (2, numbers_and_checks_fit),
+    (3, plan_fits),
+    (4, code_points_fit),
+    (5, pairs_fit),
+    (6, tables_fit),
+    (7, columns_fit),
+    (8, lexicon_fits),
+    (14, forms_fit),
+];
+
 /// Reads a grammar, or replies the number of the first failed test.
 pub fn read(image: &[u8]) -> Result<Grammar, u8> {
-    let tests: [fn(&[u8]) -> bool; 8] = [
-        length_fits,
-        numbers_and_checks_fit,
-        plan_fits,
-        code_points_fit,
-        pairs_fit,
-        tables_fit,
-        columns_fit,
-        lexicon_fits,
-    ];
-    match tests.iter().position(|fits| !fits(image)) {
-        Some(failed) => Err(failed as u8 + 1),
+    match TESTS.iter().find(|(_, fits)| !fits(image)) {
+        Some(&(number, _)) => Err(number),
         None => Ok(decode(image)),
     }
 }
@@ -257,6 +263,22 @@ fn entry_fits(record: &[u8], c: &Counts) -> bool {
         && (record[13] == END || usize::from(record[13]) < c.lexicons)
 }
 
+/// The letters of an entry's form, once its length is known to fit.
+fn form(record: &[u8]) -> &[u8] {
+    &record[1..1 + usize::from(record[0])]
+}
+
+/// Whether each letter of each form is the lexical side of some pair.
+fn forms_fit(image: &[u8]) -> bool {
+    let c = counts(image);
+    let lexical: Vec<u8> = pairs(image).iter().map(|pair| pair.0).collect();
+    (0..c.entries).all(|entry| {
+        form(entry_record(image, c.rules, entry))
+            .iter()
+            .all(|letter| lexical.contains(letter))
+    })
+}
+
 fn decode(image: &[u8]) -> Grammar {
     let c = counts(image);
     let pairs = pairs(image);
@@ -286,7 +308,7 @@ fn decode(image: &[u8]) -> Grammar {
         .map(|entry| {
             let record = entry_record(image, c.rules, entry);
             Entry {
-                form: record[1..1 + usize::from(record[0])].to_vec(),
+                form: form(record).to_vec(),
                 continuation: record[13],
                 gloss: two(record, 14) as u16,
             }

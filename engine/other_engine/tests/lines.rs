@@ -148,6 +148,12 @@ fn under_a_refused_image_every_line_that_is_read_is_refused() {
     let mut altered = Draft::luz().image();
     altered[7] ^= 1;
     assert_eq!(printed(&read(&altered), b"5"), "refused 2\n");
+    let mut slip = Draft::luz();
+    slip.lexicons[0][0].form[2] = 8;
+    assert_eq!(
+        printed(&read(&slip.image()), b"5 7 3\n\n256\n1"),
+        "refused 14\nrefused 14\nunread\nrefused 14\n"
+    );
 }
 
 #[test]

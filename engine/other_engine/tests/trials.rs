@@ -467,6 +467,118 @@ fn the_refusals_small_examples() {
     assert_eq!(refusal(&damaged(3, &[(4 + 2 + 10 + 5 + 5, 6)])), 6);
     assert_eq!(refusal(&damaged(3, &[(4 + 2 + 8, 3), (4 + 2 + 9, 3)])), 7);
     assert_eq!(refusal(&damaged(5, &[(4, 13)])), 8);
+    // The z of luz, which is only written, for the Z of luZ.
+    assert_eq!(refusal(&damaged(5, &[(4 + 3, 8)])), 14);
+}
+
+/// The luz grammar with entry 0 typed luz.
+fn slip() -> Draft {
+    let mut draft = Draft::luz();
+    draft.lexicons[0][0].form[2] = 8;
+    draft
+}
+
+#[test]
+fn a_typing_slip_is_refused_by_every_call_but_sealing() {
+    let known = read(&slip().image());
+    assert_eq!(calls::check_reply(&known), refused(14));
+    // Words that luz reads, and words with no letter, a letter outside 2-L, or a letter too many.
+    for word in [&LUZ[..], &LUC, &LUCES, &[], &[1], &[10], &[5; 33]] {
+        assert_eq!(analyse(&known, word), Err(Stop::Refused(14)));
+    }
+    // Paths with and without the entry, unlinked ones, and ones of no length that a path has.
+    let of_entries = [bytes(&[0, 2]), bytes(&[1, 2]), bytes(&[4]), bytes(&[0])];
+    let of_bytes = [vec![], vec![0], vec![0; 34]];
+    for path in of_entries.iter().chain(&of_bytes) {
+        assert_eq!(generate(&known, path), Err(Stop::Refused(14)));
+        for pairing in [&[3, 5, 1][..], &[3, 5, 7], &[], &[8], &[0; 41]] {
+            assert_eq!(judge(&known, path, pairing), Err(14));
+        }
+    }
+    for number in [0, 1, 2, 3, 4, usize::MAX] {
+        let mut letters = [9; 5];
+        assert_eq!(form(&known, number), Err(14));
+        assert_eq!(form_reply(&known, number, &mut letters), refused(14));
+        assert_eq!(letters, [9; 5]);
+    }
+    let mut image = slip().unsealed();
+    assert_eq!(refusal(&image), 2);
+    assert_eq!(calls::seal_reply(&mut image), 1);
+    assert_eq!(refusal(&image), 14);
+}
+
+#[test]
+fn only_a_lexical_side_spells_a_letter_of_a_form() {
+    for (pairs, k) in [
+        (&[(2, 2)][..], 14),
+        (&[(2, 2), (2, 3)], 14),
+        (&[(2, 2), (0, 3)], 14),
+        (&[(0, 3)], 14),
+        (&[(2, 3), (2, 2), (0, 3)], 14),
+        (&[(3, 3)], 0),
+        (&[(2, 2), (3, 2)], 0),
+        (&[(2, 2), (3, 0)], 0),
+        (&[(3, 0), (0, 3), (2, 3)], 0),
+    ] {
+        let draft = plain(3, pairs, vec![vec![entry(&[3], 255)]]);
+        assert_eq!(refusal(&draft.image()), k, "{pairs:?}");
+        let draft = plain(3, pairs, vec![vec![entry(&[], 255)]]);
+        assert_eq!(refusal(&draft.image()), 0, "{pairs:?}");
+    }
+}
+
+#[test]
+fn one_letter_anywhere_is_enough_for_fourteen() {
+    // Forms of every length, over three blocks of entries and round a lexicon without any.
+    let of_lengths = |numbers: std::ops::Range<usize>| -> Vec<DraftEntry> {
+        numbers.map(|n| entry(&vec![2; n % 13], 255)).collect()
+    };
+    let lexicons = vec![of_lengths(0..20), Vec::new(), of_lengths(20..64)];
+    let good = plain(3, &[(2, 2), (2, 3)], lexicons);
+    assert_eq!(refusal(&good.image()), 0);
+    let mut twelfth = 0;
+    for lexicon in [0, 2] {
+        for number in 0..good.lexicons[lexicon].len() {
+            for place in 0..good.lexicons[lexicon][number].form.len() {
+                let mut draft = good.clone();
+                draft.lexicons[lexicon][number].form[place] = 3;
+                assert_eq!(refusal(&draft.image()), 14, "{lexicon} {number} {place}");
+                twelfth += usize::from(place == 11);
+            }
+        }
+    }
+    assert_eq!(twelfth, 4);
+    let last = good.entries().last().unwrap();
+    assert_eq!(last.form.len(), 11);
+}
+
+/// A change that makes an image fail an earlier test as well.
+type Spoiling = fn(&mut Draft);
+
+#[test]
+fn fourteen_is_tested_after_eight() {
+    let spoilings: [(Spoiling, u8); 9] = [
+        (|draft| draft.letters.truncate(1), 3),
+        (|draft| draft.letters[8] = 0, 4),
+        (|draft| draft.pairs[0] = (1, 1), 5),
+        (|draft| draft.tables[0].rows[0][0] = 6, 6),
+        (|draft| draft.tables[0].columns[4] = (8, 8), 7),
+        // The entry of the slip, one after it, and the boundary and a letter past L in a form.
+        (|draft| draft.lexicons[0][0].continuation = 2, 8),
+        (|draft| draft.lexicons[1][1].continuation = 2, 8),
+        (|draft| draft.lexicons[0][1].form[0] = 1, 8),
+        (|draft| draft.lexicons[1][1].form[2] = 10, 8),
+    ];
+    for (spoil, k) in spoilings {
+        let mut draft = slip();
+        spoil(&mut draft);
+        assert_eq!(refusal(&draft.image()), k);
+    }
+    // The lexicon counts add to more than E.
+    let mut image = slip().image();
+    image[4 * 512 + 4] += 1;
+    seal(&mut image).unwrap();
+    assert_eq!(refusal(&image), 8);
 }
 
 #[test]

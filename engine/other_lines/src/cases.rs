@@ -90,7 +90,7 @@ fn place(prng: &mut Prng) -> Place {
         0 => Place::File(draft(prng).image()),
         1 => {
             let draft = draft(prng);
-            let k = prng.between(0, 8) as u8;
+            let k = prng.one_of(&[0, 1, 2, 3, 4, 5, 6, 7, 8, 14]);
             Place::File(damaged(prng, &draft, k).image)
         }
         2 => {

@@ -1,6 +1,6 @@
 //! Lines are drawn around words that have readings, and around each way a line can be unread.
 
-use draw::inputs::Pool;
+use draw::inputs::{any_word, Pool};
 use draw::prng::Prng;
 use other_engine::calls::Known;
 use other_engine::lines::LONGEST;
@@ -22,10 +22,7 @@ fn spelled(prng: &mut Prng, word: &[u8]) -> Vec<u8> {
 fn word(prng: &mut Prng, known: &Known, pool: &Pool) -> Vec<u8> {
     match known {
         Ok(grammar) => pool.word(prng, grammar),
-        Err(_) => {
-            let length = prng.one_of(&[1, 1, 2, 5, 32, 33]);
-            prng.bytes(length)
-        }
+        Err(_) => any_word(prng),
     }
 }
 

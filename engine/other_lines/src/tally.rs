@@ -3,11 +3,14 @@
 /// The replies a line can get.
 const REPLIES: [&str; 5] = ["all", "more", "none", "refused", "unread"];
 
-/// How often each reply, and each refusal, was met, and how often a first row with an entry that needs more than eleven bits.
+/// The refusals a line can get, in the order of their tests.
+const REFUSALS: [usize; 11] = [1, 2, 3, 4, 5, 6, 7, 8, 14, 9, 10];
+
+/// How often each reply, and each refusal by its number, was met, and how often a first row with an entry that needs more than eleven bits.
 #[derive(Default)]
 pub struct Tally {
     replies: [u64; 5],
-    refusals: [u64; 11],
+    refusals: [u64; 15],
     late_entries: u64,
 }
 
@@ -44,22 +47,25 @@ impl Tally {
     pub fn line(&self) -> String {
         let counted = |(name, count): (&&str, &u64)| format!("{name} {count}");
         let replies: Vec<String> = REPLIES.iter().zip(&self.replies).map(counted).collect();
-        let by_number: Vec<String> = (1..self.refusals.len())
-            .map(|k| format!("{k}:{}", self.refusals[k]))
-            .collect();
+        let refusals = REFUSALS.map(|k| format!("{k}:{}", self.refusals[k]));
         let late = self.late_entries;
         format!(
             "{}; refused {}; entry 2048 in row 0: {late}",
             replies.join(" "),
-            by_number.join(" ")
+            refusals.join(" ")
         )
     }
 
     /// What should have been met and has not.
-    pub fn missing(&self) -> Vec<&'static str> {
-        let unmet = REPLIES.iter().zip(self.replies).filter(|(_, n)| *n == 0);
+    pub fn missing(&self) -> Vec<String> {
+        let replies = REPLIES.iter().zip(self.replies).filter(|(_, n)| *n == 0);
+        let refusals = REFUSALS.iter().filter(|&&k| self.refusals[k] == 0);
         let late = (self.late_entries == 0).then_some("entry 2048 in row 0");
-        unmet.map(|(&name, _)| name).chain(late).collect()
+        replies
+            .map(|(name, _)| name.to_string())
+            .chain(refusals.map(|k| format!("refused {k}")))
+            .chain(late.map(str::to_string))
+            .collect()
     }
 }
 
