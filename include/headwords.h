@@ -18,7 +18,7 @@
  *   - no other thread writes to a lent range during the call, and none reads one that the call may write;
  *   - 128 kilobytes of stack are free.
  *
- * Every reply is one number r. r % 4 == 3 is a refusal, numbered r / 4:
+ * Every reply is one number r. r % 4 == 3 is a refusal, numbered r / 4. The tests, in the order in which they are made:
  *    1  image length 0, over 65,536, or no multiple of 512
  *    2  a check or block number is wrong
  *    3  form, counts, block total, kinds, record counts or unused block bytes are not as laid down
@@ -27,12 +27,14 @@
  *    6  a rule table's counts, column sides, marks or next states are out of range, or a byte after its last row is not 0
  *    7  for a listed or the boundary pair a rule has no matching column, or two narrowest
  *    8  lexicon counts do not add up to the entries, or an entry breaks its layout
+ *   14  an entry can never be spelled: a letter of its form is the lexical side of no pair
  *    9  word length 0 or over 32
  *   10  a word letter outside 2-L
  *   11  path of 0 or over 16 entries, or an odd count of bytes
  *   12  no such entry, or the path is not linked through the lexicon
  *   13  pairing length 0 or over 40, or no such pair
- * The first that fails, by number, is the one told. A refused call writes nothing.
+ * A call makes those that its declaration below names, each over the whole image before the next; the first that fails
+ * is the one told. A refused call writes nothing.
  */
 #ifndef HEADWORDS_H
 #define HEADWORDS_H
@@ -56,15 +58,15 @@ enum { HEADWORDS_NONE = 0, HEADWORDS_ALL = 1, HEADWORDS_MORE = 2, HEADWORDS_REFU
  *   4n + 1  all n readings are in rows 0 to n - 1
  *   4n + 2  there are more readings than the buffer has rows; it has the first n, and n is all its rows
  *   0       there is no reading; nothing is written
- *   4k + 3  refused (1 to 10); nothing is written
+ *   4k + 3  refused (1 to 8, 14, 9, 10); nothing is written
  * No byte past row n - 1 changes. */
 uint64_t headwords_analyse(const uint8_t *image, size_t image_length, const uint8_t *word, size_t word_length, uint8_t *rows, size_t rows_length);
 
 /* All readings with a path, given as two bytes to an entry number, the low byte first. Replies and rows as above; refused
- * with 1 to 8, 11 or 12. */
+ * with 1 to 8, 14, 11, 12. */
 uint64_t headwords_generate(const uint8_t *image, size_t image_length, const uint8_t *path, size_t path_length, uint8_t *rows, size_t rows_length);
 
-/* 1 where the image is accepted, 4k + 3 where it is refused (1 to 8). Nothing is written. */
+/* 1 where the image is accepted, 4k + 3 where it is refused (1 to 8, 14). Nothing is written. */
 uint64_t headwords_check(const uint8_t *image, size_t image_length);
 
 /* Writes number and check into every block, and nothing else: replies 1. Refused for its length alone: replies 7 (k is
@@ -72,13 +74,13 @@ uint64_t headwords_check(const uint8_t *image, size_t image_length);
 uint64_t headwords_seal(uint8_t *image, size_t image_length);
 
 /* 1 where the path (as for headwords_generate) and the pairing (one byte a pair number) are a reading of the word that they
- * spell, 0 where they are not, 4k + 3 where they are refused (1 to 8, 11 to 13). */
+ * spell, 0 where they are not, 4k + 3 where they are refused (1 to 8, 14, 11 to 13). */
 uint64_t headwords_judge(const uint8_t *image, size_t image_length, const uint8_t *path, size_t path_length, const uint8_t *pairing, size_t pairing_length);
 
 /* The letters of an entry's form, at most 12.
  *   4n + 1  the form has n letters, and they are in letters[0] to letters[n - 1]; no byte past them changes
  *   4n + 2  the form has n letters, and the lent buffer is shorter; nothing is written
- *   4k + 3  refused (1 to 8, 12 where there is no such entry); nothing is written */
+ *   4k + 3  refused (1 to 8, 14, 12 where there is no such entry); nothing is written */
 uint64_t headwords_form(const uint8_t *image, size_t image_length, size_t entry, uint8_t *letters, size_t letters_length);
 
 #ifdef __cplusplus
