@@ -58,12 +58,12 @@ enum { HEADWORDS_NONE = 0, HEADWORDS_ALL = 1, HEADWORDS_MORE = 2, HEADWORDS_REFU
  *   4n + 1  all n readings are in rows 0 to n - 1
  *   4n + 2  there are more readings than the buffer has rows; it has the first n, and n is all its rows
  *   0       there is no reading; nothing is written
- *   4k + 3  refused (1 to 8, 14, 9, 10); nothing is written
+ *   4k + 3  refused (1 to 8, 14, 9 or 10); nothing is written
  * No byte past row n - 1 changes. */
 uint64_t headwords_analyse(const uint8_t *image, size_t image_length, const uint8_t *word, size_t word_length, uint8_t *rows, size_t rows_length);
 
 /* All readings with a path, given as two bytes to an entry number, the low byte first. Replies and rows as above; refused
- * with 1 to 8, 14, 11, 12. */
+ * with 1 to 8, 14, 11 or 12. */
 uint64_t headwords_generate(const uint8_t *image, size_t image_length, const uint8_t *path, size_t path_length, uint8_t *rows, size_t rows_length);
 
 /* 1 where the image is accepted, 4k + 3 where it is refused (1 to 8, 14). Nothing is written. */

@@ -54,6 +54,6 @@ fn just_the_entries_that_14_refuses_are_named() {
         assert_eq!(together.iter().map(|fault| fault.line).collect::<Vec<_>>(), named, "{pairs:?}");
         refused += named.len();
     }
-    // 31 choices have no a on a lexical side, 31 no b, 3 neither: so often a, aa, b and bb, and ab and ba, are refused.
+    // 31 choices have no a on a lexical side, 31 no b, 3 neither. So a, aa, b and bb are refused 31 times each, ab and ba 59 times each.
     assert_eq!(refused, 4 * 31 + 2 * (31 + 31 - 3));
 }

@@ -21,7 +21,7 @@ fn word_verdict(image: &[u8], h: Header, word: &[u8]) -> Verdict
     if n > 32 {
         return Verdict::Refused(9);
     }
-    if !lexicon::are_letters(word, 0, n, h.letters) {
+    if !letters::are_letters(word, 0, n, h.letters) {
         return Verdict::Refused(10);
     }
     Verdict::Accepted

@@ -25,6 +25,7 @@ use Rattle.model.proofs.Demand.{demand3-call}
 use Rattle.model.proofs.Unspelled.{refused-14, refused-by-each}
 use Rattle.image.specs.Sealing.{sealingOf}
 use Rattle.grammar.specs.Answers.{verdictOf, formReplyOf}
+use Rattle.grammar.proofs.Verdicts.{form-refused, view-none}
 use Rattle.judge.specs.Answers.{judgementOf}
 use Rattle.rows.specs.Fill.{replyOf}
 use Rattle.analyser.proofs.analyse.Reads as analyse
@@ -202,24 +203,44 @@ pub demand1-headwords-form : (κs : _) (a : _) (r : _) (s : _) → headwords-for
     Demand1 (viewTests image e) (λ k. r ≡ 4 * k + 3) (after ≡ before) (FormCopied image e before after r)
 demand1-headwords-form κs a r s p = demand1 (calls.view-table (a .0 .now) (a .1 .0)) (numbers.form-number-case (a .0 .now) (a .1 .0) (a .1 .1 .0 .now) (s .1 .1 .0 .now) r (p .0) (p .1))
 
--- Document 02, (b): "Such an image is to be refused by every call but sealing." An image that passes tests 1 to 8 and has an entry that can never be spelled
--- is refused with 14 by each call that begins with the image's tests, whatever it is asked for, and no byte changes.
-abbrev RefusesWith14 : List (ℕ × Bool) → Type 1
-RefusesWith14 tests = (Refused : ℕ → Type 0) (Unchanged Work : Type 0) → Demand1 tests Refused Unchanged Work → Refused 14 × Unchanged
+-- Document 02, (b): "Such an image is to be refused by every call but sealing.": one that passes tests 1 to 8 and has an entry that can never be spelled is
+-- refused with 14 by each of the other eleven, whatever it is asked for, and no byte changes. In C 4k + 3 is 59.
+abbrev pub Slipped : List ℕ → Type 0
+Slipped image = (firstFailing (formatTests image) ≡ accepted) × ((e : ℕ) × Unspelled image e)
 
-refuses-14 : (tests : List (ℕ × Bool)) → firstFailing tests ≡ Verdict.refused 14 → RefusesWith14 tests
-refuses-14 tests f Refused Unchanged Work d = let r = d .first-failing 14 .1 (fails-first tests 14 .0 f) in (r, d .unchanged 14 r)
+-- from demand 1, for any call that begins with the image's tests
+refused-with-14 : {tests : List (ℕ × Bool)} {Refused : ℕ → Type 0} {Unchanged Work : Type 0} → firstFailing tests ≡ Verdict.refused 14 → Demand1 tests Refused Unchanged Work → Refused 14 × Unchanged
+refused-with-14 {tests} f d = let r = d .first-failing 14 .1 (fails-first tests 14 .0 f) in (r, d .unchanged 14 r)
 
-pub unspelled-refused : (image : List ℕ) (e : ℕ) → firstFailing (formatTests image) ≡ accepted → Unspelled image e
-    → RefusesWith14 (imageTests image)
-    × ((request : Request) → RefusesWith14 (requestTests image request))
-    × ((path pairing : List ℕ) → RefusesWith14 (judgeTests image path pairing))
-    × ((entry : ℕ) → RefusesWith14 (viewTests image entry))
+slip-refused : (image : List ℕ) → Slipped image → imageVerdict image ≡ Verdict.refused 14
+slip-refused image u = refused-14 image .1 u
+
+pub unspelled-listing : {image : List ℕ} {request : Request} {before after : List ℕ} {reply : Reply} → Listing image request before after reply → Slipped image
+    → (reply ≡ Reply.refused 14) × (after ≡ before)
+unspelled-listing {image} {request} l u = refused-with-14 (refused-by-each image (slip-refused image u) .0 request) (demand1-listing l)
+
+pub unspelled-refused :
+    ((κs : _) (a : _) (r : _) (s : _) → check.Post κs a r s → Slipped (a .0 .now) → verdictOf r ≡ Verdict.refused 14)
+    × ((κs : _) (a : _) (r : _) (s : _) → judge.Post κs a r s → Slipped (a .0 .now) → judgementOf r ≡ Judgement.refused 14)
+    × ((κs : _) (a : _) (r : _) (s : _) → form-reply.Post κs a r s → Slipped (a .0 .now) → formReplyOf r ≡ FormReply.refused 14)
+    × ((κs : _) (a : _) (r : _) (s : _) → form-view.Post κs a r s → Slipped (a .0 .now) → r .now ≡ [])
+    × ((κs : _) (a : _) (r : _) (s : _) → headwords-analyse.Post κs a r s → Slipped (a .0 .now) → (r ≡ 59) × (s .1 .1 .0 .now ≡ a .1 .1 .0 .now))
+    × ((κs : _) (a : _) (r : _) (s : _) → headwords-generate.Post κs a r s → Slipped (a .0 .now) → (r ≡ 59) × (s .1 .1 .0 .now ≡ a .1 .1 .0 .now))
+    × ((κs : _) (a : _) (r : _) (s : _) → headwords-check.Post κs a r s → Slipped (a .0 .now) → r ≡ 59)
+    × ((κs : _) (a : _) (r : _) (s : _) → headwords-judge.Post κs a r s → Slipped (a .0 .now) → r ≡ 59)
+    × ((κs : _) (a : _) (r : _) (s : _) → headwords-form.Post κs a r s → Slipped (a .0 .now) → (r ≡ 59) × (s .1 .1 .0 .now ≡ a .1 .1 .0 .now))
 unfolding imageVerdict
-unspelled-refused image e f u =
-    let v = refused-14 image .1 (f, (e, u)) in
-    let t = refused-by-each image v in
-    (refuses-14 (imageTests image) v, λ request. refuses-14 (requestTests image request) (t .0 request), λ path pairing. refuses-14 (judgeTests image path pairing) (t .1 path pairing), λ entry. refuses-14 (viewTests image entry) (t .2 entry))
+unspelled-refused = (
+  λ κs a r s p u. refused-with-14 (slip-refused (a .0 .now) u) (demand1-check κs a r s p) .0,
+  λ κs a r s p u. refused-with-14 (refused-by-each (a .0 .now) (slip-refused (a .0 .now) u) .1 (a .1 .0 .now) (a .1 .1 .0 .now)) (demand1-judge κs a r s p) .0,
+  λ κs a r s p u. refused-with-14 (refused-by-each (a .0 .now) (slip-refused (a .0 .now) u) .2 (a .1 .0)) (demand1-form-reply κs a r s p) .0,
+  λ κs a r s p u. p ∙ sym (view-none (a .0 .now) (a .1 .0) 14 (sym (form-refused (a .0 .now) (a .1 .0) 14 (slip-refused (a .0 .now) u)))),
+  λ κs a r s p u. refused-with-14 (refused-by-each (a .0 .now) (slip-refused (a .0 .now) u) .0 (analysis (a .1 .0 .now))) (demand1-headwords-analyse κs a r s p),
+  λ κs a r s p u. refused-with-14 (refused-by-each (a .0 .now) (slip-refused (a .0 .now) u) .0 (generation (a .1 .0 .now))) (demand1-headwords-generate κs a r s p),
+  λ κs a r s p u. refused-with-14 (slip-refused (a .0 .now) u) (demand1-headwords-check κs a r s p) .0,
+  λ κs a r s p u. refused-with-14 (refused-by-each (a .0 .now) (slip-refused (a .0 .now) u) .1 (a .1 .0 .now) (a .1 .1 .0 .now)) (demand1-headwords-judge κs a r s p) .0,
+  λ κs a r s p u. refused-with-14 (refused-by-each (a .0 .now) (slip-refused (a .0 .now) u) .2 (a .1 .0)) (demand1-headwords-form κs a r s p),
+)
 
 -- DEMAND 2
 

@@ -45,7 +45,7 @@ fn check_records(image: &[u8], h: Header) -> Verdict
     if !tables::right_columns(image, h) {
         return Verdict::Refused(7);
     }
-    if lexicon::right_forms(image, h) {
+    if lexicon::right_lexicon(image, h) {
         return Verdict::Accepted;
     }
     if !lexicon::right_entries(image, h) {

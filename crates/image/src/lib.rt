@@ -25,7 +25,7 @@ pub fn number_at(bytes: &[u8], at: usize) -> usize
     byte_at(bytes, at) + 256 * byte_at(bytes, at + 1)
 }
 
-// Whether each byte from `from` up to `end` is 0, up to the first that is not: for a few bytes.
+// Whether each byte from `from` up to `end` is 0. It stops at the first that is not, which suits a few bytes.
 pub fn are_zeros(bytes: &[u8], from: usize, end: usize) -> bool
     requires { ⌜ end ≤ length (now bytes) ⌝ }
     ensures { λ r. ⌜ r ≡ every isZero (drop from (take end (now (bytes .entry)))) ⌝ }

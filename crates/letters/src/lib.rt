@@ -1,8 +1,8 @@
 // Letters and pairs of an image: tests 4 and 5 of the image check, and the two sides of a pair, each level by a type of its own.
 ghost use mathlib.Core.Path.{_≡_};
 ghost use mathlib.Core.Bool.{_||_, not};
-ghost use Prim.Native.Nat.{_+_, _<_};
-ghost use lib.ListN.{length, getD, drop};
+ghost use Prim.Native.Nat.{_+_, _<_, _≤_};
+ghost use lib.ListN.{length, getD, take, drop};
 ghost use lib.Dec.{eqb};
 ghost use Rattle.model.specs.Lists.{byte, every, any, distinct, within, isZero};
 ghost use Rattle.model.specs.Blocks.{header};
@@ -113,6 +113,25 @@ pub fn right_letters(image: &[u8], h: Header) -> bool
         return false;
     }
     letters_differ(image, h)
+}
+
+// Whether each byte from `from` up to `end` is a letter, as in a word.
+pub fn are_letters(bytes: &[u8], from: usize, end: usize, letters: usize) -> bool
+    requires { ⌜ (from ≤ end) × (end ≤ length (now bytes)) ⌝ }
+    ensures { λ r. ⌜ r ≡ every (within 2 letters) (drop from (take end (now (bytes .entry)))) ⌝ }
+{
+    let mut at = from;
+    while at < end {
+        let letter = image::byte_at(bytes, at);
+        if letter < 2 {
+            return false;
+        }
+        if letter > letters {
+            return false;
+        }
+        at += 1;
+    }
+    true
 }
 
 // The lexical side of pair p.

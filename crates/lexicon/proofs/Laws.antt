@@ -14,26 +14,14 @@ use lib.Dec.{T, leb, ltb, eqb, leb→le, le→leb, ltb→lt, lt→ltb, eqb→eq}
 use borrow.Author.Tests.{le-leb, lt-leb}
 use Rattle.model.specs.Lists.{below, every, sum, within, isZero, byte, number}
 use Rattle.model.specs.Blocks.{Header, header, block, blockTotal, lexiconBlock, entryBlock}
-use Rattle.model.specs.Lexicon.{entryCount, firstEntry, inLexicon, entry, formLength, formOf, continuation, isEntry}
+use Rattle.model.specs.Lexicon.{entryCount, firstEntry, inLexicon, entry, formLength, formOf, continuation, isEntryOf, isEntry}
 use Rattle.model.specs.Refusals.{rightEntries}
 use Rattle.model.specs.Beside.{formStart}
-use Rattle.model.proofs.Booleans.{and-out, and-in, left-false, right-false, out4, true-of, within-out, within-in}
+use Rattle.model.proofs.Booleans.{and-out, and-in, out4, within-out}
 use Rattle.model.proofs.Lists.{below-has, drop-take, every-at, map-below}
 use Rattle.model.proofs.Rest.{every-getD}
 use Rattle.model.proofs.Blocks.{block-number}
 use Rattle.image.specs.Laid.{Laid}
-use Rattle.lexicon.specs.Entries.{isEntryOf}
-
--- a range's test by the order
-module _ (low high n : ℕ) where
-  pub within-below : n < low → within low high n ≡ false
-  within-below h = left-false (leb low n) (leb n high) (lt-leb low n h)
-
-  pub within-above : high < n → within low high n ≡ false
-  within-above h = right-false (leb low n) (leb n high) (lt-leb n high h)
-
-  pub within-true : low ≤ n → n ≤ high → within low high n ≡ true
-  within-true h k = true-of (within low high n) (within-in low high n h k)
 
 -- where the bytes of entry e begin
 abbrev pub entryStart : Header → ℕ → ℕ
@@ -74,13 +62,13 @@ module _ (image : List ℕ) (at : ℕ) where
       ∙ drop-drop (1 + n) at (take (at + 13) image)
 
   module _ (may : ℕ → Bool) (lexicons : ℕ) where
-    pub entry-long : 12 < byte image at → isEntryOf may (take 16 (drop at image)) lexicons ≡ false
+    pub entry-long : 12 < byte image at → isEntryOf (take 16 (drop at image)) may lexicons ≡ false
     unfolding isEntryOf
     entry-long h = rw (lt-leb (formLength (take 16 (drop at image))) 12 (omega (arith, length-there))) refl
 
     -- by the form length n and the continuation m that were read
     pub entry-there : (n m : ℕ) → n ≡ byte image at → m ≡ byte image (at + 13) → n ≤ 12
-        → isEntryOf may (take 16 (drop at image)) lexicons
+        → isEntryOf (take 16 (drop at image)) may lexicons
         ≡ (every may (drop (at + 1) (take (at + (1 + n)) image))
         && every isZero (drop (at + (1 + n)) (take (at + 13) image))
         && (ltb m lexicons || eqb m 255))
@@ -214,7 +202,7 @@ module _ (image : List ℕ) (h : Header) (laid : Laid image h) (right : T (right
 
   module _ (e : ℕ) (within-entries : e < h .entries) where
     entry-parts : T (leb (formLength (entry image e)) 12) × T (every (within 2 (h .letters)) (formOf (entry image e))) × T (every isZero (drop (1 + formLength (entry image e)) (take 13 (entry image e)))) × T (ltb (continuation (entry image e)) (h .lexicons) || eqb (continuation (entry image e)) 255)
-    unfolding isEntry
+    unfolding isEntryOf isEntry
     entry-parts =
         out4 (leb (formLength (entry image e)) 12) (every (within 2 (h .letters)) (formOf (entry image e))) (every isZero (drop (1 + formLength (entry image e)) (take 13 (entry image e)))) (ltb (continuation (entry image e)) (h .lexicons) || eqb (continuation (entry image e)) 255)
         (entry-right e within-entries)

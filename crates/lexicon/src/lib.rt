@@ -7,14 +7,13 @@ ghost use mathlib.Core.Bool.{_&&_, _||_};
 ghost use Prim.Native.Nat.{_+_, _*_, _/_, _%_, _<_, _≤_};
 ghost use lib.ListN.{length, take, drop};
 ghost use lib.Dec.{T, ltb, eqb};
-ghost use Rattle.model.specs.Lists.{every, within};
 ghost use Rattle.model.specs.Blocks.{entryBlock};
-ghost use Rattle.model.specs.Lexicon.{entryCount, firstEntry, entry, formLength, continuation};
+ghost use Rattle.model.specs.Lexicon.{entryCount, firstEntry, entry, formLength, continuation, isEntryOf};
 ghost use Rattle.model.specs.Refusals.{rightPairs, rightEntries, rightForms};
 ghost use Rattle.image.specs.Header.{headerOf};
 ghost use Rattle.image.specs.Laid.{Laid};
 ghost use Rattle.letters.specs.Marks.{isMarked};
-ghost use Rattle.lexicon.specs.Entries.{isEntryOf, areEntriesOf, isLexiconOf};
+ghost use Rattle.lexicon.specs.Entries.{areEntriesOf, isLexiconOf};
 
 // How many entries lexicon x has.
 pub fn entry_count(image: &[u8], h: Header, x: usize) -> usize
@@ -67,25 +66,6 @@ pub fn continuation_of(image: &[u8], h: Header, e: usize) -> usize
     image::byte_at(image, entry_start(h, e) + 13)
 }
 
-// Whether each byte from `from` up to `end` is a letter, as in a word.
-pub fn are_letters(bytes: &[u8], from: usize, end: usize, letters: usize) -> bool
-    requires { ⌜ (from ≤ end) × (end ≤ length (now bytes)) ⌝ }
-    ensures { λ r. ⌜ r ≡ every (within 2 letters) (drop from (take end (now (bytes .entry)))) ⌝ }
-{
-    let mut at = from;
-    while at < end {
-        let letter = image::byte_at(bytes, at);
-        if letter < 2 {
-            return false;
-        }
-        if letter > letters {
-            return false;
-        }
-        at += 1;
-    }
-    true
-}
-
 // Whether a continuation is a lexicon or 255, the end of a path.
 fn is_continuation(continuation: usize, lexicons: usize) -> bool
     ensures { λ r. ⌜ r ≡ (ltb continuation lexicons || eqb continuation 255) ⌝ }
@@ -96,17 +76,17 @@ fn is_continuation(continuation: usize, lexicons: usize) -> bool
     continuation == 255
 }
 
-// Whether the 16 bytes from `at` on are laid out as an entry, with marked letters alone.
-fn is_entry(image: &[u8], at: usize, may: &[u8; 256], lexicons: usize) -> bool
+// Whether the 16 bytes from `at` on are laid out as an entry whose letters are all marked.
+fn is_entry(image: &[u8], at: usize, marked: &[u8; 256], lexicons: usize) -> bool
     requires { ⌜ at + 16 ≤ length (now image) ⌝ }
-    ensures { λ r. ⌜ r ≡ isEntryOf (isMarked (now (may .entry))) (take 16 (drop at (now (image .entry)))) lexicons ⌝ }
+    ensures { λ r. ⌜ r ≡ isEntryOf (take 16 (drop at (now (image .entry)))) (isMarked (now (marked .entry))) lexicons ⌝ }
 {
     let form_length = image::byte_at(image, at);
     if form_length > 12 {
         return false;
     }
     let form_end = at + (1 + form_length);
-    if !marks::are_marked(image, at + 1, form_end, may) {
+    if !marks::are_marked(image, at + 1, form_end, marked) {
         return false;
     }
     if !image::are_zeros(image, form_end, at + 13) {
@@ -118,17 +98,17 @@ fn is_entry(image: &[u8], at: usize, may: &[u8; 256], lexicons: usize) -> bool
 // From the end of a block's last entry to the next block's first: the block's check and the next one's number, kind and count, with the bytes unused.
 const BETWEEN: usize = 512 - kinds::ENTRIES_PER_BLOCK * kinds::ENTRY_WIDTH;
 
-// Whether every entry is laid out as one, with marked letters alone.
-fn are_entries(image: &[u8], h: Header, may: &[u8; 256]) -> bool
+// Whether every entry is laid out as one whose letters are all marked.
+fn are_entries(image: &[u8], h: Header, marked: &[u8; 256]) -> bool
     requires { ⌜ Laid (now image) (headerOf h) ⌝ }
-    ensures { λ r. ⌜ r ≡ areEntriesOf (isMarked (now (may .entry))) (now (image .entry)) (headerOf h) ⌝ }
+    ensures { λ r. ⌜ r ≡ areEntriesOf (isMarked (now (marked .entry))) (now (image .entry)) (headerOf h) ⌝ }
 {
     let lexicons = h.lexicons;
     let mut left = h.entries;
     let mut at = entry_start(h, 0);
     let mut slot: usize = 0;
     while left > 0 {
-        if !is_entry(image, at, may, lexicons) {
+        if !is_entry(image, at, marked, lexicons) {
             return false;
         }
         left -= 1;
@@ -142,17 +122,17 @@ fn are_entries(image: &[u8], h: Header, may: &[u8; 256]) -> bool
     true
 }
 
-// Whether the lexicons' counts add to E, and every entry is laid out as one, with marked letters alone.
-fn is_lexicon(image: &[u8], h: Header, may: &[u8; 256]) -> bool
+// Whether the lexicons' counts add to E, and every entry is laid out as one whose letters are all marked.
+fn is_lexicon(image: &[u8], h: Header, marked: &[u8; 256]) -> bool
     requires { ⌜ Laid (now image) (headerOf h) ⌝ }
-    ensures { λ r. ⌜ r ≡ isLexiconOf (isMarked (now (may .entry))) (now (image .entry)) (headerOf h) ⌝ }
+    ensures { λ r. ⌜ r ≡ isLexiconOf (isMarked (now (marked .entry))) (now (image .entry)) (headerOf h) ⌝ }
 {
     let lexicons = h.lexicons;
     let entries = h.entries;
     if first_entry(image, h, lexicons) != entries {
         return false;
     }
-    are_entries(image, h, may)
+    are_entries(image, h, marked)
 }
 
 // Test 8 of the image check.
@@ -160,16 +140,16 @@ pub fn right_entries(image: &[u8], h: Header) -> bool
     requires { ⌜ Laid (now image) (headerOf h) ⌝ }
     ensures { λ r. ⌜ r ≡ rightEntries (now (image .entry)) ⌝ }
 {
-    let may = marks::letter_marks(h.letters);
-    is_lexicon(image, h, &may)
+    let marked = marks::letter_marks(h.letters);
+    is_lexicon(image, h, &marked)
 }
 
-// Tests 8 and 14 in one walk over the entries: a letter that some pair has on its lexical side is a letter.
-pub fn right_forms(image: &[u8], h: Header) -> bool
+// Tests 8 and 14 in one walk over the entries: a letter that some pair has on its lexical side is one of 2 to L.
+pub fn right_lexicon(image: &[u8], h: Header) -> bool
     requires { ⌜ Laid (now image) (headerOf h) ⌝ }
     requires { ⌜ T (rightPairs (now image)) ⌝ }
     ensures { λ r. ⌜ r ≡ (rightEntries (now (image .entry)) && rightForms (now (image .entry))) ⌝ }
 {
-    let may = marks::lexical_marks(image, h);
-    is_lexicon(image, h, &may)
+    let marked = marks::lexical_marks(image, h);
+    is_lexicon(image, h, &marked)
 }

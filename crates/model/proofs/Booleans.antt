@@ -1,9 +1,10 @@
 -- Tests joined by &&, taken apart and put together; tests of numbers and lists.
-use Prim.Native.Nat.{ℕ, _≤_}
+use Prim.Native.Nat.{ℕ, _<_, _≤_}
 use mathlib.Core.Bool.{Bool, true, false, _&&_, _||_, not}
 use mathlib.Core.Path.{_≡_, refl, ap, subst}
 use mathlib.Core.List.{List, [], _∷_}
 use lib.Dec.{T, leb, eqb, eqb→eq, eqb-refl, leb→le, le→leb}
+use borrow.Author.Tests.{lt-leb}
 use Rattle.model.specs.Lists.{sameList, within}
 
 pub and-out : (a b : Bool) → T (a && b) → T a × T b
@@ -103,6 +104,17 @@ within-out low high n t = let u = and-out (leb low n) (leb n high) t in (leb→l
 
 pub within-in : (low high n : ℕ) → low ≤ n → n ≤ high → T (within low high n)
 within-in low high n h k = and-in (leb low n) (leb n high) (le→leb low n h) (le→leb n high k)
+
+-- a range's test by the order
+module _ (low high n : ℕ) where
+  pub within-below : n < low → within low high n ≡ false
+  within-below h = left-false (leb low n) (leb n high) (lt-leb low n h)
+
+  pub within-above : high < n → within low high n ≡ false
+  within-above h = right-false (leb low n) (leb n high) (lt-leb n high h)
+
+  pub within-true : low ≤ n → n ≤ high → within low high n ≡ true
+  within-true h k = true-of (within low high n) (within-in low high n h k)
 
 pub same-out : (xs ys : List ℕ) → T (sameList xs ys) → xs ≡ ys
 same-out [] [] t = refl

@@ -1,4 +1,4 @@
--- Document 01's table of refusals, its small example for each number and its neighbours; its other trials; and its traps.
+-- Document 01's table of refusals, its small example for each number and its neighbours, and those of 14; its other trials; and its traps.
 use Prim.Native.Nat.{ℕ, _+_}
 use mathlib.Core.Path.{_≡_, refl}
 use mathlib.Core.List.{List, [], _∷_, _++_, map}
@@ -68,7 +68,7 @@ refusal-8 : (changed 2564 13 ∷ changed 2565 10 ∷ changed 2568 2 ∷ changed 
 unfolding computed
 refusal-8 = refl
 
--- z on surface sides alone: the first letter of entry 0, a letter of entry 2, once empty, and the last letter of the last entry. Pairs l:l and 0:s and an entry ls: s is only inserted.
+-- z on surface sides alone: the first letter of entry 0, a letter of entry 2, which was empty, and the last letter of the last entry. Pairs l:l and 0:s and an entry ls: s is only inserted.
 -- A twelfth letter; the 32nd entry, the first of the second block.
 refusal-14 : (changed 2565 8 ∷ imageVerdict (sealedImage (set (set luzImage 2596 1) 2597 8)) ∷ changed 2615 8 ∷ imageVerdict (imageOf luzLetters (5 ∷ 5 ∷ 0 ∷ 6 ∷ []) (1 ∷ 1 ∷ 255 ∷ 255 ∷ 1 ∷ 1 ∷ []) ((entryBytes (5 ∷ 6 ∷ []) 255 0 ∷ []) ∷ [])) ∷ imageVerdict (imageOf luzLetters luzPairs luzTable ((entryBytes (replicate 11 5 ++ (8 ∷ [])) 255 0 ∷ []) ∷ [])) ∷ imageVerdict (imageOf luzLetters luzPairs luzTable ((replicate 31 (entryBytes (5 ∷ []) 255 0) ++ (entryBytes (8 ∷ []) 255 0 ∷ [])) ∷ [])) ∷ [])
     ≡ replicate 6 (Verdict.refused 14)

@@ -115,6 +115,18 @@ module _ {A : Type 0} where
       go true h k r = (x, List·Memᴰ·head refl, rw h tt)
       go false h k r = let u = r k in (u .0, List·Memᴰ·tail (u .1), u .2)
 
+  pub any-more : (f : A → Bool) (xs : List A) (x : A) → any f (xs ++ (x ∷ [])) ≡ (any f xs || f x)
+  any-more f [] x = or-false (f x)
+    where
+      or-false : (b : Bool) → (b || false) ≡ b
+      or-false true = refl
+      or-false false = refl
+  any-more f (y ∷ xs) x = go (f y) (any-more f xs x)
+    where
+      go : (b : Bool) → any f (xs ++ (x ∷ [])) ≡ (any f xs || f x) → (b || any f (xs ++ (x ∷ []))) ≡ (b || any f xs || f x)
+      go true e = refl
+      go false e = e
+
   pub any-has : (f : A → Bool) (xs : List A) {x : A} → List·Memᴰ x xs → T (f x) → T (any f xs)
   any-has f (y ∷ xs) (List·Memᴰ·head e) t = left-or (f y) (any f xs) (subst (λ z. T (f z)) e t)
   any-has f (y ∷ xs) (List·Memᴰ·tail m) t = right-or (f y) (any f xs) (any-has f xs m t)

@@ -1,5 +1,5 @@
--- An entry that can never be spelled: accepted images are fewer by just those that have one, every call but sealing refuses them with 14, and no row is
--- lost, since no reading's path ever held such an entry.
+-- An entry that can never be spelled: accepted images are fewer by just those that have one, every call but sealing refuses them with 14, and no reading's
+-- path ever held such an entry, so that no row is lost with it.
 use Prim.Native.Nat.{ℕ, zero, suc, _+_, _*_, _<_}
 use native.Mathlib.Omega.{arith}
 use mathlib.Core.Bool.{Bool, true, false}
@@ -44,9 +44,9 @@ module _ (image : List ℕ) where
       (eq→eqb (getD (pairs image) p boundaryPair .lexical) a e)
 
   -- test 14 in words
-  forms-spelled : T (rightForms image) → (e : ℕ) → Unspelled image e → ⊥
+  none-unspelled : T (rightForms image) → (e : ℕ) → Unspelled image e → ⊥
   unfolding rightForms
-  forms-spelled t e u =
+  none-unspelled t e u =
       let s = every-at (λ e. every (isLexical image) (formOf (entry image e))) (below (header image .entries)) (below-has (header image .entries) e (u .entry-there)) t in
       let f = lexical-from (u .letter) (every-at (isLexical image) (formOf (entry image e)) (u .in-form) s) in
       u .no-pair (f .0) (f .1) (f .2)
@@ -59,7 +59,7 @@ module _ (image : List ℕ) where
       (m .0, record { entry-there = below-from (header image .entries) (m .0) (m .1); letter = n .0; in-form = n .1; no-pair = λ p l e. subst T (n .2) (lexical-has (n .0) p l e) })
 
   unspelled-false : (e : ℕ) → Unspelled image e → rightForms image ≡ false
-  unspelled-false e u = false-of (rightForms image) (λ t. forms-spelled t e u)
+  unspelled-false e u = false-of (rightForms image) (λ t. none-unspelled t e u)
 
   -- the verdict, where the others pass
   last-verdict : firstFailing (formatTests image) ≡ accepted → imageVerdict image ≡ unless (rightForms image) 14 accepted
@@ -135,7 +135,7 @@ letters-paired g r e a t in-path in-form =
     let v = map-from (g .lexical) ps m in
     (v .0, v .1, ltb→lt (v .0) (g .pairs) (every-at (λ p. ltb p (g .pairs)) ps (v .1) (u .2)), sym (v .2))
 
--- "simply never found": no row is lost
+-- "simply never found": no row is lost with the entry
 module _ (image : List ℕ) (e : ℕ) (u : Unspelled image e) where
   pub never-read : (r : Reading) → T (isReading (grammarOf image) r) → List·Memᴰ e (r .path) → ⊥
   unfolding grammarOf

@@ -1,6 +1,6 @@
 -- Document 01, "Lexicon": entries of an image, the entries of a lexicon, and paths.
-use Prim.Native.Nat.{ℕ, suc, _+_, _*_, _/_, _%_}
-use mathlib.Core.Bool.{Bool, true, false, _&&_, _||_, not}
+use Prim.Native.Nat.{ℕ, _+_, _*_, _/_, _%_}
+use mathlib.Core.Bool.{Bool, _&&_, _||_, not}
 use mathlib.Core.List.{List, [], _∷_, map}
 use lib.ListN.{length, take, drop}
 use lib.Dec.{leb, ltb, eqb}
@@ -37,12 +37,16 @@ module _ (entry : List ℕ) where
   abbrev pub gloss : ℕ
   gloss = number entry 14
 
-  unfoldable pub isEntry : ℕ → ℕ → Bool
-  isEntry letters lexicons =
+  -- by the letters that a form may have
+  unfoldable pub isEntryOf : (ℕ → Bool) → ℕ → Bool
+  isEntryOf may lexicons =
       leb formLength 12
-      && every (within 2 letters) formOf
+      && every may formOf
       && every isZero (drop (1 + formLength) (take 13 entry))
       && (ltb continuation lexicons || eqb continuation 255)
+
+  unfoldable pub isEntry : ℕ → ℕ → Bool
+  isEntry letters lexicons = isEntryOf (within 2 letters) lexicons
 
 -- "A path is 1-16 entries, the first from lexicon 0, each next from its predecessor's continuation, the last and only the last with 255."
 -- By the number of entries, which may begin, which may follow which, and which end a path.

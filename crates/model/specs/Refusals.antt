@@ -75,6 +75,7 @@ module _ (image : List ℕ) where
   unfoldable pub rightForms : Bool
   rightForms = every (λ e. every isLexical (formOf (entry image e))) (below (header image .entries))
 
+  -- document 01's own tests of an image, "1-8"
   unfoldable pub formatTests : List (ℕ × Bool)
   formatTests = (1, rightLength) ∷ (2, rightChecks) ∷ (3, rightLayout) ∷ (4, rightLetters) ∷ (5, rightPairs) ∷ (6, rightTables) ∷ (7, rightColumns) ∷ (8, rightEntries) ∷ []
 

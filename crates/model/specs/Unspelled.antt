@@ -1,4 +1,4 @@
--- Document 02, (b): "An entry that can never be spelled".
+-- Document 02, (b), "An entry that can never be spelled", in words: a letter of its form is the lexical side of no pair.
 use Prim.Native.Nat.{ℕ, _<_}
 use mathlib.Core.Path.{_≡_}
 use mathlib.Core.List.{List, List·Memᴰ}

@@ -14,7 +14,7 @@ use Rattle.model.specs.GrammarOf.{grammarOf}
 use Rattle.model.specs.Readings.{nulls, spelled, fewNulls, wordLength, pairingLength, passes, isLinked, isPath, isReading}
 use Rattle.model.specs.Query.{entryNumbers}
 use Rattle.model.proofs.Booleans.{and-out, and-in, true-of}
-use Rattle.lexicon.proofs.Laws.{within-below, within-above, within-true}
+use Rattle.model.proofs.Booleans.{within-below, within-above, within-true}
 use Rattle.rules.specs.Judge.{Listed, formsOf, levelsRight, judgedReading}
 use Rattle.rules.proofs.PathLaws.{lengthRight}
 use Rattle.rules.proofs.PairingLaws.{pairingRight, length-spelled}

@@ -17,7 +17,7 @@ use Rattle.model.proofs.Booleans.{true-of, false-of}
 use Rattle.model.proofs.Rest.{drop-step, every-getD}
 use Rattle.model.proofs.Rules.{passesFrom, start-to, start-alive, start-from, passes-alive, passes-from, passes-to, finish-from, finish-to}
 use Rattle.image.specs.Accepted.{Accepted}
-use Rattle.lexicon.proofs.Laws.{within-below, within-above, within-true}
+use Rattle.model.proofs.Booleans.{within-below, within-above, within-true}
 use Rattle.rules.specs.Live.{Live, StepOf, BegunOf, stepOf, begunOf, finishOf}
 use Rattle.rules.specs.Judge.{Listed}
 use Rattle.rules.proofs.Stepping.{live-alive}

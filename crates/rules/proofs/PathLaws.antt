@@ -21,7 +21,8 @@ use Rattle.model.proofs.Booleans.{and-out, and-in, of-true}
 use Rattle.model.proofs.Lists.{length-map-below, getD-map-below, every-append}
 use Rattle.model.proofs.Rest.{drop-step, every-getD}
 use Rattle.image.specs.Accepted.{Accepted}
-use Rattle.lexicon.proofs.Laws.{within-below, within-above, within-true, entryStart, entry-inside, form-size, form-byte, form-short, form-letters}
+use Rattle.model.proofs.Booleans.{within-below, within-above, within-true}
+use Rattle.lexicon.proofs.Laws.{entryStart, entry-inside, form-size, form-byte, form-short, form-letters}
 use Rattle.rules.specs.Judge.{Entered, formsOf}
 use Rattle.rules.proofs.Laws.{laid-entries}
 

@@ -11,7 +11,7 @@ use lib.Dec.{T, leb, ltb, eqb}
 use borrow.Author.Tests.{eqb-true, ne-eqb}
 use Rattle.model.specs.Lists.{given, any, every, within, flatMap, isZero, byte}
 use Rattle.model.specs.Blocks.{Header}
-use Rattle.model.specs.Lexicon.{entry, formOf, formLength, continuation, isEntry}
+use Rattle.model.specs.Lexicon.{entry, formOf, formLength, continuation, isEntryOf, isEntry}
 use Rattle.model.specs.Refusals.{rightEntries}
 use Rattle.model.specs.Grammar.{Grammar}
 use Rattle.model.specs.GrammarOf.{grammarOf}
@@ -55,7 +55,7 @@ module _ (image : List ℕ) (h : Header) (ok : Accepted image h) (e : ℕ) (insi
   first-inside = entries.entry-inside image h (ok .laid) e 1 inside (omega arith)
 
   pub first-is : byte image (entryStart h e + 1) ≡ headOf (grammarOf image .form e)
-  unfolding grammarOf formOf isEntry
+  unfolding grammarOf formOf isEntryOf isEntry
   first-is =
       let l = entry image e in
       sym (entries.entry-byte image h (ok .laid) e 1 (omega arith))

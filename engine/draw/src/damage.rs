@@ -333,7 +333,7 @@ fn lexicon(prng: &mut Prng, place: &Place, image: &mut [u8]) {
             }
         }
         3 => {
-            // With twelve letters behind it a length of 13 breaks nothing but its own limit.
+            // With twelve letters behind it a length of 13 breaks nothing but its own limit, or test 14 as well.
             if prng.percent(60) {
                 image[at + 1..at + 13].fill(2);
             }

@@ -81,11 +81,11 @@ returns-4 c =
     let one = two .before .before in
     refused-7 (one .before .before .before .args .image .now) (letters-right one) (pairs-right two) (tables-right three) (sym (c .before .right-columns .ensures) ∙ not-true (c .before .right-columns .result) (c .if4 .taken))
 
-right-forms-requires : tie.Need-right-forms-requires
-right-forms-requires c κs = (one c .before .before .before .pre, of-true _ (pairs-right (two c)))
+right-lexicon-requires : tie.Need-right-lexicon-requires
+right-lexicon-requires c κs = (one c .before .before .before .pre, of-true _ (pairs-right (two c)))
 
 returns-5 : tie.Need-returns-5
-returns-5 c = accepts (c .before .before) (sym (c .if5 .taken) ∙ c .before .right-forms .ensures)
+returns-5 c = accepts (c .before .before) (sym (c .if5 .taken) ∙ c .before .right-lexicon .ensures)
 
 right-entries-requires : tie.Need-right-entries-requires
 right-entries-requires c κs = search needs
@@ -96,7 +96,7 @@ returns-6 c = refuses-8 (c .before .before .before .before) (sym (c .before .rig
 returns-7 : tie.Need-returns-7
 returns-7 c =
     let five = c .before .before in
-    refuses-14 (five .before .before) (sym (five .if5 .left) ∙ five .before .right-forms .ensures) (sym (c .before .right-entries .ensures) ∙ not-false (c .before .right-entries .result) (c .if6 .left))
+    refuses-14 (five .before .before) (sym (five .if5 .left) ∙ five .before .right-lexicon .ensures) (sym (c .before .right-entries .ensures) ∙ not-false (c .before .right-entries .result) (c .if6 .left))
 
 pub check-records-spec : {M : Type 1} → statement M
 check-records-spec =
@@ -110,7 +110,7 @@ check-records-spec =
     returns-3
     right-columns-requires
     returns-4
-    right-forms-requires
+    right-lexicon-requires
     returns-5
     right-entries-requires
     returns-6

@@ -8,10 +8,9 @@ use mathlib.Core.Path.{_≡_, sym, ap, _∙_}
 use Prim.Native.Nat.{ℕ, _+_, _*_, _-_, _/_, _%_, _<_, _≤_}
 use lib.ListN.{length, getD, take, drop}
 use Rattle.model.specs.Lists.{below, every}
-use Rattle.model.specs.Lexicon.{entry}
+use Rattle.model.specs.Lexicon.{entry, isEntryOf}
 use Rattle.image.specs.Header.{headerOf}
 use Rattle.letters.specs.Marks.{isMarked}
-use Rattle.lexicon.specs.Entries.{isEntryOf}
 use Rattle.model.proofs.Lists.{length-below, getD-below}
 use Rattle.model.proofs.Rest.{every-on, every-fails, every-done}
 use Rattle.lexicon.proofs.Laws.{entryStart, entry-at, entry-inside}
@@ -20,18 +19,18 @@ use Rattle.lexicon.proofs.are_entries.Tie as tie
 
 -- what is asked of entry e
 abbrev isRight : List ℕ → List ℕ → ℕ → ℕ → Bool
-isRight image may lexicons e = isEntryOf (isMarked may) (entry image e) lexicons
+isRight image marked lexicons e = isEntryOf (entry image e) (isMarked marked) lexicons
 
 -- entry left₀ - left comes next, at its slot and its place; at₀ is the place of entry 0
 abbrev Inv-loop : tie.InvT-loop
-Inv-loop image may lexicons left₀ at₀ slot₀ left at slot =
+Inv-loop image marked lexicons left₀ at₀ slot₀ left at slot =
     (left ≤ left₀)
     × (slot ≡ (left₀ - left) % 31)
     × (at ≡ at₀ + 512 * ((left₀ - left) / 31) + 16 * ((left₀ - left) % 31))
-    × (every (isRight image may lexicons) (drop (left₀ - left) (below left₀)) ≡ every (isRight image may lexicons) (below left₀))
+    × (every (isRight image marked lexicons) (drop (left₀ - left) (below left₀)) ≡ every (isRight image marked lexicons) (below left₀))
 
 abbrev μ-loop : tie.MeasureT-loop
-μ-loop image may lexicons left₀ at₀ slot₀ left at slot = left
+μ-loop image marked lexicons left₀ at₀ slot₀ left at slot = left
 
 -- the entry looked at in a turn
 module _ (c : tie.After-is-entry Inv-loop μ-loop) where
@@ -39,7 +38,7 @@ module _ (c : tie.After-is-entry Inv-loop μ-loop) where
   start = c .before .before .before .before .before
 
   abbrev right : ℕ → Bool
-  right = isRight (start .args .image .now) (start .args .may .now) (start .args .h .lexicons)
+  right = isRight (start .args .image .now) (start .args .marked .now) (start .args .h .lexicons)
 
   abbrev number : ℕ
   number = start .args .h .entries - c .before .before .loop .left
@@ -49,7 +48,7 @@ module _ (c : tie.After-is-entry Inv-loop μ-loop) where
 
   looked : right number ≡ c .is-entry .result
   looked =
-      ap (λ (l : List ℕ). isEntryOf (isMarked (start .args .may .now)) l (start .args .h .lexicons)) (entry-at (start .args .image .now) (headerOf (start .args .h)) (start .pre) number ∙ ap (λ (n : ℕ). take 16 (drop n (start .args .image .now))) (sym place))
+      ap (λ (l : List ℕ). isEntryOf l (isMarked (start .args .marked .now)) (start .args .h .lexicons)) (entry-at (start .args .image .now) (headerOf (start .args .h)) (start .pre) number ∙ ap (λ (n : ℕ). take 16 (drop n (start .args .image .now))) (sym place))
       ∙ sym (c .is-entry .ensures)
 
   there : number < length (below (start .args .h .entries))
@@ -72,7 +71,7 @@ entry-start-requires : tie.Need-entry-start-requires Inv-loop μ-loop
 entry-start-requires c κs = omega arith
 
 loop-holds : tie.Need-loop-holds Inv-loop μ-loop
-loop-holds c = let n = c .before .before .args .h .entries in (omega arith, omega arith, omega arith, ap (λ (k : ℕ). every (isRight (c .before .before .args .image .now) (c .before .before .args .may .now) (c .before .before .args .h .lexicons)) (drop k (below n))) (sub-self n))
+loop-holds c = let n = c .before .before .args .h .entries in (omega arith, omega arith, omega arith, ap (λ (k : ℕ). every (isRight (c .before .before .args .image .now) (c .before .before .args .marked .now) (c .before .before .args .h .lexicons)) (drop k (below n))) (sub-self n))
 
 is-entry-requires : tie.Need-is-entry-requires Inv-loop μ-loop
 is-entry-requires c κs =
@@ -110,7 +109,7 @@ loop-again-2 c = (omega arith, omega arith, omega arith, goes-on (c .before .bef
 returns-2 : tie.Need-returns-2 Inv-loop μ-loop
 returns-2 c =
     let a = c .before .before .before .before .args in
-    let f = isRight (a .image .now) (a .may .now) (a .h .lexicons) in
+    let f = isRight (a .image .now) (a .marked .now) (a .h .lexicons) in
     sym (every-done (below (a .h .entries)) (a .h .entries - c .before .loop .left) (omega (arith, length-below (a .h .entries))) f) ∙ c .before .loop .inv .3
 
 pub are-entries-spec : {M : Type 1} → statement M

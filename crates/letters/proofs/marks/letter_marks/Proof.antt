@@ -6,12 +6,12 @@ use mathlib.Core.List.{List}
 use Prim.Native.Nat.{ℕ, _+_, _-_, _≤_}
 use lib.ListN.{set}
 use Rattle.letters.specs.Marks.{marksOf}
-use Rattle.letters.proofs.MarkLaws.{upTo, marks-start, marks-more, marks-letters}
+use Rattle.letters.proofs.MarkLaws.{lettersBelow, marks-start, marks-more, marks-letters}
 use Rattle.letters.proofs.marks.letter_marks.Statement.{statement}
 use Rattle.letters.proofs.marks.letter_marks.Tie as tie
 
 abbrev Inv-loop : tie.InvT-loop
-Inv-loop letters marks₀ a₀ marks a = (2 ≤ a) × (a ≤ letters + 1) × (marks ≡ marksOf (upTo a))
+Inv-loop letters marks₀ a₀ marks a = (2 ≤ a) × (a ≤ letters + 1) × (marks ≡ marksOf (lettersBelow a))
 
 abbrev μ-loop : tie.MeasureT-loop
 μ-loop letters marks₀ a₀ marks a = letters + 1 - a
@@ -38,7 +38,7 @@ returns c =
     let l = c .before .loop in
     let letters = c .before .before .args .letters in
     let e : l .a ≡ letters + 1 = omega arith in
-    l .inv .2 ∙ ap (λ (n : ℕ). marksOf (upTo n)) e ∙ marks-letters letters
+    l .inv .2 ∙ ap (λ (n : ℕ). marksOf (lettersBelow n)) e ∙ marks-letters letters
 
 pub letter-marks-spec : {M : Type 1} → statement M
 letter-marks-spec = tie.close (tie.spec Inv-loop μ-loop loop-holds array-write-marks add-a loop-less loop-again returns)

@@ -7,9 +7,9 @@ use Prim.Native.Nat.{ℕ, _+_, _-_, _≤_}
 use lib.ListN.{take, drop}
 use Rattle.model.specs.Lists.{every, within}
 use Rattle.model.proofs.Rest.{part-on, part-fails, part-done}
-use Rattle.lexicon.proofs.Laws.{within-below, within-above, within-true}
-use Rattle.lexicon.proofs.are_letters.Statement.{statement}
-use Rattle.lexicon.proofs.are_letters.Tie as tie
+use Rattle.model.proofs.Booleans.{within-below, within-above, within-true}
+use Rattle.letters.proofs.are_letters.Statement.{statement}
+use Rattle.letters.proofs.are_letters.Tie as tie
 
 abbrev Inv-loop : tie.InvT-loop
 Inv-loop bytes from end letters at₀ at = (at ≤ end) × (every (within 2 letters) (drop at (take end bytes)) ≡ every (within 2 letters) (drop from (take end bytes)))
