@@ -14,6 +14,7 @@ use Rattle.model.specs.Lexicon.{entry, formLength}
 use Rattle.model.specs.GrammarOf.{grammarOf}
 use Rattle.model.specs.Readings.{Reading, spelled, isPath, isReading, word}
 use Rattle.model.specs.Query.{Request, analysis, generation, queryOf}
+use Rattle.model.specs.Tree.{readings}
 use Rattle.model.specs.Refusals.{Verdict, accepted, firstFailing, rightLength, formatTests, imageTests, imageVerdict, wordTests, pathTests, pairingTests, ownTests, requestTests, judgeTests, viewTests}
 use Rattle.model.specs.Rows.{Reply, rowBytes, replyNumber}
 use Rattle.model.specs.Calls.{Sealing, allReadings}
@@ -21,6 +22,7 @@ use Rattle.model.specs.Beside.{Judgement, FormReply, formReply}
 use Rattle.model.specs.Demand.{Demand3, IsMore, rowsHandedBack}
 use Rattle.model.specs.Unspelled.{Unspelled}
 use Rattle.model.proofs.Listing.{IsListing, listing-iff}
+use Rattle.model.proofs.Endings.{image-listing}
 use Rattle.model.proofs.Demand.{demand3-call}
 use Rattle.model.proofs.Unspelled.{refused-14, refused-by-each}
 use Rattle.image.specs.Sealing.{sealingOf}
@@ -325,4 +327,4 @@ pub demand3 : {image : List ℕ} {request : Request} {before after : List ℕ} {
     → (l : List Reading) → IsListing (grammarOf image) (queryOf request) l → Demand3 l reply before after
 unfolding allReadings
 demand3 {image} {request} {before} {after} {reply} c a b l i =
-    subst (λ (l : List Reading). Demand3 l reply before after) (sym (listing-iff (grammarOf image) (queryOf request) l .0 i)) (demand3-call image request before after a b reply .1 (promise c .replies, promise c .leaves))
+    subst (λ (l : List Reading). Demand3 l reply before after) (sym (listing-iff (readings (grammarOf image) (queryOf request)) (image-listing image (queryOf request)) l .0 i)) (demand3-call image request before after a b reply .1 (promise c .replies, promise c .leaves))

@@ -27,7 +27,7 @@ spells-to zero rest xs us t e = e
 spells-to (suc a) [] xs us t e = absurd t
 spells-to (suc a) (x ∷ rest) xs us t e = let d = eqb→eq x (suc a) t in cc
 
-nil-from : (l : List ℕ) → T (isNil l) → l ≡ []
+pub nil-from : (l : List ℕ) → T (isNil l) → l ≡ []
 nil-from [] t = refl
 nil-from (x ∷ l) t = absurd t
 
@@ -43,7 +43,7 @@ shut [] true h e = refl
 shut [] false h e = absurd (true≢false h)
 shut (x ∷ l) b h e = let z : _≡_ {A = ℕ} 0 1 = cc in absurd (omega arith)
 
-opens-false : (n : Node) → opens n ≡ false → n .rest ≡ [] → n .ended ≡ true
+pub opens-false : (n : Node) → opens n ≡ false → n .rest ≡ [] → n .ended ≡ true
 opens-false n h e = shut (n .rest) (n .ended) h e
 
 -- the bounds that the walk keeps
@@ -54,9 +54,15 @@ pub record Sane (g : Grammar) (n : Node) : Type 0 where
   pub nulls-in : n .nulls ≤ 8
   pub surface-sane : LevelSane (n .surface)
 
+-- the path from here on, unless it has ended
+module _ (g : Grammar) where
+  abbrev pub chained : Bool → (ℕ → Bool) → Bool → List ℕ → Bool
+  chained true may stop es = isNil es
+  chained false may stop es = linked (g .entries) (g .follows) (g .ends) may stop es
+
 -- the path and the pairing end what the node has begun
 pub record Completes (g : Grammar) (q : Query) (n : Node) (es ps : List ℕ) : Type 0 where
-  pub is-linked : T (linked (g .entries) (g .follows) (g .ends) (n .ways) (n .ended) es)
+  pub is-linked : T (chained g (n .ended) (n .ways) (n .stop) es)
   pub entries-in : n .entries + length es ≤ 16
   pub pairs-in : n .pairs + length ps ≤ 40
   pub listed : T (every (λ p. ltb p (g .pairs)) ps)
@@ -72,12 +78,12 @@ module _ (g : Grammar) (q : Query) (n : Node) where
   onward e es = linked (g .entries) (g .follows) (g .ends) (g .follows e) (g .ends e) es
 
   -- an entry opens
-  pub enter-to : (e : ℕ) (es ps : List ℕ) → opens n ≡ true → e < countAt g q true n → T (mayAt g q true n e) → Completes g q (goAt g q true n e) es ps → Completes g q n (e ∷ es) ps
+  pub enter-to : (e : ℕ) (es ps : List ℕ) → opens n ≡ true → suc e < countAt g q true n → T (mayAt g q true n (suc e)) → Completes g q (goAt g q true n (suc e)) es ps → Completes g q n (e ∷ es) ps
   unfolding countAt mayAt goAt linked
   enter-to e es ps o hi t c =
       let m = out3 (ltb (n .entries) 16) (n .ways e) (q .entries .allows (n .entries) e) t in
       record {
-        is-linked = in4 (not (n .ended)) (n .ways e) (ltb e (g .entries)) (onward e es) (rw ((opens-true n o) .1) tt) (m .1) (lt→ltb e (g .entries) hi) (c .is-linked);
+        is-linked = rw ((opens-true n o) .1) (in3 (n .ways e) (ltb e (g .entries)) (onward e es) (m .1) (lt→ltb e (g .entries) (omega (arith, hi))) (c .is-linked));
         entries-in = omega (arith, c .entries-in);
         pairs-in = c .pairs-in;
         listed = c .listed;
@@ -88,16 +94,17 @@ module _ (g : Grammar) (q : Query) (n : Node) where
         path-asked = and-in (q .entries .allows (n .entries) e) (fits (q .entries) (suc (n .entries)) es) (m .2) (c .path-asked);
       }
 
-  pub enter-from : (e : ℕ) (es ps : List ℕ) → opens n ≡ true → Completes g q n (e ∷ es) ps → (e < countAt g q true n) × T (mayAt g q true n e) × Completes g q (goAt g q true n e) es ps
+  pub enter-from : (e : ℕ) (es ps : List ℕ) → opens n ≡ true → Completes g q n (e ∷ es) ps → (suc e < countAt g q true n) × T (mayAt g q true n (suc e)) × Completes g q (goAt g q true n (suc e)) es ps
   unfolding countAt mayAt goAt linked
   enter-from e es ps o c =
-      let l = out4 (not (n .ended)) (n .ways e) (ltb e (g .entries)) (onward e es) (c .is-linked) in
+      let l = out3 (n .ways e) (ltb e (g .entries)) (onward e es) (rw ((opens-true n o) .1) at (c .is-linked)) in
+      let hi = ltb→lt e (g .entries) (l .1) in
       let f = and-out (q .entries .allows (n .entries) e) (fits (q .entries) (suc (n .entries)) es) (c .path-asked) in
       let k : n .entries < 16 = omega (arith, c .entries-in) in (
-        ltb→lt e (g .entries) (l .2),
-        in3 (ltb (n .entries) 16) (n .ways e) (q .entries .allows (n .entries) e) (lt→ltb (n .entries) 16 k) (l .1) (f .0),
+        omega arith,
+        in3 (ltb (n .entries) 16) (n .ways e) (q .entries .allows (n .entries) e) (lt→ltb (n .entries) 16 k) (l .0) (f .0),
         record {
-          is-linked = l .3;
+          is-linked = l .2;
           entries-in = omega (arith, c .entries-in);
           pairs-in = c .pairs-in;
           listed = c .listed;
@@ -109,16 +116,42 @@ module _ (g : Grammar) (q : Query) (n : Node) where
         },
       )
 
-  -- where an entry opens, the path goes on
-  pub enter-must : (ps : List ℕ) → opens n ≡ true → Completes g q n [] ps → ⊥
-  unfolding linked
-  enter-must ps o c = true≢false (sym (true-of (n .ended) (c .is-linked)) ∙ (opens-true n o) .1)
+  -- the path ends
+  pub stop-to : (es ps : List ℕ) → opens n ≡ true → T (mayAt g q true n 0) → Completes g q (goAt g q true n 0) es ps → Completes g q n es ps
+  unfolding mayAt goAt linked
+  stop-to es ps o t c = record {
+    is-linked = rw ((opens-true n o) .1, nil-from es (c .is-linked)) t;
+    entries-in = c .entries-in;
+    pairs-in = c .pairs-in;
+    listed = c .listed;
+    forms-spelled = c .forms-spelled;
+    nulls-in = c .nulls-in;
+    surface-done = c .surface-done;
+    passing = c .passing;
+    path-asked = c .path-asked;
+  }
+
+  pub stop-from : (ps : List ℕ) → opens n ≡ true → Completes g q n [] ps → (0 < countAt g q true n) × T (mayAt g q true n 0) × Completes g q (goAt g q true n 0) [] ps
+  unfolding countAt mayAt goAt linked
+  stop-from ps o c = (
+    omega arith,
+    rw ((opens-true n o) .1) at (c .is-linked),
+    record {
+      is-linked = tt;
+      entries-in = c .entries-in;
+      pairs-in = c .pairs-in;
+      listed = c .listed;
+      forms-spelled = c .forms-spelled;
+      nulls-in = c .nulls-in;
+      surface-done = c .surface-done;
+      passing = c .passing;
+      path-asked = c .path-asked;
+    },
+  )
 
   -- with no letter left, and no entry to open, there is no entry left
   pub no-entry : (es ps : List ℕ) → opens n ≡ false → Completes g q n es ps → n .rest ≡ [] → es ≡ []
-  unfolding linked
-  no-entry [] ps o c e = refl
-  no-entry (f ∷ es) ps o c e = absurd (rw (opens-false n o e) at ((out4 (not (n .ended)) (n .ways f) (ltb f (g .entries)) (onward f es) (c .is-linked)) .0))
+  no-entry es ps o c e = nil-from es (rw (opens-false n o e) at (c .is-linked))
 
   -- a pair: its five tests
   abbrev live : ℕ → Bool
@@ -185,7 +218,7 @@ module _ (g : Grammar) (q : Query) (n : Node) where
   end-to s t =
       let m = out5 (isNil (n .rest)) (n .ended) (q .entries .mayEnd (n .entries)) (levelEnds (g .surface) (q .letters) (n .surface)) finishes t in
       record {
-        is-linked = m .1;
+        is-linked = rw (true-of (n .ended) (m .1)) tt;
         entries-in = omega (arith, s .entries-in);
         pairs-in = omega (arith, s .pairs-in);
         listed = tt;
@@ -196,19 +229,24 @@ module _ (g : Grammar) (q : Query) (n : Node) where
         path-asked = m .2;
       }
 
+  pub end-ended : T (complete g q n) → n .ended ≡ true
+  unfolding complete
+  end-ended t = true-of (n .ended) ((out5 (isNil (n .rest)) (n .ended) (q .entries .mayEnd (n .entries)) (levelEnds (g .surface) (q .letters) (n .surface)) finishes t) .1)
+
   pub end-rest : (es : List ℕ) → Completes g q n es [] → n .rest ≡ []
   end-rest es c = append-nil-from (n .rest) (joined (map (g .form) es)) (sym (c .forms-spelled))
 
-  pub end-from : Completes g q n [] [] → T (complete g q n)
+  pub end-from : opens n ≡ false → Completes g q n [] [] → T (complete g q n)
   unfolding complete linked
-  end-from c =
+  end-from o c =
       in5 (isNil (n .rest)) (n .ended) (q .entries .mayEnd (n .entries)) (levelEnds (g .surface) (q .letters) (n .surface)) finishes
-      (rw (end-rest [] c) tt) (c .is-linked) (c .path-asked) (level-end-from (g .surface) (q .letters) (n .surface) (c .surface-done)) (finish-from (g .rules) (g .next) (g .final) (g .pairs) (n .states) (c .passing))
+      (rw (end-rest [] c) tt) (rw (opens-false n o (end-rest [] c)) tt) (c .path-asked) (level-end-from (g .surface) (q .letters) (n .surface) (c .surface-done)) (finish-from (g .rules) (g .next) (g .final) (g .pairs) (n .states) (c .passing))
 
   -- the bounds hold after a step
   pub sane-step : (b : Bool) (x : ℕ) → Sane g n → T (mayAt g q b n x) → Sane g (goAt g q b n x)
   unfolding mayAt goAt Asks
-  sane-step true e s t =
+  sane-step true zero s t = record { alive-states = s .alive-states; entries-in = s .entries-in; pairs-in = s .pairs-in; nulls-in = s .nulls-in; surface-sane = s .surface-sane }
+  sane-step true (suc e) s t =
       let m = out3 (ltb (n .entries) 16) (n .ways e) (q .entries .allows (n .entries) e) t in
       let k = ltb→lt (n .entries) 16 (m .0) in
       record { alive-states = s .alive-states; entries-in = omega arith; pairs-in = s .pairs-in; nulls-in = s .nulls-in; surface-sane = s .surface-sane }

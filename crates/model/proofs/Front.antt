@@ -55,7 +55,7 @@ module _ (g : Grammar) where
         right-false levels (passes g (x .pairing)) (dead-passes (x .pairing))
 
     pub dead-readings : (q : Query) → readings g q ≡ []
-    dead-readings q = listing-unique g q (readings g q) [] (listing g q) (record { only = λ x. elim [ ]; every-one = λ x t a. absurd (subst T (dead-reading x) t); in-order = tt })
+    dead-readings q = listing-unique (readings g q) [] (listing g q) (record { only = λ x. elim [ ]; every-one = λ x t a. absurd (subst T (dead-reading x) t); in-order = tt })
 
 -- in the calls' words: a listing that is not refused replies none, a judge that does not refuse replies fails
 module _ (image : List ℕ) (r : ℕ) (rule : r < grammarOf image .rules) (dead : atFront (grammarOf image) r ≡ 0) where

@@ -7,6 +7,7 @@ pub mod Levels
 pub mod Steps
 pub mod Completes
 pub mod Listing
+pub mod Endings
 pub mod Front
 pub mod Unspelled
 pub mod Converse

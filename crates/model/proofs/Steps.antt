@@ -1,11 +1,12 @@
 -- The step list, one step on: what a node with letters left has still to list.
-use Prim.Native.Nat.{ℕ, zero, suc, _+_}
+use Prim.Native.Nat.{ℕ, zero, suc, _+_, _≤_}
+use mathlib.Core.Bool.{Bool, true, false}
 use mathlib.Core.Path.{_≡_, refl, sym, ap, ap₂, _∙_}
 use mathlib.Core.List.{List, [], _∷_, _++_}
 use lib.ListN.{length, length-append}
 use native.Mathlib.Omega.{arith}
 use Rattle.model.specs.Grammar.{Grammar}
-use Rattle.model.specs.Readings.{afterLetter, upTo, beyond, stepList}
+use Rattle.model.specs.Readings.{afterLetter, upTo, beyond, endingList}
 use Rattle.model.specs.Tree.{left}
 
 pub left-length : (a : ℕ) (rest : List ℕ) → length (left rest a) ≡ afterLetter a (length rest)
@@ -19,8 +20,12 @@ after-none (suc a) = refl
 
 module _ (g : Grammar) where
   -- the steps of these entries and pairs, with k letters of the last entry left
-  abbrev pub stepsLeft : ℕ → List ℕ → List ℕ → List ℕ
-  stepsLeft k es ps = upTo g k ps ++ stepList g es (beyond g k ps)
+  abbrev pub tailSteps : Bool → List ℕ → List ℕ → List ℕ
+  tailSteps true es ps = ps
+  tailSteps false es ps = endingList g es ps
+
+  abbrev pub stepsLeft : Bool → ℕ → List ℕ → List ℕ → List ℕ
+  stepsLeft d k es ps = upTo g k ps ++ tailSteps d es (beyond g k ps)
 
   upTo-zero : (ps : List ℕ) → upTo g 0 ps ≡ []
   unfolding upTo
@@ -32,21 +37,26 @@ module _ (g : Grammar) where
   beyond-zero [] = refl
   beyond-zero (p ∷ ps) = refl
 
-  pub steps-zero : (es ps : List ℕ) → stepsLeft 0 es ps ≡ stepList g es ps
-  steps-zero es ps = ap₂ (λ (x y : List ℕ). x ++ stepList g es y) (upTo-zero ps) (beyond-zero ps)
+  pub steps-zero : (d : Bool) (es ps : List ℕ) → stepsLeft d 0 es ps ≡ tailSteps d es ps
+  steps-zero d es ps = ap₂ (λ (x y : List ℕ). x ++ tailSteps d es y) (upTo-zero ps) (beyond-zero ps)
 
-  pub steps-enter : (e : ℕ) (es ps : List ℕ) → stepsLeft 0 (e ∷ es) ps ≡ e ∷ stepsLeft (length (g .form e)) es ps
-  unfolding stepList
-  steps-enter e es ps = steps-zero (e ∷ es) ps
+  -- the ending
+  pub steps-end : (ps : List ℕ) → stepsLeft false 0 [] ps ≡ 0 ∷ stepsLeft true 0 [] ps
+  unfolding endingList
+  steps-end ps = steps-zero false [] ps ∙ ap {B = List ℕ} (λ l. 0 ∷ l) (sym (steps-zero true [] ps))
 
-  -- with no letter left, a pair comes only after the last entry
-  pub steps-pair : (k p : ℕ) (es ps : List ℕ) → (k ≡ 0 → es ≡ []) → stepsLeft k es (p ∷ ps) ≡ p ∷ stepsLeft (afterLetter (g .lexical p) k) es ps
-  unfolding upTo beyond stepList
-  steps-pair zero p es ps f = rw (f refl, after-none (g .lexical p)) (ap {B = List ℕ} (λ l. p ∷ l) (sym (steps-zero [] ps)))
-  steps-pair (suc k) p es ps f = refl
+  pub steps-enter : (e : ℕ) (es ps : List ℕ) → stepsLeft false 0 (e ∷ es) ps ≡ suc e ∷ stepsLeft false (length (g .form e)) es ps
+  unfolding endingList
+  steps-enter e es ps = steps-zero false (e ∷ es) ps
 
-  pub steps-none : (k : ℕ) → stepsLeft k [] [] ≡ []
-  unfolding upTo beyond stepList
+  -- with no letter left, a pair comes only after the ending
+  pub steps-pair : (d : Bool) (k p : ℕ) (es ps : List ℕ) → (k ≡ 0 → d ≡ true) → stepsLeft d k es (p ∷ ps) ≡ p ∷ stepsLeft d (afterLetter (g .lexical p) k) es ps
+  unfolding upTo beyond endingList
+  steps-pair d zero p es ps f = rw (f refl, after-none (g .lexical p)) (ap {B = List ℕ} (λ l. p ∷ l) (sym (steps-zero true es ps)))
+  steps-pair d (suc k) p es ps f = refl
+
+  pub steps-none : (k : ℕ) → stepsLeft true k [] [] ≡ []
+  unfolding upTo beyond endingList
   steps-none k = refl
 
   upTo-beyond : (k : ℕ) (ps : List ℕ) → length (upTo g k ps) + length (beyond g k ps) ≡ length ps
@@ -55,7 +65,13 @@ module _ (g : Grammar) where
   upTo-beyond zero (p ∷ ps) = omega arith
   upTo-beyond (suc k) (p ∷ ps) = let h = upTo-beyond (afterLetter (g .lexical p) (suc k)) ps in omega arith
 
-  pub steps-length : (k : ℕ) (es ps : List ℕ) → length (stepsLeft k es ps) ≡ length es + length ps
-  unfolding stepList
-  steps-length k [] ps = omega (arith, length-append (upTo g k ps) (beyond g k ps), upTo-beyond k ps)
-  steps-length k (e ∷ es) ps = let h = steps-length (length (g .form e)) es (beyond g k ps) in omega (arith, upTo-beyond k ps, length-append (upTo g k ps) (stepList g (e ∷ es) (beyond g k ps)))
+  list-length : (es ps : List ℕ) → length (endingList g es ps) ≡ suc (length es + length ps)
+  unfolding endingList
+  list-length [] ps = omega arith
+  list-length (e ∷ es) ps =
+      let k = length (g .form e) in
+      let h = list-length es (beyond g k ps) in
+      omega (arith, upTo-beyond k ps, length-append (upTo g k ps) (endingList g es (beyond g k ps)))
+
+  pub steps-length : (es ps : List ℕ) → length (stepsLeft false 0 es ps) ≡ suc (length es + length ps)
+  steps-length es ps = ap length (steps-zero false es ps) ∙ list-length es ps

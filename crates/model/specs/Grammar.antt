@@ -2,6 +2,7 @@
 use Prim.Native.Nat.{ℕ}
 use mathlib.Core.Bool.{Bool}
 use mathlib.Core.List.{List}
+use lib.Dec.{T}
 
 pub record Grammar : Type 0 where
   pub pairs : ℕ
@@ -14,4 +15,8 @@ pub record Grammar : Type 0 where
   pub form : ℕ → List ℕ
   pub begins : ℕ → Bool  -- the entry may begin a path
   pub follows : ℕ → ℕ → Bool  -- the second may come after the first
-  pub ends : ℕ → Bool  -- a path ends with the entry, and goes on with no other
+  pub ends : ℕ → Bool  -- a path may end with the entry
+
+-- no entry both ends a path and goes on
+abbrev pub OneWay : Grammar → Type 0
+OneWay g = (e f : ℕ) → T (g .ends e) → T (g .follows e f) → ⊥

@@ -1,6 +1,6 @@
 -- The grammar that an image of form 1 stands for.
 use Prim.Native.Nat.{ℕ}
-use mathlib.Core.Bool.{not}
+use mathlib.Core.Bool.{_&&_, not}
 use mathlib.Core.List.{List, [], map}
 use lib.ListN.{length, getD}
 use lib.Dec.{eqb}
@@ -26,6 +26,6 @@ grammarOf image =
       entries = header image .entries;
       form = λ e. formOf (entry image e);
       begins = inLexicon image 0;
-      follows = λ e. inLexicon image (continuation (entry image e));
+      follows = λ e f. not (eqb (continuation (entry image e)) 255) && inLexicon image (continuation (entry image e)) f;
       ends = λ e. eqb (continuation (entry image e)) 255;
     }

@@ -49,12 +49,12 @@ module _ (entry : List ℕ) where
   isEntry letters lexicons = isEntryOf (within 2 letters) lexicons
 
 -- "A path is 1-16 entries, the first from lexicon 0, each next from its predecessor's continuation, the last and only the last with 255."
--- By the number of entries, which may begin, which may follow which, and which end a path.
+-- By the number of entries, which may begin, which may follow which, and which may end a path.
 module _ (entries : ℕ) (follows : ℕ → ℕ → Bool) (ends : ℕ → Bool) where
-  -- from a place where these entries may open, unless the path has ended
+  -- from a place where these entries may open, or the path may stop
   unfoldable pub linked : (ℕ → Bool) → Bool → List ℕ → Bool
-  linked may ended [] = ended
-  linked may ended (e ∷ es) = not ended && may e && ltb e entries && linked (follows e) (ends e) es
+  linked may stop [] = stop
+  linked may stop (e ∷ es) = may e && ltb e entries && linked (follows e) (ends e) es
 
 abbrev pub pathLength : List ℕ → Bool
 pathLength es = within 1 16 (length es)

@@ -99,6 +99,15 @@ module _ (g : Grammar) where
   abbrev pub steps : Reading → List ℕ
   steps r = stepList (r .path) (r .pairing)
 
+  -- The step list with its ending as a step, which the walk makes: the ending stands where the next entry would open, ahead of any lexical-null pair, and
+  -- counts below every entry. It is 0, and entries count from 1; an entry and a pair are never compared.
+  unfoldable pub endingList : List ℕ → List ℕ → List ℕ
+  endingList [] ps = 0 ∷ ps
+  endingList (e ∷ es) ps = let n = length (g .form e) in suc e ∷ (upTo n ps ++ endingList es (beyond n ps))
+
+  abbrev pub endingSteps : Reading → List ℕ
+  endingSteps r = endingList (r .path) (r .pairing)
+
 -- "Readings are ordered by the first differing number; a beginning of another comes first."
 abbrev pub Before : List ℕ → List ℕ → Type 0
 Before l [] = ⊥

@@ -1,5 +1,5 @@
 -- The tree of step lists of a grammar for a query, and the list of all readings that a walk through it makes.
--- That it is the list of all readings, each once, in step order, is `listing` in proofs/Listing.antt.
+-- That it is the list of all readings, each once, in step order, is `listing` in proofs/Listing.antt, and `plain-listing` in proofs/Endings.antt.
 use Prim.Native.Nat.{ℕ, zero, suc}
 use mathlib.Core.Bool.{Bool, true, false, _&&_, not}
 use mathlib.Core.List.{List, [], _∷_, map}
@@ -20,7 +20,8 @@ pub record Level : Type 0 where
 pub record Node : Type 0 where
   pub rest : List ℕ  -- the letters of the last entry that are not paired yet
   pub ways : ℕ → Bool  -- the entries that may open next
-  pub ended : Bool  -- the last entry ends the path
+  pub stop : Bool  -- the path may end here
+  pub ended : Bool  -- and has
   pub entries : ℕ  -- so far
   pub pairs : ℕ
   pub nulls : ℕ  -- lexical
@@ -86,13 +87,14 @@ module _ (rules : ℕ) (next : ℕ → ℕ → ℕ → ℕ) (final : ℕ → ℕ
   finish states boundary = every (λ r. let s = next r (getD states r 0) boundary in not (isZero s) && final r s) (below rules)
 
 module _ (g : Grammar) (q : Query) where
-  -- each by whether an entry opens
+  -- Each by whether an entry opens. There 0 is the ending of the path, and suc e is entry e.
   unfoldable pub countAt : Bool → Node → ℕ
-  countAt true n = g .entries
+  countAt true n = suc (g .entries)
   countAt false n = g .pairs
 
   unfoldable pub mayAt : Bool → Node → ℕ → Bool
-  mayAt true n e = ltb (n .entries) 16 && n .ways e && q .entries .allows (n .entries) e
+  mayAt true n zero = n .stop
+  mayAt true n (suc e) = ltb (n .entries) 16 && n .ways e && q .entries .allows (n .entries) e
   mayAt false n p =
       let live = alive (g .rules) (g .next) (g .final) (stepAll (g .rules) (g .next) (g .final) (n .states) p) in
       spells (n .rest) (g .lexical p)
@@ -102,8 +104,9 @@ module _ (g : Grammar) (q : Query) where
       && live
 
   unfoldable pub goAt : Bool → Node → ℕ → Node
-  goAt true n e = record { rest = g .form e; ways = g .follows e; ended = g .ends e; entries = suc (n .entries); pairs = n .pairs; nulls = n .nulls; surface = n .surface; states = n .states }
-  goAt false n p = record { rest = left (n .rest) (g .lexical p); ways = n .ways; ended = n .ended; entries = n .entries; pairs = suc (n .pairs); nulls = nullsAnd (n .nulls) (g .lexical p); surface = levelGo (g .surface) (q .letters) (n .surface) p; states = stepAll (g .rules) (g .next) (g .final) (n .states) p }
+  goAt true n zero = record { rest = n .rest; ways = n .ways; stop = n .stop; ended = true; entries = n .entries; pairs = n .pairs; nulls = n .nulls; surface = n .surface; states = n .states }
+  goAt true n (suc e) = record { rest = g .form e; ways = g .follows e; stop = g .ends e; ended = false; entries = suc (n .entries); pairs = n .pairs; nulls = n .nulls; surface = n .surface; states = n .states }
+  goAt false n p = record { rest = left (n .rest) (g .lexical p); ways = n .ways; stop = n .stop; ended = n .ended; entries = n .entries; pairs = suc (n .pairs); nulls = nullsAnd (n .nulls) (g .lexical p); surface = levelGo (g .surface) (q .letters) (n .surface) p; states = stepAll (g .rules) (g .next) (g .final) (n .states) p }
 
   unfoldable pub complete : Node → Bool
   complete n =
@@ -116,17 +119,18 @@ module _ (g : Grammar) (q : Query) where
   tree = record { count = λ n. countAt (opens n) n; may = λ n. mayAt (opens n) n; go = λ n. goAt (opens n) n; ends = complete }
 
   unfoldable pub start : Node
-  start = record { rest = []; ways = g .begins; ended = false; entries = 0; pairs = 0; nulls = 0; surface = record { letters = 0; nulls = 0 }; states = begun (g .rules) (g .next) (g .final) (g .pairs) }
+  start = record { rest = []; ways = g .begins; stop = false; ended = false; entries = 0; pairs = 0; nulls = 0; surface = record { letters = 0; nulls = 0 }; states = begun (g .rules) (g .next) (g .final) (g .pairs) }
 
   -- a step list's entries and pairs
   abbrev pub put : Bool → ℕ → Reading → Reading
-  put true e r = record { path = e ∷ r .path; pairing = r .pairing }
+  put true zero r = r
+  put true (suc e) r = record { path = e ∷ r .path; pairing = r .pairing }
   put false p r = record { path = r .path; pairing = p ∷ r .pairing }
 
   unfoldable pub readingAt : Node → List ℕ → Reading
   readingAt n [] = record { path = []; pairing = [] }
   readingAt n (x ∷ l) = put (opens n) x (readingAt (goAt (opens n) n x) l)
 
-  -- "the list of all readings (each once, in step order)": of at most 16 entries and 40 pairs, so 56 steps; none where a rule fails at the front
+  -- "the list of all readings (each once, in step order)": of at most 16 entries and 40 pairs, and an ending, so 57 steps; none where a rule fails at the front
   unfoldable pub readings : List Reading
-  readings = given (alive (g .rules) (g .next) (g .final) (start .states)) (map (readingAt start) (walk tree 56 start))
+  readings = given (alive (g .rules) (g .next) (g .final) (start .states)) (map (readingAt start) (walk tree 57 start))
