@@ -86,7 +86,7 @@ module _ (image : List ℕ) (x e entries : ℕ) where
 
 -- the rest of a path, where lexicon x is next, or 255 after its last entry
 abbrev pub linkedFrom : List ℕ → ℕ → List ℕ → Bool
-linkedFrom image x es = linked (grammarOf image .entries) (grammarOf image .follows) (grammarOf image .ends) (inLexicon image x) (eqb x 255) es
+linkedFrom image x es = linked (grammarOf image .entries) (grammarOf image .follows) (grammarOf image .ends) (λ e. not (eqb x 255) && inLexicon image x e) (eqb x 255) es
 
 module _ (image : List ℕ) where
   pub linked-start : (es : List ℕ) → linkedFrom image 0 es ≡ isLinked (grammarOf image) es
@@ -116,12 +116,12 @@ module _ (image : List ℕ) where
   unfolding grammarOf linked
   linked-entries path t = go (grammarOf image .begins) false (entryNumbers path) t
     where
-      go : (may : ℕ → Bool) (ended : Bool) (es : List ℕ) → T (linked (grammarOf image .entries) (grammarOf image .follows) (grammarOf image .ends) may ended es) → T (every (λ e. ltb e (header image .entries)) es)
-      go may ended [] t = tt
-      go may ended (e ∷ es) t =
+      go : (may : ℕ → Bool) (stop : Bool) (es : List ℕ) → T (linked (grammarOf image .entries) (grammarOf image .follows) (grammarOf image .ends) may stop es) → T (every (λ e. ltb e (header image .entries)) es)
+      go may stop [] t = tt
+      go may stop (e ∷ es) t =
           let rest = linked (grammarOf image .entries) (grammarOf image .follows) (grammarOf image .ends) (grammarOf image .follows e) (grammarOf image .ends e) es in
-          let u = and-out (not ended && may e && ltb e (header image .entries)) rest t in
-          and-in (ltb e (header image .entries)) (every (λ e. ltb e (header image .entries)) es) (and-out (not ended && may e) (ltb e (header image .entries)) (u .0) .1) (go (grammarOf image .follows e) (grammarOf image .ends e) es (u .1))
+          let u = and-out (may e && ltb e (header image .entries)) rest t in
+          and-in (ltb e (header image .entries)) (every (λ e. ltb e (header image .entries)) es) (and-out (may e) (ltb e (header image .entries)) (u .0) .1) (go (grammarOf image .follows e) (grammarOf image .ends e) es (u .1))
 
   pub entered-at : (path : List ℕ) (i : ℕ) → Entered image path → i < length path / 2 → number path (2 * i) < header image .entries
   entered-at path i t h =
