@@ -10,9 +10,10 @@ use Rattle.model.specs.Readings.{Reading}
 use Rattle.model.specs.Query.{Query}
 use Rattle.model.specs.Walk.{walk}
 use Rattle.model.specs.Tree.{Node, opens, isNil, alive, countAt, mayAt, goAt, complete, tree, put, readingAt, start, readings}
-use Rattle.model.proofs.Lists.{map-append, map-same}
+use Rattle.model.proofs.Lists.{map-append, map-same, flatMap-below}
 use Rattle.model.proofs.Parts.{flatMap-same}
-use Rattle.listing.specs.Gather.{grow, gather, stepsFrom}
+use Rattle.model.proofs.Booleans.{and-out, not-out, of-true}
+use Rattle.listing.specs.Gather.{grow, gather, stepsLeft, stepsFrom}
 
 -- maps and joins together
 module _ {A B C : Type 0} where
@@ -29,6 +30,15 @@ module _ {A B : Type 0} where
   map-given f true l = refl
   map-given f false l = refl
 
+-- the first apart from those after it
+flatMap-first : {B : Type 0} (f : ℕ → List B) (n : ℕ) → flatMap f (below (suc n)) ≡ f 0 ++ flatMap (λ i. f (suc i)) (below n)
+flatMap-first f zero = refl
+flatMap-first f (suc n) =
+    flatMap-below f (suc n)
+    ∙ ap (λ (l : List _). l ++ f (suc n)) (flatMap-first f n)
+    ∙ append-assoc (f 0) (flatMap (λ i. f (suc i)) (below n)) (f (suc n))
+    ∙ ap (λ (l : List _). f 0 ++ l) (sym (flatMap-below (λ i. f (suc i)) n))
+
 abbrev join : Reading → Reading → Reading
 join r s = record { path = r .path ++ s .path; pairing = r .pairing ++ s .pairing }
 
@@ -37,7 +47,8 @@ nothing = record { path = []; pairing = [] }
 
 module _ (g : Grammar) (q : Query) where
   join-grow : (b : Bool) (r s : Reading) (x : ℕ) → join (grow b r x) s ≡ join r (put g q b x s)
-  join-grow true r s e = ap (λ (l : List ℕ). record { path = l; pairing = r .pairing ++ s .pairing }) (append-assoc (r .path) (e ∷ []) (s .path))
+  join-grow true r s zero = refl
+  join-grow true r s (suc e) = ap (λ (l : List ℕ). record { path = l; pairing = r .pairing ++ s .pairing }) (append-assoc (r .path) (e ∷ []) (s .path))
   join-grow false r s p = ap (λ (l : List ℕ). record { path = r .path ++ s .path; pairing = l }) (append-assoc (r .pairing) (p ∷ []) (s .pairing))
 
   join-nothing : (r : Reading) → join r nothing ≡ r
@@ -71,11 +82,11 @@ module _ (g : Grammar) (q : Query) where
       ∙ sym (map-append (after n r) (given (complete g q n) ([] ∷ [])) (flatMap lists xs))
 
   -- the whole search, from the start with nothing read, where no rule fails at the front
-  pub readings-gathered : readings g q ≡ given (alive (g .rules) (g .next) (g .final) (start g q .states)) (gather g q 56 (start g q) nothing)
+  pub readings-gathered : readings g q ≡ given (alive (g .rules) (g .next) (g .final) (start g q .states)) (gather g q 57 (start g q) nothing)
   unfolding readings
   readings-gathered =
       ap (given (alive (g .rules) (g .next) (g .final) (start g q .states)))
-      (map-same (readingAt g q (start g q)) (after (start g q) nothing) (walk (tree g q) 56 (start g q)) (λ l m. refl) ∙ sym (gather-walk 56 (start g q) nothing))
+      (map-same (readingAt g q (start g q)) (after (start g q) nothing) (walk (tree g q) 57 (start g q)) (λ l m. refl) ∙ sym (gather-walk 57 (start g q) nothing))
 
   -- one node's own steps
   abbrev pub branch : ℕ → Node → Reading → Bool → ℕ → List Reading
@@ -90,18 +101,16 @@ module _ (g : Grammar) (q : Query) where
       go true false x y z e = refl
       go false b x y z e = refl
 
-  pub gather-end : (n : Node) (r : Reading) → opens n ≡ true → gather g q zero n r ≡ []
-  unfolding gather
-  gather-end n r o = rw (complete-open n o) refl
-
   pub gather-last : (n : Node) (r : Reading) → gather g q zero n r ≡ given (complete g q n) (r ∷ [])
   unfolding gather
   gather-last n r = refl
 
-  -- where an entry opens, nothing ends
-  pub gather-open : (k : ℕ) (n : Node) (r : Reading) → opens n ≡ true → gather g q (suc k) n r ≡ flatMap (branch k n r true) (below (g .entries))
+  -- where an entry opens, nothing is complete: the path ends first, or goes on with an entry
+  pub gather-open : (k : ℕ) (n : Node) (r : Reading) → opens n ≡ true → gather g q (suc k) n r ≡ branch k n r true 0 ++ flatMap (λ e. branch k n r true (suc e)) (below (g .entries))
   unfolding gather countAt
-  gather-open k n r o = rw (complete-open n o) (subst (λ (b : Bool). flatMap (branch k n r b) (below (countAt g q b n)) ≡ flatMap (branch k n r true) (below (g .entries))) (sym o) refl)
+  gather-open k n r o =
+      rw (complete-open n o)
+      (subst (λ (b : Bool). flatMap (branch k n r b) (below (countAt g q b n)) ≡ branch k n r true 0 ++ flatMap (λ e. branch k n r true (suc e)) (below (g .entries))) (sym o) (flatMap-first (branch k n r true) (g .entries)))
 
   -- where none opens, what ends here stands first
   pub gather-pair : (k : ℕ) (n : Node) (r : Reading) → opens n ≡ false → gather g q (suc k) n r ≡ given (complete g q n) (r ∷ []) ++ flatMap (branch k n r false) (below (g .pairs))
@@ -109,10 +118,21 @@ module _ (g : Grammar) (q : Query) where
   gather-pair k n r o = subst (λ (b : Bool). given (complete g q n) (r ∷ []) ++ flatMap (branch k n r b) (below (countAt g q b n)) ≡ given (complete g q n) (r ∷ []) ++ flatMap (branch k n r false) (below (g .pairs))) (sym o) refl
 
   -- a step takes a place
-  pub stepsFrom-enter : (n : Node) (e : ℕ) → n .entries < 16 → stepsFrom n ≡ suc (stepsFrom (goAt g q true n e))
+  opens-goes-on : (n : Node) → opens n ≡ true → n .ended ≡ false
+  opens-goes-on n o = not-out (n .ended) ((and-out (isNil (n .rest)) (not (n .ended)) (of-true (opens n) o)) .1)
+
+  pub stepsFrom-stop : (n : Node) → opens n ≡ true → stepsFrom n ≡ suc (stepsFrom (goAt g q true n 0))
   unfolding stepsFrom goAt
-  stepsFrom-enter n e h = omega arith
+  stepsFrom-stop n o = rw (opens-goes-on n o) refl
+
+  pub stepsFrom-enter : (n : Node) (e : ℕ) → opens n ≡ true → n .entries < 16 → stepsFrom n ≡ suc (stepsFrom (goAt g q true n (suc e)))
+  unfolding stepsFrom goAt
+  stepsFrom-enter n e o h = rw (opens-goes-on n o) (omega arith)
 
   pub stepsFrom-pair : (n : Node) (p : ℕ) → n .pairs < 40 → stepsFrom n ≡ suc (stepsFrom (goAt g q false n p))
   unfolding stepsFrom goAt
-  stepsFrom-pair n p h = omega arith
+  stepsFrom-pair n p h = go (n .ended)
+    where
+      go : (ended : Bool) → stepsLeft ended (n .entries) (n .pairs) ≡ suc (stepsLeft ended (n .entries) (suc (n .pairs)))
+      go true = omega arith
+      go false = omega arith

@@ -15,27 +15,20 @@ use Rattle.model.specs.GrammarOf.{grammarOf}
 use Rattle.model.specs.Readings.{Reading}
 use Rattle.model.specs.Query.{Query}
 use Rattle.model.specs.Tree.{Node, opens, spells, mayAt, goAt, complete}
-use Rattle.model.specs.Lexicon.{inLexicon}
 use Rattle.model.proofs.Booleans.{of-true}
-use Rattle.model.proofs.Lists.{below-from}
-use Rattle.model.proofs.Parts.{flatMap-same}
 use Rattle.image.specs.Index.{candidates}
 use Rattle.rows.specs.declared.Trail.{Trail}
 use Rattle.rows.specs.Trail.{readingOf}
 use Rattle.listing.specs.declared.place.Place.{Place}
-use Rattle.listing.specs.Gather.{grow, gather, stepsFrom}
-use Rattle.listing.specs.Places.{restOf, nodeOf}
-use Rattle.listing.specs.Opening.{Ranged}
+use Rattle.listing.specs.Gather.{grow, gather, stepsLeft, stepsFrom}
+use Rattle.listing.specs.Places.{stopsAfter, restOf, nodeOf}
+use Rattle.listing.specs.Opening.{mayEnter}
 use Rattle.listing.specs.Search.{nodeAt, headOf, foundAt}
-use Rattle.listing.proofs.Gather.{branch, gather-open, gather-pair, gather-end, gather-last, stepsFrom-enter, stepsFrom-pair}
-use Rattle.listing.proofs.Loops.{flatMap-only, below-low, below-range}
+use Rattle.listing.proofs.Gather.{branch, gather-open, gather-pair, gather-last, stepsFrom-stop, stepsFrom-enter, stepsFrom-pair}
+use Rattle.listing.proofs.Loops.{flatMap-only, below-low}
 
 all-empty : {B : Type 0} (f : ℕ → List B) (n : ℕ) → ((x : ℕ) → f x ≡ []) → flatMap f (below n) ≡ []
 all-empty f n e = below-low f n n (λ x h. e x) (omega arith)
-
-entries-within : (image : List ℕ) (high : ℕ) → high ≤ header image .entries → (m : ℕ) → m ≡ high → m ≤ grammarOf image .entries
-unfolding grammarOf
-entries-within image high h m e = omega arith
 
 same-none : {B : Type 0} (b : Bool) (l : List B) → b ≡ false → given b l ≡ []
 same-none b l e = rw e refl
@@ -59,19 +52,6 @@ module _ (image : List ℕ) (q : Query) (place : Place) (trail : Trail) where
   abbrev r : Reading
   r = readingOf trail
 
-  -- with no entry to spare, none opens
-  open-shut : 16 ≤ trail .entries → (x : ℕ) → mayAt g q true n x ≡ false
-  unfolding mayAt nodeOf
-  open-shut h x = rw (le-ltb (trail .entries) 16 h) refl
-
-  pub open-full : opens n ≡ true → 16 ≤ trail .entries → foundAt image q place trail ≡ []
-  unfolding foundAt
-  open-full o h = go (stepsFrom n)
-    where
-      go : (k : ℕ) → gather g q k n r ≡ []
-      go zero = gather-end g q n r o
-      go (suc k) = gather-open g q k n r o ∙ all-empty (branch g q k n r true) (g .entries) (λ x. same-none (mayAt g q true n x) (gather g q k (goAt g q true n x) (grow true r x)) (open-shut h x))
-
   -- with none of its pairs to spare, only what ends here
   pair-shut : 40 ≤ trail .pairs → (x : ℕ) → mayAt g q false n x ≡ false
   unfolding nodeOf
@@ -88,46 +68,65 @@ module _ (image : List ℕ) (q : Query) (place : Place) (trail : Trail) where
           ∙ ap (λ (l : List Reading). given (complete g q n) (r ∷ []) ++ l) (all-empty (branch g q k n r false) (g .pairs) (λ x. same-none (mayAt g q false n x) (gather g q k (goAt g q false n x) (grow false r x)) (pair-shut h x)))
           ∙ append-nil (given (complete g q n) (r ∷ []))
 
-  -- what is found by entry low + i
-  abbrev pub openOne : ℕ → ℕ → List Reading
-  openOne low i = gather g q (pred (stepsFrom n)) (goAt g q true n (low + i)) (grow true r (low + i))
+  -- what is found where the path ends here, and by entry e
+  abbrev pub stopOne : List Reading
+  stopOne = branch g q (pred (stepsFrom n)) n r true 0
 
-  module _ (spare : trail .entries < 16) where
-    entries-few : n .entries < 16
-    unfolding nodeOf
-    entries-few = spare
+  abbrev pub entryOne : ℕ → List Reading
+  entryOne e = branch g q (pred (stepsFrom n)) n r true (suc e)
 
-    open-steps : stepsFrom n ≡ suc (pred (stepsFrom n))
-    unfolding stepsFrom nodeOf
-    open-steps = omega arith
+  -- a path that may not end, and an entry that may not open, find nothing
+  pub stop-none : stopsAfter image (place .last) ≡ false → stopOne ≡ []
+  unfolding mayAt nodeOf
+  stop-none e = same-none (stopsAfter image (place .last)) _ e
 
-    entry-may : (x : ℕ) (b : Bool) → (inLexicon image (place .onward) x && q .entries .allows (trail .entries) x) ≡ b → mayAt g q true n x ≡ b
-    unfolding mayAt nodeOf
-    entry-may x b e = rw (lt-ltb (trail .entries) 16 spare) e
+  entry-may : trail .entries < 16 → (e : ℕ) (b : Bool) → mayEnter image (q .entries) (place .last) (trail .entries) e ≡ b → mayAt g q true n (suc e) ≡ b
+  unfolding mayAt nodeOf
+  entry-may spare e b may = rw (lt-ltb (trail .entries) 16 spare) may
 
-    pub open-all : (low high : ℕ) → opens n ≡ true → Ranged image q (place .onward) (trail .entries) low high → foundAt image q place trail ≡ flatMap (openOne low) (below (high - low))
+  pub entry-none : trail .entries < 16 → (e : ℕ) → mayEnter image (q .entries) (place .last) (trail .entries) e ≡ false → entryOne e ≡ []
+  entry-none spare e may = same-none (mayAt g q true n (suc e)) _ (entry-may spare e false may)
+
+  -- with no entry to spare, none opens
+  full-none : 16 ≤ trail .entries → (e : ℕ) → entryOne e ≡ []
+  unfolding mayAt nodeOf
+  full-none h e = same-none (mayAt g q true n (suc e)) _ (rw (le-ltb (trail .entries) 16 h) refl)
+
+  entries-are : g .entries ≡ header image .entries
+  unfolding grammarOf
+  entries-are = refl
+
+  module _ (o : opens n ≡ true) where
+    pub open-all : foundAt image q place trail ≡ stopOne ++ flatMap entryOne (below (header image .entries))
     unfolding foundAt
-    open-all low high o ranged =
+    open-all =
         let k = pred (stepsFrom n) in
-        let w : low + (high - low) ≡ high = omega (arith, ranged .in-order) in
-        ap (λ (m : ℕ). gather g q m n r) open-steps
-        ∙ gather-open g q k n r o
-        ∙ below-range (branch g q k n r true) low (high - low) (g .entries)
-        (λ x h. same-none (mayAt g q true n x) (gather g q k (goAt g q true n x) (grow true r x)) (entry-may x false (ranged .before x h)))
-        (λ x h. same-none (mayAt g q true n x) (gather g q k (goAt g q true n x) (grow true r x)) (entry-may x false (ranged .past x (omega arith))))
-        (entries-in low high ranged w)
-        ∙ flatMap-same (λ i. branch g q k n r true (low + i)) (openOne low) (below (high - low))
-        (λ i m. let b = below-from (high - low) i m in ap (λ (b : Bool). given b (openOne low i)) (entry-may (low + i) true (ranged .inside (low + i) (omega arith) (omega arith))))
-      where
-        entries-in : (low high : ℕ) → Ranged image q (place .onward) (trail .entries) low high → low + (high - low) ≡ high → low + (high - low) ≤ g .entries
-        entries-in low high ranged w = entries-within image high (ranged .in-entries) (low + (high - low)) w
+        let s : stepsFrom n ≡ suc k = stepsFrom-stop g q n o ∙ ap (λ (m : ℕ). suc (pred m)) (sym (stepsFrom-stop g q n o)) in
+        ap (λ (m : ℕ). gather g q m n r) s ∙ gather-open g q k n r o ∙ ap (λ (m : ℕ). stopOne ++ flatMap entryOne (below m)) entries-are
 
-    -- and by the code's call
-    pub open-one : (low i : ℕ) (next : Place) (longer : Trail) → nodeAt image next longer ≡ goAt g q true n (low + i) → readingOf longer ≡ grow true r (low + i) → foundAt image q next longer ≡ openOne low i
+    pub open-full : 16 ≤ trail .entries → foundAt image q place trail ≡ stopOne
+    open-full h = open-all ∙ ap (λ (l : List Reading). stopOne ++ l) (all-empty entryOne (header image .entries) (full-none h)) ∙ append-nil stopOne
+
+    -- and by the code's calls
+    pub stop-one : stopsAfter image (place .last) ≡ true → (next : Place) → nodeAt image next trail ≡ goAt g q true n 0 → foundAt image q next trail ≡ stopOne
+    unfolding foundAt mayAt nodeOf
+    stop-one t next e =
+        let s : stepsFrom (goAt g q true n 0) ≡ pred (stepsFrom n) = ap pred (sym (stepsFrom-stop g q n o)) in
+        ap (λ (m : Node). gather g q (stepsFrom m) m r) e
+        ∙ ap (λ (k : ℕ). gather g q k (goAt g q true n 0) r) s
+        ∙ ap (λ (b : Bool). given b (gather g q (pred (stepsFrom n)) (goAt g q true n 0) r)) (sym t)
+
+    pub entry-one : (spare : trail .entries < 16) (e : ℕ) → mayEnter image (q .entries) (place .last) (trail .entries) e ≡ true → (next : Place) (longer : Trail) → nodeAt image next longer ≡ goAt g q true n (suc e) → readingOf longer ≡ grow true r (suc e) → foundAt image q next longer ≡ entryOne e
     unfolding foundAt
-    open-one low i next longer e f =
-        let s : stepsFrom (goAt g q true n (low + i)) ≡ pred (stepsFrom n) = ap pred (sym (stepsFrom-enter g q n (low + i) entries-few)) in
-        ap₂ (λ (m : Node) (x : Reading). gather g q (stepsFrom m) m x) e f ∙ ap (λ (k : ℕ). gather g q k (goAt g q true n (low + i)) (grow true r (low + i))) s
+    entry-one spare e may next longer f h =
+        let s : stepsFrom (goAt g q true n (suc e)) ≡ pred (stepsFrom n) = ap pred (sym (stepsFrom-enter g q n e o (entries-few spare))) in
+        ap₂ (λ (m : Node) (x : Reading). gather g q (stepsFrom m) m x) f h
+        ∙ ap (λ (k : ℕ). gather g q k (goAt g q true n (suc e)) (grow true r (suc e))) s
+        ∙ ap (λ (b : Bool). given b (gather g q (pred (stepsFrom n)) (goAt g q true n (suc e)) (grow true r (suc e)))) (sym (entry-may spare e true may))
+      where
+        entries-few : trail .entries < 16 → n .entries < 16
+        unfolding nodeOf
+        entries-few spare = spare
 
 or-false : (b c : Bool) → (b || c) ≡ false → c ≡ false
 or-false true c e = absurd (true≢false e)
@@ -180,7 +179,11 @@ pairOne image q place trail p = branch (grammarOf image) q (pred (stepsFrom (nod
 module _ (image : List ℕ) (q : Query) (place : Place) (trail : Trail) (spare : trail .pairs < 40) where
   pair-steps : stepsFrom (nodeAt image place trail) ≡ suc (pred (stepsFrom (nodeAt image place trail)))
   unfolding stepsFrom nodeOf
-  pair-steps = omega arith
+  pair-steps = go (place .ended)
+    where
+      go : (ended : Bool) → stepsLeft ended (trail .entries) (trail .pairs) ≡ suc (pred (stepsLeft ended (trail .entries) (trail .pairs)))
+      go true = omega arith
+      go false = refl
 
   -- a pair that may not be taken finds nothing
   pub pair-skip : (p : ℕ) → mayAt (grammarOf image) q false (nodeAt image place trail) p ≡ false → pairOne image q place trail p ≡ []

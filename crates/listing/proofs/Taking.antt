@@ -7,11 +7,10 @@ use mathlib.Core.Path.{_≡_, refl, sym, ap₂, _∙_, subst}
 use mathlib.Core.List.{List, [], _∷_}
 use lib.ListN.{length, getD, take, drop}
 use lib.Seq.{drop-cons}
-use lib.Dec.{T, leb, ltb, eqb}
+use lib.Dec.{T, leb, ltb}
 use borrow.Author.Tests.{lt-ltb}
 use Rattle.model.specs.Lists.{every, within}
 use Rattle.model.specs.Blocks.{Header, header, blockTotal}
-use Rattle.model.specs.Lexicon.{inLexicon}
 use Rattle.model.specs.GrammarOf.{grammarOf}
 use Rattle.model.specs.Query.{Query}
 use Rattle.model.specs.Tree.{spells, left, lettersAnd, nullsAnd, isNil, mayAt, goAt, complete}
@@ -22,7 +21,7 @@ use Rattle.letters.proofs.Laws.{pairAt}
 use Rattle.rules.specs.Live.{Live, stepOf, aliveOf, finishOf}
 use Rattle.listing.specs.declared.place.Place.{Place}
 use Rattle.listing.specs.Levels.{levelOf, levelMayBy, levelGoBy, Bounded}
-use Rattle.listing.specs.Places.{restOf, nodeOf, Standing, Took}
+use Rattle.listing.specs.Places.{waysAfter, stopsAfter, restOf, nodeOf, Standing, Took}
 
 -- of an accepted image
 module _ (image : List ℕ) (h : Header) (a : Accepted image h) where
@@ -86,7 +85,8 @@ rulesLet image place p = aliveOf (grammarOf image) (stepOf (grammarOf image) (pl
 pub record Moved (image : List ℕ) (place : Place) (p : ℕ) (after : Place) : Type 0 where
   pub from-is : after .from ≡ lettersAnd (place .from) (pairAt image p .lexical)
   pub to-is : after .to ≡ place .to
-  pub onward-is : after .onward ≡ place .onward
+  pub last-is : after .last ≡ place .last
+  pub ended-is : after .ended ≡ place .ended
   pub nulls-are : after .nulls ≡ nullsAnd (place .nulls) (pairAt image p .lexical)
   pub level-is : levelOf (after .surface) ≡ levelGoBy (levelOf (place .surface)) (pairAt image p .surface)
   pub states-are : take (grammarOf image .rules) (after .states) ≡ stepOf (grammarOf image) (place .states) p
@@ -129,8 +129,9 @@ module _ {image : List ℕ} {place : Place} {p : ℕ} (q : Query) (here : Spells
     after-node n m = λ i.
         record {
           rest = rest-is i;
-          ways = inLexicon image (moved .onward-is i);
-          ended = eqb (moved .onward-is i) 255;
+          ways = waysAfter image (moved .last-is i);
+          stop = stopsAfter image (moved .last-is i);
+          ended = moved .ended-is i;
           entries = n;
           pairs = suc m;
           nulls = moved .nulls-are i;
@@ -144,7 +145,7 @@ module _ {image : List ℕ} {place : Place} {p : ℕ} (q : Query) (here : Spells
           in-order = rw (moved .from-is, moved .to-is) (left-order image (place .from) (place .to) (here .stands .in-image) (pairAt image p .lexical) (here .stands .in-order) (here .spells-on));
           in-image = rw (moved .to-is) (here .stands .in-image);
           letters-right = rw rest-is (left-letters image (place .from) (place .to) (here .stands .in-image) (within 2 (header image .letters)) (pairAt image p .lexical) (here .stands .letters-right));
-          onward-right = rw (moved .onward-is) (here .stands .onward-right);
+          last-right = rw (moved .last-is) (here .stands .last-right);
           nulls-in = moved .nulls-in;
           surface-in = moved .level-in;
           states-live = moved .states-live;
@@ -154,7 +155,7 @@ module _ {image : List ℕ} {place : Place} {p : ℕ} (q : Query) (here : Spells
     took a b c = record { may-is = λ n m k. sym (pair-tests n m k ∙ rw (a, b, c) refl); node-is = λ f. after-node; stands = λ f. after-stands }
 
 -- the tests that are left for the end of a reading, where every letter is paired and the path has ended
-module _ (image : List ℕ) (q : Query) (place : Place) (n m : ℕ) (here : (place .from ≡ place .to) × (place .onward ≡ 255)) where
+module _ (image : List ℕ) (q : Query) (place : Place) (n m : ℕ) (here : (place .from ≡ place .to) × (place .ended ≡ true)) where
   nothing-left : isNil (restOf image place) ≡ true
   nothing-left = let z : place .to - place .from ≡ 0 = omega (arith, here .0) in rw z refl
 

@@ -9,9 +9,10 @@ use Rattle.model.specs.Query.{Query}
 use Rattle.rows.specs.Trail.{withEntry, withPair}
 use Rattle.model.specs.Tree.{Node, opens, countAt, mayAt, goAt, complete}
 
--- an entry or a pair more
+-- the ending, an entry or a pair more
 abbrev pub grow : Bool → Reading → ℕ → Reading
-grow true r e = withEntry r e
+grow true r zero = r
+grow true r (suc e) = withEntry r e
 grow false r p = withPair r p
 
 module _ (g : Grammar) (q : Query) where
@@ -22,10 +23,11 @@ module _ (g : Grammar) (q : Query) where
       given (complete g q n) (r ∷ [])
       ++ flatMap (λ x. let l = gather k (goAt g q (opens n) n x) (grow (opens n) r x) in given (mayAt g q (opens n) n x) l) (below (countAt g q (opens n) n))
 
--- how many steps are left after so many entries and pairs: each takes one of either
-abbrev pub stepsLeft : ℕ → ℕ → ℕ
-stepsLeft entries pairs = (16 - entries) + (40 - pairs)
+-- how many steps are left after so many entries and pairs, and the ending where the path has not ended: each step takes one of these
+abbrev pub stepsLeft : Bool → ℕ → ℕ → ℕ
+stepsLeft true entries pairs = (16 - entries) + (40 - pairs)
+stepsLeft false entries pairs = suc ((16 - entries) + (40 - pairs))
 
 -- from a node
 unfoldable pub stepsFrom : Node → ℕ
-stepsFrom n = stepsLeft (n .entries) (n .pairs)
+stepsFrom n = stepsLeft (n .ended) (n .entries) (n .pairs)

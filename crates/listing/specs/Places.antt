@@ -1,6 +1,6 @@
 -- A place of the code's search as a node of the model's tree, and what holds of it.
 use Prim.Native.Nat.{ℕ, suc, _-_, _<_, _≤_}
-use mathlib.Core.Bool.{Bool, true, false}
+use mathlib.Core.Bool.{Bool, true, _&&_, not, cond}
 use mathlib.Core.Path.{_≡_}
 use mathlib.Core.Logic.{_⊎_}
 use mathlib.Core.List.{List}
@@ -8,13 +8,24 @@ use lib.ListN.{length, take, drop}
 use lib.Dec.{T, eqb}
 use Rattle.model.specs.Lists.{every, within}
 use Rattle.model.specs.Blocks.{header}
-use Rattle.model.specs.Lexicon.{inLexicon}
 use Rattle.model.specs.GrammarOf.{grammarOf}
 use Rattle.model.specs.Query.{Query}
 use Rattle.model.specs.Tree.{Node, mayAt, goAt}
 use Rattle.rules.specs.Live.{Live}
 use Rattle.listing.specs.declared.place.Place.{Place}
 use Rattle.listing.specs.Levels.{levelOf, Bounded}
+
+-- no entry is open yet
+abbrev pub root : ℕ
+root = 65535
+
+-- the entries that may come after an entry, or first
+unfoldable pub waysAfter : List ℕ → ℕ → ℕ → Bool
+waysAfter image e = cond (eqb e root) (grammarOf image .begins) (grammarOf image .follows e)
+
+-- whether a path may end with an entry
+unfoldable pub stopsAfter : List ℕ → ℕ → Bool
+stopsAfter image e = not (eqb e root) && grammarOf image .ends e
 
 -- the letters left
 abbrev pub restOf : List ℕ → Place → List ℕ
@@ -25,8 +36,9 @@ unfoldable pub nodeOf : List ℕ → Place → ℕ → ℕ → Node
 nodeOf image p entries pairs =
     record {
       rest = restOf image p;
-      ways = inLexicon image (p .onward);
-      ended = eqb (p .onward) 255;
+      ways = waysAfter image (p .last);
+      stop = stopsAfter image (p .last);
+      ended = p .ended;
       entries = entries;
       pairs = pairs;
       nulls = p .nulls;
@@ -38,7 +50,7 @@ pub record Standing (image : List ℕ) (p : Place) : Type 0 where
   pub in-order : p .from ≤ p .to
   pub in-image : p .to ≤ length image
   pub letters-right : T (every (within 2 (header image .letters)) (restOf image p))
-  pub onward-right : (p .onward < header image .lexicons) ⊎ (p .onward ≡ 255)
+  pub last-right : (p .last ≡ root) ⊎ (p .last < header image .entries)
   pub nulls-in : p .nulls ≤ 8
   pub surface-in : Bounded (p .surface)
   pub states-live : Live image (p .states)

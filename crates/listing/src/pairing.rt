@@ -69,7 +69,8 @@ pub fn take(
         place: Place {
             from: spelled.from,
             to: place.to,
-            onward: place.onward,
+            last: place.last,
+            ended: place.ended,
             nulls: spelled.nulls,
             surface: surface,
             states: after,
@@ -90,7 +91,7 @@ pub fn ends(
     requires { ⌜ Accepted (now image) (headerOf h) ⌝ }
     requires { ⌜ now index ≡ indexOf (now image) ⌝ }
     requires { ⌜ Standing (now image) place ⌝ }
-    requires { ⌜ (place .from ≡ place .to) × (place .onward ≡ 255) ⌝ }
+    requires { ⌜ (place .from ≡ place .to) × (place .ended ≡ true) ⌝ }
     ensures { λ r. ⌜ ((m : ℕ) → r ≡ complete (grammarOf (now (image .entry))) (queryOf (requestOf d (now (asked .entry)))) (nodeOf (now (image .entry)) place n m)) ⌝ }
 {
     if !crate::asked::ends_entries(d, asked, n) {

@@ -1,32 +1,37 @@
-// Where a search stands: the letters left of the last entry, the lexicon that comes next, counts, and the rules' states.
+// Where a search stands: the letters left of the last entry, that entry, counts, and the rules' states.
 ghost use mathlib.Core.Path.{_≡_};
 ghost use mathlib.Core.Bool.{true};
+ghost use mathlib.Core.List.{List};
 ghost use Prim.Native.Nat.{ℕ, suc, _<_};
 ghost use Rattle.model.specs.GrammarOf.{grammarOf};
 ghost use Rattle.model.specs.Query.{Query};
 ghost use Rattle.model.specs.Tree.{goAt};
 ghost use Rattle.image.specs.Header.{headerOf};
 ghost use Rattle.image.specs.Accepted.{Accepted};
-ghost use Rattle.listing.specs.Places.{nodeOf, Standing};
+ghost use Rattle.listing.specs.Places.{stopsAfter, nodeOf, Standing};
 use crate::level::Level;
 use image::Header;
 
-// The letters left stand in the image from `from` up to `to`; `onward` is 255 where the path ends.
+// The letters left stand in the image from `from` up to `to`; `last` is the entry opened last, or ROOT; `ended` says that the path goes on with none.
 pub struct Place {
     pub from: usize,
     pub to: usize,
-    pub onward: usize,
+    pub last: usize,
+    pub ended: bool,
     pub nulls: usize,
     pub surface: Level,
     pub states: [u8; 32],
 }
+
+// No entry is open yet.
+pub const ROOT: usize = 65535;
 
 // Entry e opens.
 pub fn enter(image: &[u8], h: Header, place: Place, e: usize) -> Place
     requires { ⌜ Accepted (now image) (headerOf h) ⌝ }
     requires { ⌜ Standing (now image) place ⌝ }
     requires { ⌜ e < h .entries ⌝ }
-    ensures go { λ r. ⌜ ((q : Query) (n p : ℕ) → nodeOf (now (image .entry)) r (suc n) p ≡ goAt (grammarOf (now (image .entry))) q true (nodeOf (now (image .entry)) place n p) e) ⌝ }
+    ensures go { λ r. ⌜ ((q : Query) (n p : ℕ) → nodeOf (now (image .entry)) r (suc n) p ≡ goAt (grammarOf (now (image .entry))) q true (nodeOf (now (image .entry)) place n p) (suc e)) ⌝ }
     ensures stands { λ r. ⌜ Standing (now (image .entry)) r ⌝ }
 {
     let from = lexicon::entry_start(h, e) + 1;
@@ -35,7 +40,39 @@ pub fn enter(image: &[u8], h: Header, place: Place, e: usize) -> Place
     Place {
         from: from,
         to: from + lexicon::form_length(image, h, e),
-        onward: lexicon::continuation_of(image, h, e),
+        last: e,
+        ended: false,
+        nulls: place.nulls,
+        surface: surface,
+        states: states,
+    }
+}
+
+// Whether the path may end here.
+pub fn may_stop(image: &[u8], h: Header, place: Place) -> bool
+    requires { ⌜ Accepted (now image) (headerOf h) ⌝ }
+    requires { ⌜ Standing (now image) place ⌝ }
+    ensures { λ r. ⌜ r ≡ stopsAfter (now (image .entry)) (place .last) ⌝ }
+{
+    let last = place.last;
+    if last == ROOT {
+        return false;
+    }
+    lexicon::continuation_of(image, h, last) == 255
+}
+
+// The path ends.
+pub fn stop(place: Place) -> Place
+    ensures go { λ r. ⌜ ((image : List ℕ) (q : Query) (n p : ℕ) → nodeOf image r n p ≡ goAt (grammarOf image) q true (nodeOf image place n p) 0) ⌝ }
+    ensures stands { λ r. ⌜ ((image : List ℕ) → Standing image place → Standing image r) ⌝ }
+{
+    let surface = place.surface;
+    let states = place.states;
+    Place {
+        from: place.from,
+        to: place.to,
+        last: place.last,
+        ended: true,
         nulls: place.nulls,
         surface: surface,
         states: states,
