@@ -51,6 +51,6 @@ fn list_accepted(image: &[u8], h: Header, d: Direction, asked: &[u8], out: &mut 
     ensures bytes { λ r. ⌜ now (out .exit) ≡ afterListing (now (image .entry)) (requestOf d (now (asked .entry))) (now (out .entry)) ⌝ }
 {
     let mut index = [0u8; 39424];
-    rules::index::fill_index(image, h, &mut index);
+    index::fill_index(image, h, &mut index);
     crate::indexed::list(image, &index, h, d, asked, out)
 }

@@ -35,7 +35,7 @@ pub fn prepare(image: &[u8], index: &mut [u8]) -> Prepared
         },
         Verdict::Accepted => {
             let h = image::read_header(image);
-            rules::index::fill_index(image, h, index);
+            index::fill_index(image, h, index);
             Prepared {
                 verdict: Verdict::Accepted,
                 h: h,

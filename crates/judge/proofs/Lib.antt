@@ -1,1 +1,3 @@
 pub mod Judgements
+mod PairingLaws
+mod Judging

@@ -3,10 +3,10 @@ use Prim.Native.Nat.{ℕ}
 use mathlib.Core.List.{List, _++_}
 use Rattle.model.specs.GrammarOf.{grammarOf}
 use Rattle.model.specs.Readings.{isReading}
-use Rattle.model.specs.Query.{entryNumbers}
 use Rattle.model.specs.Refusals.{firstFailing, pathTests, pairingTests}
 use Rattle.model.specs.Beside as beside
 use Rattle.model.specs.Beside.{judgementAfter}
+use Rattle.judge.specs.Reading.{judgedReading}
 use Rattle.judge.specs.declared.Judgement.{Judgement}
 use Rattle.judge.specs.declared.Judgement.the-variants as judgement
 
@@ -17,4 +17,4 @@ judgementOf (judgement.Refused k) = beside.Judgement.refused k
 
 -- on an accepted image: tests 11 to 13, and the reading
 unfoldable pub judgedAccepted : List ℕ → List ℕ → List ℕ → beside.Judgement
-judgedAccepted image path pairing = judgementAfter (firstFailing (pathTests image path ++ pairingTests image pairing)) (isReading (grammarOf image) (record { path = entryNumbers path; pairing = pairing }))
+judgedAccepted image path pairing = judgementAfter (firstFailing (pathTests image path ++ pairingTests image pairing)) (isReading (grammarOf image) (judgedReading path pairing))

@@ -1,4 +1,6 @@
 // The judge: whether a path and a pairing are a reading of the word that they spell, or the refusal.
+mod reading;
+
 ghost use mathlib.Core.Path.{_≡_};
 ghost use lib.ListN.{length};
 ghost use Rattle.model.specs.Beside.{judged};
@@ -36,12 +38,12 @@ fn judge_accepted(image: &[u8], h: Header, path: &[u8], pairing: &[u8]) -> Judge
     if !rules::paths::path_linked(image, h, path) {
         return Judgement::Refused(12);
     }
-    if !rules::judge::pairing_right(h, pairing) {
+    if !crate::reading::pairing_right(h, pairing) {
         return Judgement::Refused(13);
     }
     let mut index = [0u8; 39424];
-    rules::index::fill_index(image, h, &mut index);
-    if rules::judge::is_reading(image, &index, h, path, pairing) {
+    index::fill_index(image, h, &mut index);
+    if crate::reading::is_reading(image, &index, h, path, pairing) {
         return Judgement::Holds;
     }
     Judgement::Fails

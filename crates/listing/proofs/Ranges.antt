@@ -17,7 +17,7 @@ use Rattle.model.proofs.Booleans.{left-false, right-false, of-true}
 use Rattle.model.proofs.Lists.{length-map-below, getD-map-below}
 use Rattle.image.specs.Accepted.{Accepted}
 use Rattle.image.specs.Index.{indexOf}
-use Rattle.rules.proofs.Laws.{length-indexOf, lexicon-number}
+use Rattle.index.proofs.Laws.{length-indexOf, lexicon-number}
 use Rattle.lexicon.proofs.Laws as entries
 use Rattle.listing.specs.Opening.{Ranged}
 

@@ -20,11 +20,15 @@ use Rattle.model.specs.Query.{entryNumbers}
 use Rattle.model.proofs.Booleans.{and-out, and-in, of-true}
 use Rattle.model.proofs.Lists.{length-map-below, getD-map-below, every-append}
 use Rattle.model.proofs.Rest.{drop-step, every-getD}
+use Rattle.image.specs.Laid.{Laid}
 use Rattle.image.specs.Accepted.{Accepted}
 use Rattle.model.proofs.Booleans.{within-below, within-above, within-true}
 use Rattle.lexicon.proofs.Laws.{entryStart, entry-inside, form-size, form-byte, form-short, form-letters}
-use Rattle.rules.specs.Judge.{Entered, formsOf}
-use Rattle.rules.proofs.Laws.{laid-entries}
+use Rattle.rules.specs.Paths.{Entered, formsOf}
+
+-- the count of entries that a header tells is the image's
+pub laid-entries : {image : List ℕ} {h : Header} → Laid image h → h .entries ≡ header image .entries
+laid-entries l = ap (λ (k : Header). k .entries) (l .header-is)
 
 -- two bytes to an entry number
 module _ (path : List ℕ) where

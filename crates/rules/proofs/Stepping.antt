@@ -21,7 +21,8 @@ use Rattle.image.specs.Accepted.{Accepted}
 use Rattle.image.specs.Index.{indexOf}
 use Rattle.rules.specs.Live.{Live, StepOf, stepOf, begunOf, aliveOf, finishOf, endsFinal}
 use Rattle.tables.proofs.Laws.{columns-most, states-least, states-most}
-use Rattle.rules.proofs.Laws.{grammar-rules, grammar-pairs, table-inside, table-ok, next-byte, next-within, column-byte, grammar-final}
+use Rattle.index.proofs.Laws.{column-byte}
+use Rattle.rules.proofs.Tables.{grammar-rules, grammar-pairs, table-inside, table-ok, next-byte, next-within, grammar-final}
 
 module _ {image : List ℕ} (ok : Accepted image (header image)) (r : ℕ) (rule : r < header image .rules) where
   -- a byte of rule r's table, in the image

@@ -1,3 +1,2 @@
 pub mod Live
-pub mod Candidates
-pub mod Judge
+pub mod Paths

@@ -1,5 +1,3 @@
-// The rules of an image at work: the candidate rows of the index, all rules' states side by side, paths, and the judge of one reading.
-pub mod index;
-pub mod judge;
+// The rules of an image at work: all rules' states side by side, and paths through its lexicon.
 pub mod paths;
 pub mod states;

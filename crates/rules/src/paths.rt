@@ -12,7 +12,7 @@ ghost use Rattle.model.specs.Query.{entryNumbers};
 ghost use Rattle.image.specs.Header.{headerOf};
 ghost use Rattle.image.specs.Laid.{Laid};
 ghost use Rattle.image.specs.Accepted.{Accepted};
-ghost use Rattle.rules.specs.Judge.{Entered, formsOf};
+ghost use Rattle.rules.specs.Paths.{Entered, formsOf};
 use image::Header;
 use letters::Lexical;
 

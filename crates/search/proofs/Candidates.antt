@@ -12,7 +12,7 @@ use Rattle.model.specs.RuleTables.{pairs, boundaryPair}
 use Rattle.model.specs.Tree.{spells}
 use Rattle.image.specs.Accepted.{Accepted}
 use Rattle.image.specs.Index.{candidates, indexOf}
-use Rattle.rules.proofs.Laws.{length-indexOf, candidate-count, candidate-byte, candidate-at, candidates-most}
+use Rattle.index.proofs.Laws.{length-indexOf, candidate-count, candidate-byte, candidate-at, candidates-most}
 use Rattle.listing.specs.Search.{headOf}
 use Rattle.listing.proofs.Loops.{only-passes}
 use Rattle.listing.proofs.Searching.{spells-so}

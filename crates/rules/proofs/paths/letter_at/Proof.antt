@@ -8,9 +8,8 @@ use lib.ListN.{length, getD, drop}
 use Rattle.model.specs.Lists.{joined}
 use Rattle.model.specs.GrammarOf.{grammarOf}
 use Rattle.model.specs.Query.{entryNumbers}
-use Rattle.rules.specs.Judge.{formsOf}
-use Rattle.rules.proofs.Laws.{laid-entries}
-use Rattle.rules.proofs.PathLaws.{length-entryNumbers, entry-number, entered-at, formsFrom, forms-none, letter-here, letter-later, grammar-form, form-length}
+use Rattle.rules.specs.Paths.{formsOf}
+use Rattle.rules.proofs.PathLaws.{laid-entries, length-entryNumbers, entry-number, entered-at, formsFrom, forms-none, letter-here, letter-later, grammar-form, form-length}
 use Rattle.rules.proofs.paths.letter_at.Statement.{statement}
 use Rattle.rules.proofs.paths.letter_at.Tie as tie
 

@@ -15,8 +15,7 @@ use Rattle.model.specs.Refusals.{rightEntries}
 use Rattle.model.specs.Query.{entryNumbers}
 use Rattle.model.proofs.Booleans.{of-true}
 use Rattle.lexicon.proofs.Laws.{continuation-right}
-use Rattle.rules.proofs.Laws.{laid-entries}
-use Rattle.rules.proofs.PathLaws.{length-entryNumbers, entry-number, mayOpen, linkedFrom, linked-start, linked-end, linked-fails, linked-on, may-open-entry}
+use Rattle.rules.proofs.PathLaws.{laid-entries, length-entryNumbers, entry-number, mayOpen, linkedFrom, linked-start, linked-end, linked-fails, linked-on, may-open-entry}
 use Rattle.rules.proofs.paths.path_linked.Statement.{statement}
 use Rattle.rules.proofs.paths.path_linked.Tie as tie
 

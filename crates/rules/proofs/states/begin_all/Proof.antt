@@ -5,7 +5,7 @@ use mathlib.Core.List.{List}
 use Prim.Native.Nat.{ℕ}
 use Rattle.rules.specs.Live.{Reached}
 use Rattle.letters.proofs.Laws.{laid-pairs}
-use Rattle.rules.proofs.Laws.{accepted-here}
+use Rattle.rules.proofs.Tables.{accepted-here}
 use Rattle.rules.proofs.Stepping.{ones-live, begun-is}
 use Rattle.rules.proofs.states.begin_all.Statement.{statement}
 use Rattle.rules.proofs.states.begin_all.Tie as tie

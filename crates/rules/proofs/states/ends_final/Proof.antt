@@ -4,7 +4,7 @@ use native.Mathlib.Omega.{arith}
 use mathlib.Core.Path.{ap, _∙_}
 use Prim.Native.Nat.{ℕ}
 use lib.Dec.{eqb}
-use Rattle.rules.proofs.Laws.{table-inside}
+use Rattle.rules.proofs.Tables.{table-inside}
 use Rattle.rules.proofs.Stepping.{mark-inside, final-read, ends-nowhere, ends-somewhere}
 use Rattle.rules.proofs.states.ends_final.Statement.{statement}
 use Rattle.rules.proofs.states.ends_final.Tie as tie

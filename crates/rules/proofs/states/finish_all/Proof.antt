@@ -8,7 +8,8 @@ use Prim.Native.Nat.{ℕ, _-_, _≤_, _<_}
 use Rattle.model.specs.Lists.{below, every}
 use Rattle.model.specs.Blocks.{header}
 use Rattle.model.proofs.Lists.{every-more, every-fails}
-use Rattle.rules.proofs.Laws.{accepted-here, laid-rules}
+use Rattle.index.proofs.Laws.{laid-rules}
+use Rattle.rules.proofs.Tables.{accepted-here}
 use Rattle.letters.proofs.Laws.{laid-pairs}
 use Rattle.rules.proofs.Stepping.{endsAll, finish-is}
 use Rattle.rules.proofs.states.finish_all.Statement.{statement}

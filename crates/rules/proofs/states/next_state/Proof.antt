@@ -6,7 +6,8 @@ use Prim.Native.Nat.{ℕ, _+_, _*_, _-_, _<_}
 use lib.ListN.{length}
 use Rattle.model.specs.Lists.{byte}
 use Rattle.model.specs.GrammarOf.{grammarOf}
-use Rattle.rules.proofs.Laws.{length-indexOf, table-inside, next-within}
+use Rattle.index.proofs.Laws.{length-indexOf}
+use Rattle.rules.proofs.Tables.{table-inside, next-within}
 use Rattle.rules.proofs.Stepping.{place-inside, next-read}
 use Rattle.rules.proofs.states.next_state.Statement.{statement}
 use Rattle.rules.proofs.states.next_state.Tie as tie

@@ -7,7 +7,8 @@ use lib.ListN.{length, getD}
 use Rattle.model.specs.Blocks.{header}
 use Rattle.model.specs.RuleTables.{table, stateCount}
 use Rattle.model.specs.GrammarOf.{grammarOf}
-use Rattle.rules.proofs.Laws.{accepted-here, laid-rules}
+use Rattle.index.proofs.Laws.{laid-rules}
+use Rattle.rules.proofs.Tables.{accepted-here}
 use Rattle.letters.proofs.Laws.{laid-pairs}
 use Rattle.rules.proofs.Stepping.{RulesTook, rules-took-none, rules-took-one, step-fails, step-lives}
 use Rattle.rules.proofs.states.step_all.Statement.{statement}

@@ -1,0 +1,5 @@
+pub mod Laws
+mod RowByRow
+mod Columns
+mod Lexicons
+pub mod Candidates

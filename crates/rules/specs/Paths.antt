@@ -1,0 +1,16 @@
+-- A path of an image, in the model's words: entries that the image has, and their joined forms.
+use Prim.Native.Nat.{ℕ}
+use mathlib.Core.List.{List, map}
+use lib.Dec.{T, ltb}
+use Rattle.model.specs.Lists.{every, joined}
+use Rattle.model.specs.Blocks.{header}
+use Rattle.model.specs.GrammarOf.{grammarOf}
+use Rattle.model.specs.Query.{entryNumbers}
+
+-- each number of a path is an entry's
+abbrev pub Entered : List ℕ → List ℕ → Type 0
+Entered image path = T (every (λ e. ltb e (header image .entries)) (entryNumbers path))
+
+-- the joined forms of a path
+abbrev pub formsOf : List ℕ → List ℕ → List ℕ
+formsOf image path = joined (map (grammarOf image .form) (entryNumbers path))
