@@ -92,6 +92,10 @@ module _ (image : List ℕ) (q : Query) (place : Place) (trail : Trail) where
   unfolding mayAt nodeOf
   full-none h e = same-none (mayAt g q true n (suc e)) _ (rw (le-ltb (trail .entries) 16 h) refl)
 
+  entries-few : trail .entries < 16 → n .entries < 16
+  unfolding nodeOf
+  entries-few spare = spare
+
   entries-are : g .entries ≡ header image .entries
   unfolding grammarOf
   entries-are = refl
@@ -123,10 +127,6 @@ module _ (image : List ℕ) (q : Query) (place : Place) (trail : Trail) where
         ap₂ (λ (m : Node) (x : Reading). gather g q (stepsFrom m) m x) f h
         ∙ ap (λ (k : ℕ). gather g q k (goAt g q true n (suc e)) (grow true r (suc e))) s
         ∙ ap (λ (b : Bool). given b (gather g q (pred (stepsFrom n)) (goAt g q true n (suc e)) (grow true r (suc e)))) (sym (entry-may spare e true may))
-      where
-        entries-few : trail .entries < 16 → n .entries < 16
-        unfolding nodeOf
-        entries-few spare = spare
 
 or-false : (b c : Bool) → (b || c) ≡ false → c ≡ false
 or-false true c e = absurd (true≢false e)

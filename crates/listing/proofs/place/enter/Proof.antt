@@ -17,28 +17,16 @@ form-length-requires c κs = search needs
 add-t9 : tie.Need-add-t9
 add-t9 c = search needs
 
-continuation-of-requires : tie.Need-continuation-of-requires
-continuation-of-requires c κs = search needs
-
 returns : tie.Need-returns
 returns c =
-    let goes = c in
-    let long = goes .before in
+    let long = c in
     let begins = long .before .before .before in
     let start = begins .before .before in
     let image = start .args .image .now in
     let h = headerOf (start .args .h) in (
-      entered-node image h (start .pre .0) (start .args .e) (start .pre .1 .1) (begins .entry-start .result) (long .form-length .result) (goes .continuation-of .result) (start .args .place) (begins .entry-start .ensures) (long .form-length .ensures .0) (goes .continuation-of .ensures .0),
-      entered-stands image h (start .pre .0) (start .args .e) (start .pre .1 .1) (begins .entry-start .result) (long .form-length .result) (goes .continuation-of .result) (start .args .place) (begins .entry-start .ensures) (long .form-length .ensures .0) (goes .continuation-of .ensures .0) (start .pre .1 .0),
+      entered-node image h (start .pre .0) (start .args .e) (start .pre .1 .1) (begins .entry-start .result) (long .form-length .result) (start .args .place) (begins .entry-start .ensures) (long .form-length .ensures .0),
+      entered-stands image h (start .pre .0) (start .args .e) (start .pre .1 .1) (begins .entry-start .result) (long .form-length .result) (start .args .place) (begins .entry-start .ensures) (long .form-length .ensures .0) (start .pre .1 .0),
     )
 
 pub enter-spec : {M : Type 1} → statement M
-enter-spec =
-    tie.close
-    (tie.spec
-    entry-start-requires
-    add-from
-    form-length-requires
-    add-t9
-    continuation-of-requires
-    returns)
+enter-spec = tie.close (tie.spec entry-start-requires add-from form-length-requires add-t9 returns)
