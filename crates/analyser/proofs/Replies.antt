@@ -1,4 +1,4 @@
--- A listing's reply and bytes by its verdict: a refusal's number and the buffer as it was, or what the search puts.
+-- A listing's reply and bytes by its verdict: a refusal's number and the buffer as it was, or what the search leaves.
 use Prim.Native.Nat.{ℕ, _<_, _≤_}
 use native.Mathlib.Omega.{arith}
 use mathlib.Core.Bool.{true, false}
@@ -16,7 +16,8 @@ use Rattle.model.specs.Calls.{replyAfter, rowsAfter, requestVerdict, allReading
 use Rattle.image.specs.Accepted.{Accepted}
 use Rattle.model.proofs.Tests.{tests-refused, tests-accepted}
 use Rattle.grammar.proofs.Verdicts.{accepted-image}
-use Rattle.rows.specs.Fill.{putAll, replyFor}
+use Rattle.rows.specs.Offering.{offerAll}
+use Rattle.rows.specs.Fill.{put, replyFor}
 use Rattle.rows.proofs.Fill.{listed}
 
 -- what the code that reads an accepted image asks
@@ -73,8 +74,8 @@ module _ (image : List ℕ) (request : Request) (before : List ℕ) where
     pub own-refused : (k : ℕ) → firstFailing (ownTests image request) ≡ refused k → (Reply.refused k ≡ listingReply image request (rowCount before)) × (before ≡ afterListing image request before)
     own-refused k e = refused-by k (own-decides ∙ e)
 
-    -- all readings are put
-    pub own-accepted : firstFailing (ownTests image request) ≡ accepted → (after : List ℕ) (found : ℕ) → (after, found) ≡ putAll (rowCount before) (before, 0) (allReadings image request)
+    -- all readings are offered
+    pub own-accepted : firstFailing (ownTests image request) ≡ accepted → (after : List ℕ) (found : ℕ) → (after, found) ≡ offerAll (put (rowCount before)) (before, 0) (allReadings image request)
         → (replyFor found (rowCount before) ≡ listingReply image request (rowCount before)) × (after ≡ afterListing image request before)
     own-accepted e after found p =
         let r = by-verdict accepted (own-decides ∙ e) in

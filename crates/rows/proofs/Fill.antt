@@ -17,7 +17,9 @@ use Rattle.model.specs.Calls.{replyAfter}
 use Rattle.model.specs.Demand.{replyRows}
 use Rattle.model.proofs.Lists.{flatMap-append}
 use Rattle.model.proofs.Rows.{length-rowBytes, length-rows, filled-past}
-use Rattle.rows.specs.Fill.{put, putAll, replyFor}
+use Rattle.rows.specs.Offering.{offerAll, Keeps}
+use Rattle.rows.specs.Fill.{put, Over, replyFor}
+use Rattle.rows.proofs.Offering.{offer-full}
 
 -- the buffer with a row written after n rows
 abbrev written : List ℕ → ℕ → Reading → List ℕ
@@ -59,38 +61,23 @@ module _ (capacity : ℕ) where
         length-written : n < capacity → length (written d n r) ≡ length d
         length-written k = simp (length-append, length-take, length-drop, length-rowBytes) (omega arith)
 
-  pub putAll-none : (s : List ℕ × ℕ) → putAll capacity s [] ≡ s
-  unfolding putAll
-  putAll-none s = refl
-
-  pub putAll-one : (s : List ℕ × ℕ) (r : Reading) → putAll capacity s (r ∷ []) ≡ put capacity s r
-  unfolding putAll
-  putAll-one s r = refl
-
-  pub putAll-append : (s : List ℕ × ℕ) (l m : List Reading) → putAll capacity s (l ++ m) ≡ putAll capacity (putAll capacity s l) m
-  unfolding putAll
-  putAll-append s [] m = refl
-  putAll-append s (r ∷ l) m = putAll-append (put capacity s r) l m
-
   -- once a row had no room, nothing changes
-  pub putAll-over : (s : List ℕ × ℕ) (l : List Reading) → capacity < s .1 → putAll capacity s l ≡ s
-  unfolding putAll
-  putAll-over s [] h = refl
-  putAll-over s (r ∷ l) h = rw (put-over (s .0) (s .1) r h) (putAll-over s l h)
+  pub put-keeps : Keeps (Over capacity) (put capacity)
+  put-keeps = record { alone = λ s r h. put-over (s .0) (s .1) r h }
 
-  pub putAll-count : (s : List ℕ × ℕ) (l : List Reading) → s .1 ≤ suc capacity → putAll capacity s l .1 ≡ min (s .1 + length l) (suc capacity)
-  unfolding putAll
-  putAll-count s [] h = omega arith
-  putAll-count s (r ∷ l) h =
+  pub count-offered : (s : List ℕ × ℕ) (l : List Reading) → s .1 ≤ suc capacity → offerAll (put capacity) s l .1 ≡ min (s .1 + length l) (suc capacity)
+  unfolding offerAll
+  count-offered s [] h = omega arith
+  count-offered s (r ∷ l) h =
       let e = put-count (s .0) (s .1) r h in
-      omega (arith, putAll-count (put capacity s r) l (omega arith))
+      omega (arith, count-offered (put capacity s r) l (omega arith))
 
-  pub putAll-length : (s : List ℕ × ℕ) (l : List Reading) → capacity ≤ rowCount (s .0) → length (putAll capacity s l .0) ≡ length (s .0)
-  unfolding putAll
-  putAll-length s [] h = refl
-  putAll-length s (r ∷ l) h =
+  pub length-offered : (s : List ℕ × ℕ) (l : List Reading) → capacity ≤ rowCount (s .0) → length (offerAll (put capacity) s l .0) ≡ length (s .0)
+  unfolding offerAll
+  length-offered s [] h = refl
+  length-offered s (r ∷ l) h =
       let e = put-length (s .0) (s .1) r h in
-      putAll-length (put capacity s r) l (omega arith) ∙ e
+      length-offered (put capacity s r) l (omega arith) ∙ e
 
   -- the reply has at most as many rows as there are
   pub reply-rows : (n : ℕ) → replyRows (replyFor n capacity) ≤ capacity
@@ -150,30 +137,30 @@ module _ (buffer : List ℕ) where
       ∙ ap (λ (b : List ℕ). b ++ drop (116 * length (l ++ (r ∷ []))) buffer) (sym (flatMap-append rowBytes l (r ∷ []) ∙ ap (λ (b : List ℕ). front ++ b) (append-nil (rowBytes r))))
 
   module _ (capacity : ℕ) where
-    fills-after : (l m : List Reading) → length l ≤ capacity → putAll capacity (filled buffer l, length l) m ≡ (filled buffer (take capacity (l ++ m)), min (length (l ++ m)) (suc capacity))
-    unfolding putAll
+    fills-after : (l m : List Reading) → length l ≤ capacity → offerAll (put capacity) (filled buffer l, length l) m ≡ (filled buffer (take capacity (l ++ m)), min (length (l ++ m)) (suc capacity))
+    unfolding offerAll
     fills-after l [] h = let e : min (length l) (suc capacity) ≡ length l = omega arith in rw (append-nil l, take-all capacity l h, e)
     fills-after l (r ∷ m) h = go (decLt (length l) capacity) (fills-after (l ++ (r ∷ [])) m)
       where
         more : length l + 1 ≡ length (l ++ (r ∷ []))
         more = omega (arith, length-append l (r ∷ []))
 
-        go : Dec (length l < capacity) → (length (l ++ (r ∷ [])) ≤ capacity → putAll capacity (filled buffer (l ++ (r ∷ [])), length (l ++ (r ∷ []))) m ≡ (filled buffer (take capacity (l ++ (r ∷ []) ++ m)), min (length (l ++ (r ∷ []) ++ m)) (suc capacity)))
-            → putAll capacity (put capacity (filled buffer l, length l) r) m ≡ (filled buffer (take capacity (l ++ r ∷ m)), min (length (l ++ r ∷ m)) (suc capacity))
+        go : Dec (length l < capacity) → (length (l ++ (r ∷ [])) ≤ capacity → offerAll (put capacity) (filled buffer (l ++ (r ∷ [])), length (l ++ (r ∷ []))) m ≡ (filled buffer (take capacity (l ++ (r ∷ []) ++ m)), min (length (l ++ (r ∷ []) ++ m)) (suc capacity)))
+            → offerAll (put capacity) (put capacity (filled buffer l, length l) r) m ≡ (filled buffer (take capacity (l ++ r ∷ m)), min (length (l ++ r ∷ m)) (suc capacity))
         go (yes k) rest = rw (put-room capacity (filled buffer l) (length l) r k, filled-more l r, more, ← append-snoc l r m) (rest (omega (arith, more)))
         go (no k) rest =
             let e : length l ≡ capacity = omega arith in
             let n : min (length (l ++ r ∷ m)) (suc capacity) ≡ capacity + 1 = omega (arith, length-append l (r ∷ m)) in
-            rw (put-full capacity (filled buffer l) (length l) r e, take-at l (r ∷ m) capacity e, n) (putAll-over capacity (filled buffer l, capacity + 1) m (omega arith))
+            rw (put-full capacity (filled buffer l) (length l) r e, take-at l (r ∷ m) capacity e, n) (offer-full (put capacity) (put-keeps capacity) (filled buffer l, capacity + 1) m (omega arith))
 
     -- the buffer is filled with what it has room for, and a reading more than that is counted once
-    pub putAll-fills : (l : List Reading) → putAll capacity (buffer, 0) l ≡ (filled buffer (take capacity l), min (length l) (suc capacity))
+    pub offered-fills : (l : List Reading) → offerAll (put capacity) (buffer, 0) l ≡ (filled buffer (take capacity l), min (length l) (suc capacity))
     unfolding filled
-    putAll-fills l = fills-after [] l zero-le
+    offered-fills l = fills-after [] l zero-le
 
-  -- a call that puts all readings into its buffer leaves and replies what it must
-  pub listed : (l : List Reading) (after : List ℕ) (found : ℕ) → (after, found) ≡ putAll (rowCount buffer) (buffer, 0) l
+  -- a call that offers all readings to its buffer leaves and replies what it must
+  pub listed : (l : List Reading) (after : List ℕ) (found : ℕ) → (after, found) ≡ offerAll (put (rowCount buffer)) (buffer, 0) l
       → (after ≡ filled buffer (take (rowCount buffer) l)) × (replyFor found (rowCount buffer) ≡ replyTo (rowCount buffer) l)
   listed l after found e =
-      let f = e ∙ putAll-fills (rowCount buffer) l in
+      let f = e ∙ offered-fills (rowCount buffer) l in
       (ap (λ s. s .0) f, ap (λ s. replyFor (s .1) (rowCount buffer)) f ∙ reply-fills (rowCount buffer) l)

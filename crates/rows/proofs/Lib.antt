@@ -1,4 +1,5 @@
--- Laws that the proofs of functions cite; `Fill` is for the callers too.
+-- Laws that the proofs of functions cite; `Offering` and `Fill` are for the callers too.
 pub mod Places
 pub mod Bytes
+pub mod Offering
 pub mod Fill

@@ -1,7 +1,7 @@
--- Rows put one after the other into a lent buffer, and the reply for their count.
-use Prim.Native.Nat.{ℕ, _+_, _*_}
+-- A row put into a lent buffer, the step by which a listing takes its readings; and the reply for their count.
+use Prim.Native.Nat.{ℕ, _+_, _*_, _<_}
 use mathlib.Core.Bool.{cond}
-use mathlib.Core.List.{List, [], _∷_, _++_}
+use mathlib.Core.List.{List, _++_}
 use lib.ListN.{take, drop}
 use lib.Dec.{leb, ltb, eqb}
 use Rattle.model.specs.Readings.{Reading}
@@ -17,9 +17,9 @@ put capacity s r =
     cond (ltb (s .1) capacity) (take (116 * s .1) (s .0) ++ (rowBytes r ++ drop 116 (drop (116 * s .1) (s .0))), s .1 + 1)
     (cond (leb (s .1) capacity) (s .0, capacity + 1) s)
 
-unfoldable pub putAll : ℕ → List ℕ × ℕ → List Reading → List ℕ × ℕ
-putAll capacity s [] = s
-putAll capacity s (r ∷ l) = putAll capacity (put capacity s r) l
+-- a row had no room
+abbrev pub Over : ℕ → List ℕ × ℕ → Type 0
+Over capacity s = capacity < s .1
 
 -- the reply where so many were found and the buffer has room for so many
 unfoldable pub replyFor : ℕ → ℕ → model.Reply

@@ -101,9 +101,9 @@ pub fn write_row(row: &mut [u8], t: Trail)
     }
 }
 
-// Puts a row after those that were found before, and answers how many are found now. One that has no room is counted all the same, so that the
+// One step of a listing: puts a row after those that were found before, and answers how many are found now. One that has no room is counted all the same, so that the
 // answer is more than the buffer's rows exactly when a row is missing.
-pub fn emit(rows: &mut [u8], found: usize, t: Trail) -> usize
+pub fn offer(rows: &mut [u8], found: usize, t: Trail) -> usize
     requires { ⌜ (found ≤ rowCount (now rows)) × Short t ⌝ }
     ensures { λ r. ⌜ (now (rows .exit), r) ≡ put (rowCount (now (rows .entry))) (now (rows .entry), found) (readingOf t) ⌝ }
 {

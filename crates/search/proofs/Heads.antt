@@ -12,14 +12,13 @@ use Rattle.model.specs.Lists.{below, given, flatMap}
 use Rattle.model.specs.Blocks.{Header, header}
 use Rattle.model.specs.GrammarOf.{grammarOf}
 use Rattle.model.specs.Readings.{Reading}
-use Rattle.model.specs.Rows.{rowCount}
 use Rattle.model.specs.Query.{Query}
 use Rattle.model.specs.Tree.{opens, mayAt, goAt, complete}
 use Rattle.image.specs.Index.{candidates}
 use Rattle.rows.specs.declared.Trail.{Trail}
 use Rattle.rows.specs.Trail.{readingOf, withEntry, withPair, Holds}
-use Rattle.rows.specs.Fill.{putAll}
-use Rattle.rows.proofs.Fill.{putAll-append}
+use Rattle.rows.specs.Offering.{offerAll}
+use Rattle.rows.proofs.Offering.{offer-append}
 use Rattle.listing.specs.declared.place.Place.{Place}
 use Rattle.listing.specs.Gather.{stepsLeft}
 use Rattle.listing.specs.Places.{restOf, nodeOf, Standing, Took}
@@ -114,12 +113,12 @@ module _ {image index : List ℕ} {h : Header} {place : Place} {trail : Trail} {
       ∙ ap (λ (l : List Reading). given (complete (grammarOf image) q (nodeAt image place trail)) (readingOf trail ∷ []) ++ l)
       (ap (λ (x : ℕ). flatMap (pairOne image q place trail) (candidates image x)) (sym (o .letter)) ∙ flatMap-places (pairOne image q place trail) 0 (candidates image a))
 
-  -- what ends here is put first, and then what the candidates find
-  pub pair-put : (q : Query) (out : List ℕ) (n : ℕ) {ended out′ : List ℕ} {m n′ : ℕ} → length ended ≡ length out
-      → (ended, m) ≡ putAll (rowCount out) (out, n) (given (complete (grammarOf image) q (nodeAt image place trail)) (readingOf trail ∷ []))
-      → (out′, n′) ≡ putAll (rowCount ended) (ended, m) (flatMap (candidateOne image q place trail a) (below (length (candidates image a))))
-      → (out′, n′) ≡ putAll (rowCount out) (out, n) (foundAt image q place trail)
-  pair-put q out n w f g = rw (pair-found q, putAll-append, ← f, ← w) g
+  -- what ends here is offered first, and then what the candidates find
+  pub pair-offered : (q : Query) {S : Type 0} (step : S → Reading → S) (s : S) {ended last : S}
+      → ended ≡ offerAll step s (given (complete (grammarOf image) q (nodeAt image place trail)) (readingOf trail ∷ []))
+      → last ≡ offerAll step ended (flatMap (candidateOne image q place trail a) (below (length (candidates image a))))
+      → last ≡ offerAll step s (foundAt image q place trail)
+  pair-offered q step s f g = rw (pair-found q, offer-append, ← f) g
 
   -- candidate k is tried
   module _ {q : Query} {k p : ℕ} {may : Bool} {next : Place} (c : Candidate image a k p) (took : Took image q place p may next) where

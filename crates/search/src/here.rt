@@ -14,7 +14,8 @@ ghost use Rattle.image.specs.Header.{headerOf};
 ghost use Rattle.image.specs.Accepted.{Accepted};
 ghost use Rattle.image.specs.Index.{indexOf, candidates};
 ghost use Rattle.rows.specs.Trail.{readingOf};
-ghost use Rattle.rows.specs.Fill.{putAll};
+ghost use Rattle.rows.specs.Offering.{offerAll};
+ghost use Rattle.rows.specs.Fill.{put};
 ghost use Rattle.listing.specs.Asked.{requestOf};
 ghost use Rattle.listing.specs.Places.{restOf, Standing};
 ghost use Rattle.listing.specs.Search.{nodeAt, headOf};
@@ -35,7 +36,7 @@ pub fn opens_at(place: Place) -> bool
     place.onward != 255
 }
 
-// Puts the reading that ends here, where one does.
+// Offers the reading that ends here, where one does.
 pub fn put_ended(
     image: &[u8],
     index: &[u8],
@@ -50,7 +51,7 @@ pub fn put_ended(
     requires { ⌜ Underway (now image) (now index) (headerOf h) place trail ⌝ }
     requires { ⌜ opensAt place ≡ false ⌝ }
     requires { ⌜ found ≤ rowCount (now out) ⌝ }
-    ensures { λ r. ⌜ (now (out .exit), r) ≡ putAll (rowCount (now (out .entry))) (now (out .entry), found) (given (complete (grammarOf (now (image .entry))) (queryOf (requestOf d (now (asked .entry)))) (nodeAt (now (image .entry)) place trail)) (readingOf trail ∷ [])) ⌝ }
+    ensures { λ r. ⌜ (now (out .exit), r) ≡ offerAll (put (rowCount (now (out .entry)))) (now (out .entry), found) (given (complete (grammarOf (now (image .entry))) (queryOf (requestOf d (now (asked .entry)))) (nodeAt (now (image .entry)) place trail)) (readingOf trail ∷ [])) ⌝ }
 {
     if place.from < place.to {
         return found;
@@ -58,7 +59,7 @@ pub fn put_ended(
     if !listing::pairing::ends(image, index, h, d, asked, place, trail.entries) {
         return found;
     }
-    rows::emit(out, found, trail)
+    rows::offer(out, found, trail)
 }
 
 // The next letter to be paired, 0 where none is left.

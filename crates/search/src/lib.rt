@@ -1,5 +1,5 @@
-// The search for readings, one for both directions: opening an entry and pairing its letters call each other, and each reading found is put into
-// the lent rows.
+// The search for readings, one for both directions: opening an entry and pairing its letters call each other, and each reading found is offered
+// to the lent rows.
 pub mod here;
 pub mod starts;
 
@@ -12,7 +12,8 @@ ghost use Rattle.model.specs.Calls.{allReadings};
 ghost use Rattle.image.specs.Header.{headerOf};
 ghost use Rattle.image.specs.Accepted.{Accepted};
 ghost use Rattle.image.specs.Index.{indexOf};
-ghost use Rattle.rows.specs.Fill.{putAll};
+ghost use Rattle.rows.specs.Offering.{offerAll};
+ghost use Rattle.rows.specs.Fill.{put};
 ghost use Rattle.listing.specs.Asked.{requestOf};
 ghost use Rattle.listing.specs.Search.{foundAt};
 ghost use Rattle.search.specs.Here.{opensAt, Underway};
@@ -39,7 +40,7 @@ pub fn open(
     requires { ⌜ Underway (now image) (now index) (headerOf h) place trail ⌝ }
     requires { ⌜ opensAt place ≡ true ⌝ }
     requires { ⌜ (capacity ≡ rowCount (now out)) × (found ≤ capacity) ⌝ }
-    ensures { λ r. ⌜ (now (out .exit), r) ≡ putAll (rowCount (now (out .entry))) (now (out .entry), found) (foundAt (now (image .entry)) (queryOf (requestOf d (now (asked .entry)))) place trail) ⌝ }
+    ensures { λ r. ⌜ (now (out .exit), r) ≡ offerAll (put capacity) (now (out .entry), found) (foundAt (now (image .entry)) (queryOf (requestOf d (now (asked .entry)))) place trail) ⌝ }
 {
     if trail.entries >= 16 {
         return found;
@@ -93,7 +94,7 @@ pub fn pair(
 ) -> usize
     requires { ⌜ Underway (now image) (now index) (headerOf h) place trail ⌝ }
     requires { ⌜ (capacity ≡ rowCount (now out)) × (found ≤ capacity) ⌝ }
-    ensures { λ r. ⌜ (now (out .exit), r) ≡ putAll (rowCount (now (out .entry))) (now (out .entry), found) (foundAt (now (image .entry)) (queryOf (requestOf d (now (asked .entry)))) place trail) ⌝ }
+    ensures { λ r. ⌜ (now (out .exit), r) ≡ offerAll (put capacity) (now (out .entry), found) (foundAt (now (image .entry)) (queryOf (requestOf d (now (asked .entry)))) place trail) ⌝ }
 {
     if crate::here::opens_at(place) {
         return open(
@@ -144,7 +145,7 @@ pub fn search(
 ) -> usize
     requires { ⌜ Accepted (now image) (headerOf h) ⌝ }
     requires { ⌜ now index ≡ indexOf (now image) ⌝ }
-    ensures { λ r. ⌜ (now (out .exit), r) ≡ putAll (rowCount (now (out .entry))) (now (out .entry), 0) (allReadings (now (image .entry)) (requestOf d (now (asked .entry)))) ⌝ }
+    ensures { λ r. ⌜ (now (out .exit), r) ≡ offerAll (put (rowCount (now (out .entry)))) (now (out .entry), 0) (allReadings (now (image .entry)) (requestOf d (now (asked .entry)))) ⌝ }
 {
     let capacity = out.len() / 116;
     let begun = rules::states::begin_all(image, index, h);

@@ -6,7 +6,8 @@ use mathlib.Core.Bool.{Bool, true, false}
 use mathlib.Core.Path.{_≡_, refl, sym, ap, _∙_, subst}
 use Rattle.model.specs.Rows.{rowCount}
 use Rattle.rules.specs.Live.{BegunOf}
-use Rattle.rows.specs.Fill.{putAll}
+use Rattle.rows.specs.Offering.{offerAll}
+use Rattle.rows.specs.Fill.{put}
 use Rattle.listing.specs.Asked.{requestOf}
 use Rattle.search.specs.Here.{opensAt}
 use Rattle.search.proofs.Starting.{start-underway, start-found, dead-found}
@@ -33,11 +34,11 @@ begin-all-requires : tie.Need-begin-all-requires
 begin-all-requires c κs = search needs
 
 returns : tie.Need-returns
-unfolding putAll
+unfolding offerAll
 returns c =
     let d = c .before in
     let a = start d .args in
-    sym (ap (putAll (rowCount (a .out .now)) (a .out .now, 0)) (dead-found (a .image .now) (requestOf (a .d) (a .asked .now)) (d .begin-all .result .states) (front d false (not-true (d .begin-all .result .alive) (c .if1 .taken)))))
+    sym (ap (offerAll (put (rowCount (a .out .now))) (a .out .now, 0)) (dead-found (a .image .now) (requestOf (a .d) (a .asked .now)) (d .begin-all .result .states) (front d false (not-true (d .begin-all .result .alive) (c .if1 .taken)))))
 
 no-trail-requires : tie.Need-no-trail-requires
 no-trail-requires c κs = search needs
@@ -58,7 +59,7 @@ returns-2 c =
     let s = start (beginning t) in
     let a = s .args in
     c .before .before .«open» .ensures
-    ∙ ap (putAll (rowCount (a .out .now)) (a .out .now, 0)) (start-found (s .pre .0) (s .pre .1) (begun t) (t .no-trail .ensures) (requestOf (a .d) (a .asked .now)))
+    ∙ ap (offerAll (put (rowCount (a .out .now))) (a .out .now, 0)) (start-found (s .pre .0) (s .pre .1) (begun t) (t .no-trail .ensures) (requestOf (a .d) (a .asked .now)))
 
 pub search-spec : {M : Type 1} → statement M
 search-spec = tie.close (tie.spec begin-all-requires returns no-trail-requires open-requires same-length returns-2)

@@ -1,14 +1,15 @@
--- The needs of `open`. At its loop's head an `Opening` is known; each turn puts what one entry finds, or passes over an entry that finds nothing.
+-- The needs of `open`. At its loop's head an `Opening` is known; each turn offers what one entry finds, or passes over an entry that finds nothing.
 use Prim.Native.Nat.{ℕ, _<_, _+_, _-_}
 use native.Mathlib.Omega.{arith}
 use borrow.Author.Needs.{needs}
 use mathlib.Core.Logic.{⊎-elim}
-use mathlib.Core.Path.{sym, _∙_}
+use mathlib.Core.Path.{refl, sym, _∙_}
 use Rattle.model.specs.Query.{Query, queryOf}
 use Rattle.image.specs.Header.{headerOf}
-use Rattle.rows.proofs.Fill.{putAll-none}
+use Rattle.rows.proofs.Offering.{offer-none}
+use Rattle.rows.proofs.Fill.{put-keeps}
 use Rattle.listing.specs.Asked.{requestOf}
-use Rattle.search.proofs.Turns.{turns-none, turns-more, turns-skip, turns-stop, turns-all, turns-is, turns-rows}
+use Rattle.search.proofs.Turns.{turns-none, turns-more, turns-skip, turns-stop, turns-all, turns-is}
 use Rattle.search.proofs.Heads.{Opening, onward-in, open-last, range-end, entry-few, open-found, open-underway, open-less, open-turn}
 use Rattle.search.proofs.FirstLetters.{Known, known-none, known-more}
 use Rattle.search.proofs.+open+pair.Lts-open as lts
@@ -52,7 +53,7 @@ module _ (t : ℕ) where
 
   -- before the loop
   pub returns : OfOpen t lts.Need-returns
-  returns c = let s = c .before .before .before .before .before .before in rw (open-last (s .pre .1 .0) (query s) (s .pre .1 .1 .0) (c .if1 .taken)) (sym (putAll-none _ _))
+  returns c = let s = c .before .before .before .before .before .before in rw (open-last (s .pre .1 .0) (query s) (s .pre .1 .1 .0) (c .if1 .taken)) (sym (offer-none _ _))
 
   pub open-range-requires : OfOpen t lts.Need-open-range-requires
   open-range-requires c κs =
@@ -64,7 +65,7 @@ module _ (t : ℕ) where
   sub-count c = c .before .open-range .ensures .in-order
 
   pub loop-holds : OfOpen t lts.Need-loop-holds
-  loop-holds c = (search needs, (turns-none, known-none))
+  loop-holds c = (search needs, (refl, (turns-none, known-none)))
 
   pub same-length : OfOpen t lts.Need-same-length
   same-length c = search needs
@@ -74,7 +75,7 @@ module _ (t : ℕ) where
   returns-2 c =
       let w = c .before .before .before in
       let loop = c .before .before .loop in
-      rw (open-found (opening w)) (turns-stop (high w - low w) (loop .inv .1 .0) (loop .inv .0) (omega (arith, c .if2 .taken, start w .pre .1 .1 .1 .0)))
+      rw (open-found (opening w)) (turns-stop (put-keeps (start w .args .capacity)) (high w - low w) (loop .inv .1 .1 .0) (loop .inv .0) (c .if2 .taken))
 
   -- the entry of a turn
   pub add-e : OfOpen t lts.Need-add-e
@@ -112,8 +113,8 @@ module _ (t : ℕ) where
       let loop = turn first .before .before .loop in
       let letter = first .before .first-letter in
       ⊎-elim
-      (λ v. rw (v .2) (known-more (loop .inv .1 .1) (low w + loop .k) (letter .result .0) (v .1 .result) (letter-few first) (letter .ensures .0) (v .1 .ensures)))
-      (λ v. rw (v .1) (loop .inv .1 .1))
+      (λ v. rw (v .2) (known-more (loop .inv .1 .1 .1) (low w + loop .k) (letter .result .0) (v .1 .result) (letter-few first) (letter .ensures .0) (v .1 .ensures)))
+      (λ v. rw (v .1) (loop .inv .1 .1 .1))
       (c .if3 .came)
 
   pub array-read-if4 : OfOpen t lts.Need-array-read-if4
@@ -142,7 +143,7 @@ module _ (t : ℕ) where
       let loop = here .before .before .loop in
       let longer = c .before .with-entry in
       let less = open-less (opening w) (loop .k) (longer .ensures) in
-      (omega (arith, s .pre .0, less), (open-underway (opening w) (loop .k) (longer .ensures) (c .before .before .enter .ensures .1), (s .pre .1 .1 .1 .0 ∙ turns-rows (loop .inv .1 .0), here .if2 .left)))
+      (omega (arith, s .pre .0, less), (open-underway (opening w) (loop .k) (longer .ensures) (c .before .before .enter .ensures .1), (rw (loop .inv .1 .0) (s .pre .1 .1 .1 .0), here .if2 .left)))
 
   pub add-k : OfOpen t lts.Need-add-k
   add-k c = search needs
@@ -150,7 +151,7 @@ module _ (t : ℕ) where
   pub loop-less : OfOpen t lts.Need-loop-less
   loop-less c = search needs
 
-  -- after a turn: the entry that opened put what it finds, or the one passed over finds nothing
+  -- after a turn: the entry that opened has offered what it finds, or the one passed over finds nothing
   pub loop-again : OfOpen t lts.Need-loop-again
   loop-again c =
       let joined = c .before in
@@ -160,15 +161,17 @@ module _ (t : ℕ) where
       let letter = joined .before .before .first-letter in (
         omega (arith, here .before .loop-test .taken),
         (
-          ⊎-elim
-              (λ v.
-              let next = v .1 in
-              let longer = v .2 in
-              let call = v .4 in
-              turns-is (turns-more _ (loop .inv .1 .0) (call .kept .1 .1 .1 .1 .1 .1 .1 .0) (call .ensures) (open-turn (opening w) (loop .k) (longer .ensures) (next .result) (next .ensures .0))) (v .7) (v .8))
-              (λ v. turns-is (turns-skip (loop .inv .1 .0) (looked joined .barren (letter .result .0) (v .0 .left) (low w) (loop .k) (sym (letter .ensures .0)))) (v .1) (v .2))
-              (c .if4 .came),
-          looked joined,
+          ⊎-elim (λ v. rw (v .7) (v .4 .kept .1 .1 .1 .1 .1 .1 .1 .0 ∙ loop .inv .1 .0)) (λ v. rw (v .1) (loop .inv .1 .0)) (c .if4 .came),
+          (
+            ⊎-elim
+                (λ v.
+                let next = v .1 in
+                let longer = v .2 in
+                turns-is (turns-more _ (loop .inv .1 .1 .0) (v .4 .ensures) (open-turn (opening w) (loop .k) (longer .ensures) (next .result) (next .ensures .0))) (v .7) (v .8))
+                (λ v. turns-is (turns-skip (loop .inv .1 .1 .0) (looked joined .barren (letter .result .0) (v .0 .left) (low w) (loop .k) (sym (letter .ensures .0)))) (v .1) (v .2))
+                (c .if4 .came),
+            looked joined,
+          ),
         ),
       )
 
@@ -179,4 +182,4 @@ module _ (t : ℕ) where
   returns-3 c =
       let w = c .before .before in
       let loop = c .before .loop in
-      rw (open-found (opening w)) (turns-all (high w - low w) (loop .inv .1 .0) (omega (arith, c .loop-test .left, loop .inv .0)))
+      rw (open-found (opening w)) (turns-all (high w - low w) (loop .inv .1 .1 .0) (omega (arith, c .loop-test .left, loop .inv .0)))

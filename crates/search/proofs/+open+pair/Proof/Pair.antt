@@ -1,25 +1,28 @@
--- The needs of `pair`. At its loop's head a `Pairing` is known; each turn tries a candidate of the next letter, and puts what it finds where it is taken.
-use Prim.Native.Nat.{ℕ, _<_, _/_}
+-- The needs of `pair`. At its loop's head a `Pairing` is known; each turn tries a candidate of the next letter, and offers what it finds where it is taken.
+use Prim.Native.Nat.{ℕ, _<_}
 use native.Mathlib.Omega.{arith}
 use borrow.Author.Needs.{needs}
 use mathlib.Core.Bool.{false}
 use mathlib.Core.Logic.{⊎-elim}
-use mathlib.Core.Path.{_≡_, sym, ap, _∙_}
+use mathlib.Core.Path.{_≡_, refl, sym, ap, _∙_}
 use lib.ListN.{length}
 use Rattle.model.specs.Query.{Query, queryOf}
 use Rattle.image.specs.Header.{headerOf}
 use Rattle.image.specs.Index.{candidates}
+use Rattle.rows.specs.Fill.{put}
+use Rattle.rows.proofs.Offering.{offer-by}
+use Rattle.rows.proofs.Fill.{put-keeps}
 use Rattle.listing.specs.Asked.{requestOf}
 use Rattle.listing.specs.Places.{restOf}
 use Rattle.search.specs.Here.{opensAt}
 use Rattle.search.proofs.Candidates.{Candidate, candidate-spells}
-use Rattle.search.proofs.Turns.{turns-none, turns-more, turns-skip, turns-stop, turns-all, turns-is, turns-rows}
-use Rattle.search.proofs.Heads.{Pairing, letter-in, pair-last, pair-put, pair-none, pair-underway, pair-less, pair-turn}
+use Rattle.search.proofs.Turns.{turns-none, turns-more, turns-skip, turns-stop, turns-all, turns-is}
+use Rattle.search.proofs.Heads.{Pairing, letter-in, pair-last, pair-offered, pair-none, pair-underway, pair-less, pair-turn}
 use Rattle.search.proofs.+open+pair.Lts-pair as lts
 use Rattle.search.proofs.+open+pair.Proof.Shared.{OfPair}
 
 module _ (t : ℕ) where
-  -- the places that the needs speak of: where the reading that ends has been put, where the candidates are counted, a turn with rows to spare, its candidate, and whether it may be taken
+  -- the places that the needs speak of: where the reading that ends has been offered, where the candidates are counted, a turn with rows to spare, its candidate, and whether it may be taken
   abbrev Ended : Type 0
   Ended = OfPair t lts.After-struct-known
 
@@ -93,7 +96,7 @@ module _ (t : ℕ) where
   returns-2 c =
       let w = c .before in
       let s = first w in
-      rw (pair-last (s .pre .1 .0) (query s) (shut w) (c .if2 .taken)) (w .before .before .before .put-ended .ensures)
+      rw (pair-last (s .pre .1 .0) (query s) (shut w) (c .if2 .taken)) (w .before .before .before .put-ended .ensures ∙ offer-by (ap put (sym (s .pre .1 .1 .0))) _ _)
 
   pub next-letter-requires : OfPair t lts.Need-next-letter-requires
   next-letter-requires c κs = first (c .before) .pre .1 .0 .stands
@@ -102,7 +105,7 @@ module _ (t : ℕ) where
   candidate-count-requires c κs = let underway = first (c .before .before) .pre .1 .0 in (underway .accepted, (underway .indexed, letter-in underway (c .next-letter .ensures .1)))
 
   pub loop-holds : OfPair t lts.Need-loop-holds
-  loop-holds c = (search needs, turns-none)
+  loop-holds c = (search needs, (refl, turns-none))
 
   pub same-length-3 : OfPair t lts.Need-same-length-3
   same-length-3 c = search needs
@@ -114,8 +117,8 @@ module _ (t : ℕ) where
       let s = start w in
       let loop = c .before .before .loop in
       let ended = w .before .before .before .before .before .before .put-ended in
-      pair-put (pairing w) (query s) (s .args .out .now) (s .args .found) (ended .kept .1 .1 .1 .1 .1 .1 .1 .0) (ended .ensures)
-      (turns-stop (length (candidates (s .args .image .now) (letter w))) (loop .inv .1) (omega (arith, loop .inv .0, w .candidate-count .ensures)) (omega (arith, c .if3 .taken, s .pre .1 .1 .0, ended .kept .1 .1 .1 .1 .1 .1 .1 .0)))
+      pair-offered (pairing w) (query s) (put (s .args .capacity)) (s .args .out .now, s .args .found) (ended .ensures ∙ offer-by (ap put (sym (s .pre .1 .1 .0))) _ _)
+      (turns-stop (put-keeps (s .args .capacity)) (length (candidates (s .args .image .now) (letter w))) (loop .inv .1 .1) (omega (arith, loop .inv .0, w .candidate-count .ensures)) (c .if3 .taken))
 
   -- the candidate of a turn
   inside : (c : Turn) → c .before .before .loop .k < length (candidates (start (head c) .args .image .now) (letter (head c)))
@@ -153,7 +156,7 @@ module _ (t : ℕ) where
       let may = c .before .before .before .if4 .taken in
       let longer = c .before .with-pair in
       let ended = w .before .before .before .before .before .before .put-ended in
-      (omega (arith, s .pre .0, pair-less o (chosen (tried .before)) (tried .take .ensures) may (longer .ensures)), (pair-underway o (chosen (tried .before)) (tried .take .ensures) may (longer .ensures), (s .pre .1 .1 .0 ∙ ap (λ (n : ℕ). n / 116) (sym (ended .kept .1 .1 .1 .1 .1 .1 .1 .0)) ∙ turns-rows (here .before .before .loop .inv .1), here .if3 .left)))
+      (omega (arith, s .pre .0, pair-less o (chosen (tried .before)) (tried .take .ensures) may (longer .ensures)), (pair-underway o (chosen (tried .before)) (tried .take .ensures) may (longer .ensures), (rw (here .before .before .loop .inv .1 .0, ended .kept .1 .1 .1 .1 .1 .1 .1 .0) (s .pre .1 .1 .0), here .if3 .left)))
 
   pub add-k : OfPair t lts.Need-add-k
   add-k c = search needs
@@ -161,7 +164,7 @@ module _ (t : ℕ) where
   pub loop-less : OfPair t lts.Need-loop-less
   loop-less c = search needs
 
-  -- after a turn: the candidate that was taken put what it finds, or finds nothing
+  -- after a turn: the candidate that was taken has offered what it finds, or finds nothing
   pub loop-again : OfPair t lts.Need-loop-again
   loop-again c =
       let tried = c .before in
@@ -169,13 +172,13 @@ module _ (t : ℕ) where
       let o = pairing (head here) in
       let loop = here .before .before .loop in (
         omega (arith, here .before .loop-test .taken),
-        ⊎-elim
-            (λ v.
-            let longer = v .2 in
-            let call = v .4 in
-            turns-is (turns-more _ (loop .inv .1) (call .kept .1 .1 .1 .1 .1 .1 .1 .0) (call .ensures) (pair-turn o (chosen (tried .before)) (tried .take .ensures) (v .0 .taken) (longer .ensures))) (v .7) (v .8))
-            (λ v. turns-is (turns-skip (loop .inv .1) (pair-none o (chosen (tried .before)) (tried .take .ensures) (v .0 .left))) (v .1) (v .2))
-            (c .if4 .came),
+        (
+          ⊎-elim (λ v. rw (v .7) (v .4 .kept .1 .1 .1 .1 .1 .1 .1 .0 ∙ loop .inv .1 .0)) (λ v. rw (v .1) (loop .inv .1 .0)) (c .if4 .came),
+          ⊎-elim
+              (λ v. turns-is (turns-more _ (loop .inv .1 .1) (v .4 .ensures) (pair-turn o (chosen (tried .before)) (tried .take .ensures) (v .0 .taken) (v .2 .ensures))) (v .7) (v .8))
+              (λ v. turns-is (turns-skip (loop .inv .1 .1) (pair-none o (chosen (tried .before)) (tried .take .ensures) (v .0 .left))) (v .1) (v .2))
+              (c .if4 .came),
+        ),
       )
 
   pub same-length-4 : OfPair t lts.Need-same-length-4
@@ -187,5 +190,5 @@ module _ (t : ℕ) where
       let s = start w in
       let loop = c .before .loop in
       let ended = w .before .before .before .before .before .before .put-ended in
-      pair-put (pairing w) (query s) (s .args .out .now) (s .args .found) (ended .kept .1 .1 .1 .1 .1 .1 .1 .0) (ended .ensures)
-      (turns-all (length (candidates (s .args .image .now) (letter w))) (loop .inv .1) (omega (arith, c .loop-test .left, loop .inv .0, w .candidate-count .ensures)))
+      pair-offered (pairing w) (query s) (put (s .args .capacity)) (s .args .out .now, s .args .found) (ended .ensures ∙ offer-by (ap put (sym (s .pre .1 .1 .0))) _ _)
+      (turns-all (length (candidates (s .args .image .now) (letter w))) (loop .inv .1 .1) (omega (arith, c .loop-test .left, loop .inv .0, w .candidate-count .ensures)))

@@ -1,8 +1,11 @@
 -- What the two members of the cycle share: the measures, what each is given at the measure t and what a call of it asks below t, the invariants.
 use Prim.Native.Nat.{ℕ, _<_, _≤_, _+_, _*_, _-_}
+use mathlib.Core.Path.{_≡_}
+use lib.ListN.{length}
 use borrow.Fn.Kinds.{In, Out}
 use borrow.Fn.PlainCycle.{Measures, is, falls, and}
 use Rattle.model.specs.Query.{queryOf}
+use Rattle.rows.specs.Fill.{put}
 use Rattle.listing.specs.Asked.{requestOf}
 use Rattle.listing.proofs.Searching.{openOne}
 use Rattle.listing.proofs.opening.open_range.Reads as open-range-reads
@@ -10,7 +13,7 @@ use Rattle.listing.proofs.pairing.take.Reads as take-reads
 use Rattle.listing.proofs.place.enter.Reads as enter-reads
 use Rattle.rows.proofs.with_entry.Reads as with-entry-reads
 use Rattle.rows.proofs.with_pair.Reads as with-pair-reads
-use Rattle.search.proofs.Turns.{TurnsPut}
+use Rattle.search.proofs.Turns.{Turns}
 use Rattle.search.proofs.Heads.{stepsAfter, candidateOne}
 use Rattle.search.proofs.FirstLetters.{Known}
 use Rattle.search.proofs.open.Reads as «open»
@@ -85,14 +88,14 @@ pair-claims t = (
 
 abbrev pub open-Inv-loop : open-lts.InvT-loop
 open-Inv-loop image index h d asked place trail out₀ capacity found low count known₀ n₀ k₀ out known n k =
-    (k ≤ count) × (TurnsPut (openOne image (queryOf (requestOf d asked)) place trail low) out₀ found out n k × Known image (queryOf (requestOf d asked)) place trail known)
+    (k ≤ count) × ((length out ≡ length out₀) × (Turns (put capacity) (openOne image (queryOf (requestOf d asked)) place trail low) (out₀, found) (out, n) k × Known image (queryOf (requestOf d asked)) place trail known))
 
 abbrev pub open-μ-loop : open-lts.MeasureT-loop
 open-μ-loop image index h d asked place trail out₀ capacity found low count known₀ n₀ k₀ out known n k = count - k
 
 abbrev pub pair-Inv-loop : pair-lts.InvT-loop
 pair-Inv-loop image index h d asked place trail out₀ capacity found ended letter many n₀ k₀ out n k =
-    (k ≤ many) × TurnsPut (candidateOne image (queryOf (requestOf d asked)) place trail (letter .0)) out₀ ended out n k
+    (k ≤ many) × ((length out ≡ length out₀) × Turns (put capacity) (candidateOne image (queryOf (requestOf d asked)) place trail (letter .0)) (out₀, ended) (out, n) k)
 
 abbrev pub pair-μ-loop : pair-lts.MeasureT-loop
 pair-μ-loop image index h d asked place trail out₀ capacity found ended letter many n₀ k₀ out n k = many - k

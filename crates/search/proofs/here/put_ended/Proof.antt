@@ -1,10 +1,10 @@
--- `put_ended` meets its contract: nothing ends while letters are left, and what ends is put.
+-- `put_ended` meets its contract: nothing ends while letters are left, and what ends is offered.
 use borrow.Author.Needs.{needs}
 use borrow.Author.Tests.{not-true, not-false}
 use native.Mathlib.Omega.{arith}
 use mathlib.Core.Path.{_∙_, sym}
 use Rattle.model.specs.Query.{queryOf}
-use Rattle.rows.proofs.Fill.{putAll-none, putAll-one}
+use Rattle.rows.proofs.Offering.{offer-none, offer-one}
 use Rattle.listing.specs.Asked.{requestOf}
 use Rattle.search.proofs.Standing.{not-ended, ended-onward}
 use Rattle.search.proofs.here.put_ended.Statement.{statement}
@@ -14,7 +14,7 @@ returns : tie.Need-returns
 returns c =
     let start = c .before .before .before .before .before .before in
     let a = start .args in
-    rw (not-ended (a .image .now) (a .place) (start .pre .0 .stands) (queryOf (requestOf (a .d) (a .asked .now))) (a .trail .entries) (a .trail .pairs) (c .if1 .taken)) (sym (putAll-none _ _))
+    rw (not-ended (a .image .now) (a .place) (start .pre .0 .stands) (queryOf (requestOf (a .d) (a .asked .now))) (a .trail .entries) (a .trail .pairs) (c .if1 .taken)) (sym (offer-none _ _))
 
 ends-requires : tie.Need-ends-requires
 ends-requires c κs =
@@ -25,10 +25,10 @@ ends-requires c κs =
 returns-2 : tie.Need-returns-2
 returns-2 c =
     let a = c .before .before .before .before .before .before .before .before .args in
-    rw (sym (c .before .ends .ensures (a .trail .pairs)) ∙ not-true (c .before .ends .result) (c .if2 .taken)) (sym (putAll-none _ _))
+    rw (sym (c .before .ends .ensures (a .trail .pairs)) ∙ not-true (c .before .ends .result) (c .if2 .taken)) (sym (offer-none _ _))
 
-emit-requires : tie.Need-emit-requires
-emit-requires c κs = search needs
+offer-requires : tie.Need-offer-requires
+offer-requires c κs = search needs
 
 same-length : tie.Need-same-length
 same-length c = search needs
@@ -37,7 +37,7 @@ returns-3 : tie.Need-returns-3
 returns-3 c =
     let ended = c .before .before .before .before .before in
     let a = ended .before .before .before .before .before .before .before .args in
-    c .before .before .emit .ensures ∙ rw (sym (ended .ends .ensures (a .trail .pairs)) ∙ not-false (ended .ends .result) (c .before .before .before .before .if2 .left)) (sym (putAll-one _ _ _))
+    c .before .before .offer .ensures ∙ rw (sym (ended .ends .ensures (a .trail .pairs)) ∙ not-false (ended .ends .result) (c .before .before .before .before .if2 .left)) (sym (offer-one _ _ _))
 
 pub put-ended-spec : {M : Type 1} → statement M
-put-ended-spec = tie.close (tie.spec returns ends-requires returns-2 emit-requires same-length returns-3)
+put-ended-spec = tie.close (tie.spec returns ends-requires returns-2 offer-requires same-length returns-3)

@@ -1,4 +1,4 @@
--- `emit` meets its contract: the part of the buffer that is lent has the row, and the rest is as it was.
+-- `offer` meets its contract: the part of the buffer that is lent has the row, and the rest is as it was.
 use borrow.Author.Needs.{needs}
 use native.Mathlib.Omega.{arith}
 use mathlib.Core.Path.{_≡_, sym}
@@ -6,8 +6,8 @@ use Prim.Native.Nat.{_+_, _*_, _-_}
 use Rattle.model.specs.Rows.{rowCount}
 use Rattle.rows.specs.Trail.{readingOf}
 use Rattle.rows.proofs.Fill.{put-room, put-full}
-use Rattle.rows.proofs.emit.Statement.{statement}
-use Rattle.rows.proofs.emit.Tie as tie
+use Rattle.rows.proofs.offer.Statement.{statement}
+use Rattle.rows.proofs.offer.Tie as tie
 
 add-next : tie.Need-add-next
 add-next c = search needs
@@ -48,8 +48,8 @@ returns-2 c =
     let start = c .before .before in
     sym (put-full (rowCount (start .args .rows .now)) (start .args .rows .now) (start .args .found) (readingOf (start .args .t)) (omega arith))
 
-pub emit-spec : {M : Type 1} → statement M
-emit-spec =
+pub offer-spec : {M : Type 1} → statement M
+offer-spec =
     tie.close
     (tie.spec
     add-next
