@@ -31,7 +31,7 @@ use Rattle.listing.specs.Gather.{grow, gather, stepsFrom}
 use Rattle.listing.specs.Places.{restOf, nodeOf, Took}
 use Rattle.listing.specs.Search.{nodeAt, headOf}
 use Rattle.listing.proofs.Gather.{branch, gather-last}
-use Rattle.listing.proofs.Searching.{openOne, full-shut, gather-candidates}
+use Rattle.listing.proofs.Searching.{entryOne, full-shut, gather-candidates}
 use Rattle.search.specs.FirstLetters.{startsAt, seenAt}
 use Rattle.search.proofs.Standing.{head-within}
 use Rattle.search.proofs.Candidates.{Candidate}
@@ -91,7 +91,7 @@ module _ {image : List ℕ} {q : Query} {place : Place} {a k p : ℕ} {may : Boo
 -- what is seen where an entry opens
 module _ (image : List ℕ) (q : Query) (place : Place) (e a : ℕ) where
   abbrev Enters : Place → Type 0
-  Enters next = (q : Query) (n m : ℕ) → nodeOf image next (suc n) m ≡ goAt (grammarOf image) q true (nodeOf image place n m) e
+  Enters next = (q : Query) (n m : ℕ) → nodeOf image next (suc n) m ≡ goAt (grammarOf image) q true (nodeOf image place n m) (suc e)
 
   pub entered-head : (next : Place) → Enters next → a ≡ headOf (grammarOf image .form e) → a ≡ headOf (restOf image next)
   unfolding nodeOf goAt
@@ -105,7 +105,7 @@ module _ (image : List ℕ) (q : Query) (place : Place) (e a : ℕ) where
   seen-empty z n m h = rw z refl
 
   module _ (letter : a ≡ 0 → ⊥) (next : Place) (go : Enters next) (b : Bool) (starts : (n m : ℕ) → m < 40 → b ≡ startsAt image q (nodeOf image next n m) a) where
-    starts-is : (n m : ℕ) → m < 40 → startsAt image q (goAt (grammarOf image) q true (nodeOf image place n m) e) a ≡ b
+    starts-is : (n m : ℕ) → m < 40 → startsAt image q (goAt (grammarOf image) q true (nodeOf image place n m) (suc e)) a ≡ b
     starts-is n m h = ap (λ (n : Node). startsAt image q n a) (sym (go q n m)) ∙ sym (starts (suc n) m h)
 
     pub seen-some : b ≡ true → Seen 2
@@ -151,13 +151,13 @@ module _ (image : List ℕ) (q : Query) (n : Node) (a : ℕ) where
 
   module _ (letter : a ≡ 0 → ⊥) where
     -- two entries that begin with one letter start alike
-    may-alike : (e x : ℕ) → headOf (g .form e) ≡ a → headOf (g .form x) ≡ a → (p : ℕ) → mayAt g q false (goAt g q true n x) p ≡ mayAt g q false (goAt g q true n e) p
+    may-alike : (e x : ℕ) → headOf (g .form e) ≡ a → headOf (g .form x) ≡ a → (p : ℕ) → mayAt g q false (goAt g q true n (suc x)) p ≡ mayAt g q false (goAt g q true n (suc e)) p
     unfolding mayAt goAt
     may-alike e x f y p = rw (spells-head (g .form x) (g .form e) (y ∙ sym f) (λ z. letter (sym y ∙ z)) (g .lexical p)) refl
 
-    starts-alike : (e x : ℕ) → headOf (g .form e) ≡ a → headOf (g .form x) ≡ a → startsAt image q (goAt g q true n x) a ≡ startsAt image q (goAt g q true n e) a
+    starts-alike : (e x : ℕ) → headOf (g .form e) ≡ a → headOf (g .form x) ≡ a → startsAt image q (goAt g q true n (suc x)) a ≡ startsAt image q (goAt g q true n (suc e)) a
     unfolding startsAt
-    starts-alike e x f y = any-same (mayAt g q false (goAt g q true n x)) (mayAt g q false (goAt g q true n e)) (candidates image a) (may-alike e x f y)
+    starts-alike e x f y = any-same (mayAt g q false (goAt g q true n (suc x))) (mayAt g q false (goAt g q true n (suc e))) (candidates image a) (may-alike e x f y)
 
     -- where a letter is left and no candidate pair may be taken, nothing is found
     module _ (first : headOf (n .rest) ≡ a) (shut : startsAt image q n a ≡ false) where
@@ -185,7 +185,7 @@ module _ (image : List ℕ) (q : Query) (n : Node) (a : ℕ) where
 
 -- an entry that begins with letter a finds nothing
 abbrev pub Barren : List ℕ → Query → Place → Trail → ℕ → Type 0
-Barren image q place trail a = (low i : ℕ) → headOf (grammarOf image .form (low + i)) ≡ a → openOne image q place trail low i ≡ []
+Barren image q place trail a = (e : ℕ) → headOf (grammarOf image .form e) ≡ a → entryOne image q place trail e ≡ []
 
 -- what is known of the letters: where that is 1, an entry that begins with the letter finds nothing
 pub record Known (image : List ℕ) (q : Query) (place : Place) (trail : Trail) (known : List ℕ) : Type 0 where
@@ -204,6 +204,10 @@ one-out a b e = (λ z. two (subst (λ (x : ℕ). _≡_ {A = ℕ} (cond (isZero x
     last false true e = absurd (two e)
     last false false e = refl
 
+given-none : {B : Type 0} (b : Bool) {l : List B} → l ≡ [] → given b l ≡ []
+given-none true e = e
+given-none false e = refl
+
 none-known : (n a : ℕ) → _≡_ {A = ℕ} (getD (replicate n 0) a 0) 0
 none-known zero a = refl
 none-known (suc n) zero = refl
@@ -212,7 +216,7 @@ none-known (suc n) (suc a) = none-known n a
 module _ (image : List ℕ) (q : Query) (place : Place) (trail : Trail) where
   -- the node where entry e opens
   abbrev opened : ℕ → Node
-  opened e = goAt (grammarOf image) q true (nodeAt image place trail) e
+  opened e = goAt (grammarOf image) q true (nodeAt image place trail) (suc e)
 
   opened-head : (a e : ℕ) → headOf (grammarOf image .form e) ≡ a → headOf (opened e .rest) ≡ a
   unfolding goAt
@@ -225,16 +229,18 @@ module _ (image : List ℕ) (q : Query) (place : Place) (trail : Trail) where
   -- what is seen of a letter at one entry is known for all that begin with it
   seen-barren : (e a r : ℕ) → a ≡ headOf (grammarOf image .form e) → ((n m : ℕ) → m < 40 → r ≡ seenAt image q (nodeOf image place n m) e a) → r ≡ 1 → Barren image q place trail a
   unfolding seenAt
-  seen-barren e a r first seen one low i y = nothing-found image q (opened (low + i)) a letter (opened-head a (low + i) y) (go (decLt (trail .pairs) 40)) (pred (stepsFrom (nodeAt image place trail))) (grow true (readingOf trail) (low + i))
+  seen-barren e a r first seen one x y =
+      let n = nodeAt image place trail in
+      given-none (mayAt (grammarOf image) q true n (suc x)) (nothing-found image q (opened x) a letter (opened-head a x y) (go (decLt (trail .pairs) 40)) (pred (stepsFrom n)) (grow true (readingOf trail) (suc x)))
     where
       letter : a ≡ 0 → ⊥
-      letter = one-out a (startsAt image q (goAt (grammarOf image) q true (nodeOf image place 0 0) e) a) (sym (seen 0 0 (omega arith)) ∙ one) .0
+      letter = one-out a (startsAt image q (goAt (grammarOf image) q true (nodeOf image place 0 0) (suc e)) a) (sym (seen 0 0 (omega arith)) ∙ one) .0
 
-      go : Dec (trail .pairs < 40) → startsAt image q (opened (low + i)) a ≡ false
+      go : Dec (trail .pairs < 40) → startsAt image q (opened x) a ≡ false
       go (yes h) =
-          starts-alike image q (nodeAt image place trail) a letter e (low + i) (sym first) y
+          starts-alike image q (nodeAt image place trail) a letter e x (sym first) y
           ∙ one-out a (startsAt image q (opened e) a) (sym (seen (trail .entries) (trail .pairs) h) ∙ one) .1
-      go (no h) = opened-full a (low + i) (omega arith)
+      go (no h) = opened-full a x (omega arith)
 
 module _ {image : List ℕ} {q : Query} {place : Place} {trail : Trail} where
   pub known-none : Known image q place trail (replicate 128 0)

@@ -3,7 +3,6 @@ use Prim.Native.Nat.{ℕ, suc, _+_, _-_, _<_, _≤_}
 use native.Mathlib.Numerals.{add-one}
 use native.Mathlib.Omega.{arith}
 use mathlib.Core.Bool.{Bool, true, false, not, true≢false}
-use mathlib.Core.Logic.{⊎-elim}
 use mathlib.Core.Path.{_≡_, refl, sym, ap, ap₂, _∙_}
 use mathlib.Core.List.{List, [], _∷_, _++_}
 use lib.ListN.{length, getD}
@@ -13,7 +12,7 @@ use Rattle.model.specs.Blocks.{Header, header}
 use Rattle.model.specs.GrammarOf.{grammarOf}
 use Rattle.model.specs.Readings.{Reading}
 use Rattle.model.specs.Query.{Query}
-use Rattle.model.specs.Tree.{opens, mayAt, goAt, complete}
+use Rattle.model.specs.Tree.{Node, opens, mayAt, goAt, complete}
 use Rattle.image.specs.Index.{candidates}
 use Rattle.rows.specs.declared.Trail.{Trail}
 use Rattle.rows.specs.Trail.{readingOf, withEntry, withPair, Holds}
@@ -21,20 +20,20 @@ use Rattle.rows.specs.Offering.{offerAll}
 use Rattle.rows.proofs.Offering.{offer-append}
 use Rattle.listing.specs.declared.place.Place.{Place}
 use Rattle.listing.specs.Gather.{stepsLeft}
-use Rattle.listing.specs.Places.{restOf, nodeOf, Standing, Took}
-use Rattle.listing.specs.Opening.{Ranged}
+use Rattle.listing.specs.Places.{stopsAfter, restOf, nodeOf, Standing, Took}
+use Rattle.listing.specs.Opening.{mayEnter}
 use Rattle.listing.specs.Search.{nodeAt, headOf, foundAt}
 use Rattle.listing.proofs.Loops.{flatMap-places}
-use Rattle.listing.proofs.Searching.{openOne, pairOne}
-use Rattle.model.proofs.Booleans.{right-false}
+use Rattle.listing.proofs.Searching.{stopOne, entryOne, pairOne}
+use Rattle.model.proofs.Booleans.{and-out, not-out, of-true}
 use Rattle.listing.proofs.Searching as found
 use Rattle.search.specs.Here.{opensAt, Underway}
 use Rattle.search.proofs.Standing.{opens-is}
 use Rattle.search.proofs.Candidates.{Candidate}
 
--- how many steps are left after a trail
-abbrev pub stepsAfter : Trail → ℕ
-stepsAfter t = stepsLeft (t .entries) (t .pairs)
+-- how many steps are left at a place, after a trail
+abbrev pub stepsAfter : Place → Trail → ℕ
+stepsAfter p t = stepsLeft (p .ended) (t .entries) (t .pairs)
 
 -- what candidate k of letter a finds
 abbrev pub candidateOne : List ℕ → Query → Place → Trail → ℕ → ℕ → List Reading
@@ -48,53 +47,74 @@ module _ {image index : List ℕ} {h : Header} {place : Place} {trail : Trail} (
   opens-here : opens (nodeAt image place trail) ≡ opensAt place
   opens-here = opens-is image place (underway .stands) (trail .entries) (trail .pairs)
 
-  -- the lexicon that comes next is there
-  pub onward-in : opensAt place ≡ true → place .onward < h .lexicons
+  goes-on : opensAt place ≡ true → place .ended ≡ false
   unfolding opensAt
-  onward-in o =
-      ⊎-elim
-      (λ l. omega (arith, l, ap (λ (g : Header). g .lexicons) same-header))
-      (λ e. absurd (true≢false (sym o ∙ right-false (leb (place .to) (place .from)) (not (eqb (place .onward) 255)) (rw e refl))))
-      (underway .stands .onward-right)
+  goes-on o = not-out (place .ended) (and-out (leb (place .to) (place .from)) (not (place .ended)) (of-true (opensAt place) o) .1)
 
   pub letter-in : {a : ℕ} → a ≤ header image .letters → a ≤ h .letters
   letter-in m = omega (arith, m, ap (λ (g : Header). g .letters) same-header)
 
-  -- with no entry or no pair to spare
-  pub open-last : (q : Query) → opensAt place ≡ true → 16 ≤ trail .entries → foundAt image q place trail ≡ []
+  -- the path ends here
+  module _ (o : opensAt place ≡ true) {next : Place} (go : (image : List ℕ) (q : Query) (n p : ℕ) → nodeOf image next n p ≡ goAt (grammarOf image) q true (nodeOf image place n p) 0) where
+    pub stop-underway : ((image : List ℕ) → Standing image place → Standing image next) → Underway image index h next trail
+    stop-underway s = record { accepted = underway .accepted; indexed = underway .indexed; stands = s image (underway .stands); short = underway .short }
+
+    stopped : (q : Query) → next .ended ≡ true
+    unfolding nodeOf goAt
+    stopped q = ap (λ (n : Node). n .ended) (go image q 0 0)
+
+    pub stop-less : (q : Query) → stepsAfter place trail ≡ suc (stepsAfter next trail)
+    stop-less q = rw (goes-on o, stopped q) refl
+
+    pub stop-turn : (q : Query) → stopsAfter image (place .last) ≡ true → foundAt image q next trail ≡ stopOne image q place trail
+    stop-turn q t = found.stop-one image q place trail (opens-here ∙ o) t next (go image q (trail .entries) (trail .pairs))
+
+  -- with no entry to spare, only what ends; with no pair to spare, only what is complete
+  pub open-last : (q : Query) → opensAt place ≡ true → 16 ≤ trail .entries → foundAt image q place trail ≡ stopOne image q place trail
   open-last q o = found.open-full image q place trail (opens-here ∙ o)
 
   pub pair-last : (q : Query) → opensAt place ≡ false → 40 ≤ trail .pairs → foundAt image q place trail ≡ given (complete (grammarOf image) q (nodeAt image place trail)) (readingOf trail ∷ [])
   pair-last q o = found.pair-full image q place trail (opens-here ∙ o)
 
--- at the head of the loop that opens the entries from low up to high
-pub record Opening (image index : List ℕ) (h : Header) (q : Query) (place : Place) (trail : Trail) (low high : ℕ) : Type 0 where
+-- at the head of the loop that opens entries
+pub record Opening (image index : List ℕ) (h : Header) (place : Place) (trail : Trail) : Type 0 where
   pub underway : Underway image index h place trail
   pub open-here : opensAt place ≡ true
   pub spare : trail .entries < 16
-  pub ranged : Ranged image q (place .onward) (trail .entries) low high
 
-module _ {image index : List ℕ} {h : Header} {q : Query} {place : Place} {trail : Trail} {low high : ℕ} (o : Opening image index h q place trail low high) where
-  pub range-end : low + (high - low) ≤ h .entries
-  range-end = omega (arith, o .ranged .in-order, o .ranged .in-entries, ap (λ (g : Header). g .entries) (same-header (o .underway)))
+module _ {image index : List ℕ} {h : Header} {place : Place} {trail : Trail} (o : Opening image index h place trail) where
+  pub entry-few : (e : ℕ) → e < h .entries → e < 65536
+  entry-few e j = omega (arith, o .underway .accepted .laid .limits .entries-most)
 
-  pub entry-few : (k : ℕ) → k < high - low → low + k < 65536
-  entry-few k j = omega (arith, range-end, o .underway .accepted .laid .limits .entries-most)
+  entries-are : header image .entries ≡ h .entries
+  entries-are = ap (λ (g : Header). g .entries) (same-header (o .underway))
 
-  pub open-found : foundAt image q place trail ≡ flatMap (openOne image q place trail low) (below (high - low))
-  open-found = found.open-all image q place trail (o .spare) low high (opens-here (o .underway) ∙ o .open-here) (o .ranged)
+  -- what the ending finds is offered first, and then what the entries find
+  pub open-offered : (q : Query) {S : Type 0} (step : S → Reading → S) (s : S) {stopped last : S}
+      → stopped ≡ offerAll step s (stopOne image q place trail)
+      → last ≡ offerAll step stopped (flatMap (entryOne image q place trail) (below (h .entries)))
+      → last ≡ offerAll step s (foundAt image q place trail)
+  open-offered q step s f g = rw (found.open-all image q place trail (opens-here (o .underway) ∙ o .open-here), entries-are, offer-append, ← f) g
 
-  -- entry low + k opens
-  module _ (k : ℕ) {longer : Trail} (holds : Holds longer (withEntry (readingOf trail) (low + k)) (trail .entries + 1) (trail .pairs)) where
-    pub open-underway : {next : Place} → Standing image next → Underway image index h next longer
+  -- an entry that may not open finds nothing
+  pub entry-none : (q : Query) (e : ℕ) → mayEnter image (q .entries) (place .last) (trail .entries) e ≡ false → entryOne image q place trail e ≡ []
+  entry-none q = found.entry-none image q place trail (o .spare)
+
+  -- entry e opens
+  module _ {e : ℕ} {longer : Trail} (holds : Holds longer (withEntry (readingOf trail) e) (trail .entries + 1) (trail .pairs)) {next : Place} (go : (q : Query) (n p : ℕ) → nodeOf image next (suc n) p ≡ goAt (grammarOf image) q true (nodeOf image place n p) (suc e)) where
+    pub open-underway : Standing image next → Underway image index h next longer
     open-underway s = record { accepted = o .underway .accepted; indexed = o .underway .indexed; stands = s; short = holds .short }
 
-    pub open-less : stepsAfter trail ≡ suc (stepsAfter longer)
-    open-less = omega (arith, holds .entries-are, holds .pairs-are, o .spare)
+    opened : (q : Query) → next .ended ≡ false
+    unfolding nodeOf goAt
+    opened q = ap (λ (n : Node). n .ended) (go q 0 0)
 
-    pub open-turn : (next : Place) → ((q : Query) (n p : ℕ) → nodeOf image next (suc n) p ≡ goAt (grammarOf image) q true (nodeOf image place n p) (low + k)) → foundAt image q next longer ≡ openOne image q place trail low k
-    open-turn next go =
-        found.open-one image q place trail (o .spare) low k next longer
+    pub open-less : (q : Query) → stepsAfter place trail ≡ suc (stepsAfter next longer)
+    open-less q = rw (goes-on (o .underway) (o .open-here), opened q) (omega (arith, holds .entries-are, holds .pairs-are, o .spare))
+
+    pub open-turn : (q : Query) → mayEnter image (q .entries) (place .last) (trail .entries) e ≡ true → foundAt image q next longer ≡ entryOne image q place trail e
+    open-turn q may =
+        found.entry-one image q place trail (opens-here (o .underway) ∙ o .open-here) (o .spare) e may next longer
         (ap₂ (nodeOf image next) (holds .entries-are ∙ add-one (trail .entries)) (holds .pairs-are) ∙ go q (trail .entries) (trail .pairs))
         (holds .reading)
 
@@ -133,8 +153,16 @@ module _ {image index : List ℕ} {h : Header} {place : Place} {trail : Trail} {
       pub pair-underway : Underway image index h next longer
       pair-underway = record { accepted = o .underway .accepted; indexed = o .underway .indexed; stands = took .stands t; short = holds .short }
 
-      pub pair-less : stepsAfter trail ≡ suc (stepsAfter longer)
-      pair-less = omega (arith, holds .entries-are, holds .pairs-are, o .spare)
+      same-ended : next .ended ≡ place .ended
+      unfolding nodeOf goAt
+      same-ended = ap (λ (n : Node). n .ended) (took .node-is t 0 0)
+
+      pub pair-less : stepsAfter place trail ≡ suc (stepsAfter next longer)
+      pair-less = rw same-ended (go (place .ended))
+        where
+          go : (ended : Bool) → stepsLeft ended (trail .entries) (trail .pairs) ≡ suc (stepsLeft ended (longer .entries) (longer .pairs))
+          go true = omega (arith, holds .entries-are, holds .pairs-are, o .spare)
+          go false = omega (arith, holds .entries-are, holds .pairs-are, o .spare)
 
       pub pair-turn : foundAt image q next longer ≡ candidateOne image q place trail a k
       pair-turn =

@@ -1,12 +1,12 @@
 -- The place where the search stands, as the model's node: whether an entry opens, the next letter, the reading that ends.
 use Prim.Native.Nat.{ℕ, suc, _<_, _≤_}
 use native.Mathlib.Omega.{arith}
-use native.Mathlib.Decide.{decLt, ℕ-discrete}
-use mathlib.Core.Bool.{true, false, true≢false}
+use native.Mathlib.Decide.{decLt}
+use mathlib.Core.Bool.{Bool, true, false, not, true≢false}
 use mathlib.Core.Path.{_≡_, refl, sym, ap, _∙_}
 use mathlib.Core.List.{List, [], _∷_}
 use lib.Dec.{T}
-use borrow.Author.Tests.{le-leb, lt-leb, ne-eqb}
+use borrow.Author.Tests.{le-leb, lt-leb}
 use Rattle.model.specs.Lists.{every, within, byte}
 use Rattle.model.specs.Blocks.{header}
 use Rattle.model.specs.GrammarOf.{grammarOf}
@@ -28,7 +28,7 @@ module _ (image : List ℕ) (place : Place) (stands : Standing image place) wher
   rest-none : place .to ≤ place .from → restOf image place ≡ []
   rest-none h = part-nil image (place .from) (place .to) (stands .in-image) h
 
-  rest-some : place .from < place .to → restOf image place ≡ byte image (place .from) ∷ restOf image (record { from = suc (place .from); to = place .to; onward = place .onward; nulls = place .nulls; surface = place .surface; states = place .states })
+  rest-some : place .from < place .to → restOf image place ≡ byte image (place .from) ∷ restOf image (record { from = suc (place .from); to = place .to; last = place .last; ended = place .ended; nulls = place .nulls; surface = place .surface; states = place .states })
   rest-some h = part-cons image (place .from) (place .to) (stands .in-image) h
 
   pub opens-is : (n m : ℕ) → opens (nodeOf image place n m) ≡ opensAt place
@@ -54,10 +54,10 @@ module _ (image : List ℕ) (place : Place) (stands : Standing image place) wher
   not-ended q n m h = rw (rest-some h) refl
 
 -- where no letter is left and no entry opens, the path has ended
-pub ended-onward : (place : Place) → opensAt place ≡ false → place .to ≤ place .from → place .onward ≡ 255
+pub ended-here : (place : Place) → opensAt place ≡ false → place .to ≤ place .from → place .ended ≡ true
 unfolding opensAt
-ended-onward place e h = go (ℕ-discrete (place .onward) 255)
+ended-here place e h = go (place .ended) (rw (le-leb (place .to) (place .from) h) at e)
   where
-    go : Dec (place .onward ≡ 255) → place .onward ≡ 255
-    go (yes d) = d
-    go (no d) = absurd (true≢false (sym (rw (le-leb (place .to) (place .from) h, ne-eqb (place .onward) 255 d) refl) ∙ e))
+    go : (ended : Bool) → not ended ≡ false → ended ≡ true
+    go true e = refl
+    go false e = absurd (true≢false e)

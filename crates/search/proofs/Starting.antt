@@ -20,23 +20,23 @@ use Rattle.rows.specs.declared.Trail.{Trail}
 use Rattle.rows.specs.Trail.{Holds}
 use Rattle.listing.specs.declared.place.Place.{Place}
 use Rattle.listing.specs.Gather.{gather, stepsFrom}
-use Rattle.listing.specs.Places.{nodeOf}
+use Rattle.listing.specs.Places.{waysAfter, stopsAfter, nodeOf}
 use Rattle.listing.specs.Search.{nodeAt, foundAt}
 use Rattle.listing.proofs.Gather.{readings-gathered}
 use Rattle.search.specs.Here.{Underway}
 
 -- the root, with these states
 abbrev pub root : List ℕ → Place
-root states = record { from = 0; to = 0; onward = 0; nulls = 0; surface = record { letters = 0; nulls = 0 }; states = states }
+root states = record { from = 0; to = 0; last = 65535; ended = false; nulls = 0; surface = record { letters = 0; nulls = 0 }; states = states }
 
 -- the readings, by whether all rules are alive after the front
 module _ (image : List ℕ) (request : Request) {lives : Bool} {states : List ℕ} (front : BegunOf image lives states) where
-  front-readings : allReadings image request ≡ given lives (gather (grammarOf image) (queryOf request) 56 (start (grammarOf image) (queryOf request)) (record { path = []; pairing = [] }))
+  front-readings : allReadings image request ≡ given lives (gather (grammarOf image) (queryOf request) 57 (start (grammarOf image) (queryOf request)) (record { path = []; pairing = [] }))
   unfolding allReadings start
   front-readings =
       let g = grammarOf image in
       let q = queryOf request in
-      readings-gathered g q ∙ ap (λ (b : Bool). given b (gather g q 56 (start g q) (record { path = []; pairing = [] }))) (sym (front .alive-is))
+      readings-gathered g q ∙ ap (λ (b : Bool). given b (gather g q 57 (start g q) (record { path = []; pairing = [] }))) (sym (front .alive-is))
 
 pub dead-found : (image : List ℕ) (request : Request) (states : List ℕ) → BegunOf image false states → allReadings image request ≡ []
 dead-found image request states front = front-readings image request front
@@ -53,7 +53,7 @@ module _ {image index : List ℕ} {h : Header} {states : List ℕ} {trail : Trai
       in-order = omega arith;
       in-image = omega arith;
       letters-right = tt;
-      onward-right = inl (omega (arith, here .laid .limits .lexicons-least));
+      last-right = inl refl;
       nulls-in = omega arith;
       surface-in = record { letters-in = omega arith; nulls-in = omega arith };
       states-live = front .live refl;
@@ -62,10 +62,11 @@ module _ {image index : List ℕ} {h : Header} {states : List ℕ} {trail : Trai
   }
 
   root-node : (request : Request) → nodeOf image (root states) 0 0 ≡ start (grammarOf image) (queryOf request)
-  unfolding nodeOf start grammarOf
+  unfolding waysAfter stopsAfter nodeOf start grammarOf
   root-node request = λ i. record {
     rest = [];
     ways = inLexicon image 0;
+    stop = false;
     ended = false;
     entries = 0;
     pairs = 0;
@@ -74,7 +75,7 @@ module _ {image index : List ℕ} {h : Header} {states : List ℕ} {trail : Trai
     states = front .states-are refl i;
   }
 
-  root-steps : (request : Request) → stepsFrom (start (grammarOf image) (queryOf request)) ≡ 56
+  root-steps : (request : Request) → stepsFrom (start (grammarOf image) (queryOf request)) ≡ 57
   unfolding stepsFrom start
   root-steps request = refl
 

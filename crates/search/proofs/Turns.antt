@@ -1,5 +1,5 @@
 -- A loop that offers what f 0, f 1, .. find, one after the other, by any step: what holds when k of them are passed.
-use Prim.Native.Nat.{ℕ, zero, suc, _+_, _≤_}
+use Prim.Native.Nat.{ℕ, zero, suc, _+_, _<_, _≤_}
 use native.Mathlib.Nat.{eq-or-lt-of-le}
 use native.Mathlib.Numerals.{add-one}
 use native.Mathlib.Omega.{arith}
@@ -26,6 +26,15 @@ module _ {S : Type 0} {step : S → Reading → S} {f : ℕ → List Reading} {s
   -- one more is passed by going on, where it finds nothing
   pub turns-skip : {s : S} {k : ℕ} → Turns step f s₀ s k → f k ≡ [] → Turns step f s₀ s (k + 1)
   turns-skip {s} {k} p q = record { done = rw (add-one k, flatMap-below f k, offer-append, q, offer-none) (p .done) }
+
+  -- those up to the next that may find something are passed by going on
+  pub turns-far : {s : S} {k : ℕ} (m : ℕ) → Turns step f s₀ s k → k ≤ m → ((i : ℕ) → k ≤ i → i < m → f i ≡ []) → Turns step f s₀ s m
+  turns-far {s} {k} zero p h e = let q : k ≡ 0 = omega arith in rw q at p
+  turns-far {s} {k} (suc m) p h e =
+      ⊎-elim
+      (λ q. rw q at p)
+      (λ l. let t : Turns step f s₀ s m = turns-far m p (omega arith) (λ i a b. e i a (omega arith)) in rw (sym (add-one m)) (turns-skip t (e m (omega arith) (omega arith))))
+      (eq-or-lt-of-le h)
 
   -- once the state is full, all are passed
   pub turns-stop : {Full : S → Type 0} {s : S} {k : ℕ} → Keeps Full step → (m : ℕ) → Turns step f s₀ s k → k ≤ m → Full s → s ≡ offerAll step s₀ (flatMap f (below m))

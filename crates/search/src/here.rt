@@ -26,14 +26,15 @@ use listing::asked::Direction;
 use listing::place::Place;
 use rows::Trail;
 
-// Whether an entry opens here: every letter is paired, and the path goes on.
+// Whether an entry opens here, or the path ends: every letter is paired, and the path has not ended.
 pub fn opens_at(place: Place) -> bool
     ensures { λ r. ⌜ r ≡ opensAt place ⌝ }
 {
     if place.from < place.to {
         return false;
     }
-    place.onward != 255
+    let ended = place.ended;
+    !ended
 }
 
 // Offers the reading that ends here, where one does.
