@@ -11,7 +11,7 @@ use borrow.Author.Tests.{le-leb, lt-leb, lt-ltb, le-ltb, eq-eqb, ne-eqb}
 use Rattle.model.specs.Lists.{number}
 use Rattle.model.specs.Blocks.{Header, header}
 use Rattle.model.specs.Lexicon.{firstEntry, entryCount, inLexicon}
-use Rattle.model.specs.Query.{Query, analysis, generation, queryOf, entryNumbers}
+use Rattle.model.specs.Query.{Pattern, anything, exactly, entryNumbers}
 use Rattle.model.specs.Refusals.{rightEntries}
 use Rattle.model.proofs.Booleans.{left-false, right-false, of-true}
 use Rattle.model.proofs.Lists.{length-map-below, getD-map-below}
@@ -38,10 +38,9 @@ module _ (image : List ℕ) (h : Header) (a : Accepted image h) (x : ℕ) (insid
   within : high ≤ header image .entries
   within = omega (arith, entries.lexicon-within image h (a .laid) (of-true (rightEntries image) (a .entries-right)) x inside, ap (λ (g : Header). g .entries) (a .laid .header-is))
 
-  -- analysis: all of the lexicon
-  pub analysis-range : (word : List ℕ) (n : ℕ) → Ranged image (queryOf (analysis word)) x n low high
-  unfolding queryOf
-  analysis-range word n = record {
+  -- any path: all of the lexicon
+  pub anything-range : (n : ℕ) → Ranged image anything x n low high
+  anything-range n = record {
     in-order = omega arith;
     in-entries = within;
     inside = λ e k l. rw (in-range image x e (omega arith) (omega arith)) refl;
@@ -50,11 +49,11 @@ module _ (image : List ℕ) (h : Header) (a : Accepted image h) (x : ℕ) (insid
   }
 
   module _ (path : List ℕ) (n : ℕ) where
-    abbrev q : Query
-    q = queryOf (generation path)
+    abbrev t : Pattern
+    t = exactly (entryNumbers path)
 
     abbrev asked : ℕ → Bool
-    asked e = q .entries .allows n e
+    asked e = t .allows n e
 
     numbers : length (entryNumbers path) ≡ length path / 2
     unfolding entryNumbers
@@ -66,43 +65,40 @@ module _ (image : List ℕ) (h : Header) (a : Accepted image h) (x : ℕ) (insid
 
     -- past the path's last entry
     not-past : length path / 2 ≤ n → (e : ℕ) → asked e ≡ false
-    unfolding queryOf
     not-past k e = left-false (ltb n (length (entryNumbers path))) (eqb (getD (entryNumbers path) n 0) e) (le-ltb n (length (entryNumbers path)) (omega (arith, numbers)))
 
     asked-other : n < length path / 2 → (e : ℕ) → (number path (2 * n) ≡ e → ⊥) → asked e ≡ false
-    unfolding queryOf
     asked-other k e f = right-false (ltb n (length (entryNumbers path))) (eqb (getD (entryNumbers path) n 0) e) (ne-eqb (getD (entryNumbers path) n 0) e (λ g. f (sym (named k) ∙ g)))
 
     asked-one : n < length path / 2 → (e : ℕ) → number path (2 * n) ≡ e → asked e ≡ true
-    unfolding queryOf
     asked-one k e g = rw (lt-ltb n (length (entryNumbers path)) (omega (arith, numbers)), eq-eqb (getD (entryNumbers path) n 0) e (named k ∙ g)) refl
 
-    none : ((e : ℕ) → (inLexicon image x e && asked e) ≡ false) → Ranged image q x n 0 0
+    none : ((e : ℕ) → (inLexicon image x e && asked e) ≡ false) → Ranged image t x n 0 0
     none f = record { in-order = omega arith; in-entries = omega arith; inside = λ e k l. absurd (omega arith); before = λ e k. f e; past = λ e k. f e }
 
-    pub generation-past : length path / 2 ≤ n → Ranged image q x n 0 0
-    generation-past k = none (λ e. right-false (inLexicon image x e) (asked e) (not-past k e))
+    pub exactly-past : length path / 2 ≤ n → Ranged image t x n 0 0
+    exactly-past k = none (λ e. right-false (inLexicon image x e) (asked e) (not-past k e))
 
     module _ (k : n < length path / 2) (one : ℕ) (e3 : one ≡ number path (2 * n)) where
       other : (e : ℕ) → (e ≡ one → ⊥) → (inLexicon image x e && asked e) ≡ false
       other e f = right-false (inLexicon image x e) (asked e) (asked-other k e (λ g. f (sym g ∙ sym e3)))
 
-      pub generation-below : one < low → Ranged image q x n 0 0
-      generation-below l = none (λ e. go e (ℕ-discrete e one))
+      pub exactly-below : one < low → Ranged image t x n 0 0
+      exactly-below l = none (λ e. go e (ℕ-discrete e one))
         where
           go : (e : ℕ) → Dec (e ≡ one) → (inLexicon image x e && asked e) ≡ false
           go e (yes g) = left-false (inLexicon image x e) (asked e) (below-range image x e (omega arith))
           go e (no f) = other e f
 
-      pub generation-above : high ≤ one → Ranged image q x n 0 0
-      generation-above l = none (λ e. go e (ℕ-discrete e one))
+      pub exactly-above : high ≤ one → Ranged image t x n 0 0
+      exactly-above l = none (λ e. go e (ℕ-discrete e one))
         where
           go : (e : ℕ) → Dec (e ≡ one) → (inLexicon image x e && asked e) ≡ false
           go e (yes g) = left-false (inLexicon image x e) (asked e) (past-range image x e (omega arith))
           go e (no f) = other e f
 
-      pub generation-one : low ≤ one → one < high → Ranged image q x n one (one + 1)
-      generation-one l m = record {
+      pub exactly-one : low ≤ one → one < high → Ranged image t x n one (one + 1)
+      exactly-one l m = record {
         in-order = omega arith;
         in-entries = omega (arith, within);
         inside = λ e i j. rw (in-range image x e (omega arith) (omega arith)) (asked-one k e (sym e3 ∙ omega arith));

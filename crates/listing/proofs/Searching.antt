@@ -105,7 +105,7 @@ module _ (image : List ℕ) (q : Query) (place : Place) (trail : Trail) where
     unfolding mayAt nodeOf
     entry-may x b e = rw (lt-ltb (trail .entries) 16 spare) e
 
-    pub open-all : (low high : ℕ) → opens n ≡ true → Ranged image q (place .onward) (trail .entries) low high → foundAt image q place trail ≡ flatMap (openOne low) (below (high - low))
+    pub open-all : (low high : ℕ) → opens n ≡ true → Ranged image (q .entries) (place .onward) (trail .entries) low high → foundAt image q place trail ≡ flatMap (openOne low) (below (high - low))
     unfolding foundAt
     open-all low high o ranged =
         let k = pred (stepsFrom n) in
@@ -119,7 +119,7 @@ module _ (image : List ℕ) (q : Query) (place : Place) (trail : Trail) where
         ∙ flatMap-same (λ i. branch g q k n r true (low + i)) (openOne low) (below (high - low))
         (λ i m. let b = below-from (high - low) i m in ap (λ (b : Bool). given b (openOne low i)) (entry-may (low + i) true (ranged .inside (low + i) (omega arith) (omega arith))))
       where
-        entries-in : (low high : ℕ) → Ranged image q (place .onward) (trail .entries) low high → low + (high - low) ≡ high → low + (high - low) ≤ g .entries
+        entries-in : (low high : ℕ) → Ranged image (q .entries) (place .onward) (trail .entries) low high → low + (high - low) ≡ high → low + (high - low) ≤ g .entries
         entries-in low high ranged w = entries-within image high (ranged .in-entries) (low + (high - low)) w
 
     -- and by the code's call

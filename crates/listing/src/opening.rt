@@ -1,14 +1,13 @@
-// Which entries may open at a place: those of the next lexicon, and in generation the one that the path names.
+// Which entries may open at a place: those of the next lexicon, and where a path is asked for the one that it names.
 ghost use mathlib.Core.Path.{_≡_};
 ghost use Prim.Native.Nat.{_+_, _*_, _/_, _<_};
 ghost use Rattle.model.specs.Lexicon.{firstEntry, entryCount};
-ghost use Rattle.model.specs.Query.{queryOf};
 ghost use Rattle.image.specs.Header.{headerOf};
 ghost use Rattle.image.specs.Accepted.{Accepted};
 ghost use Rattle.image.specs.Index.{indexOf};
-ghost use Rattle.listing.specs.Asked.{requestOf};
+ghost use Rattle.listing.specs.Asked.{pathPattern};
 ghost use Rattle.listing.specs.Opening.{Ranged};
-use crate::asked::Direction;
+use crate::asked::PathAsked;
 use image::Header;
 
 // Entries from low up to high.
@@ -35,24 +34,24 @@ pub fn open_range(
     image: &[u8],
     index: &[u8],
     h: Header,
-    d: Direction,
-    asked: &[u8],
+    asked: PathAsked,
+    path: &[u8],
     x: usize,
     n: usize,
 ) -> Range
     requires { ⌜ Accepted (now image) (headerOf h) ⌝ }
     requires { ⌜ now index ≡ indexOf (now image) ⌝ }
     requires { ⌜ x < h .lexicons ⌝ }
-    ensures { λ r. ⌜ Ranged (now (image .entry)) (queryOf (requestOf d (now (asked .entry)))) x n (r .low) (r .high) ⌝ }
+    ensures { λ r. ⌜ Ranged (now (image .entry)) (pathPattern asked (now (path .entry))) x n (r .low) (r .high) ⌝ }
 {
     let all = lexicon_range(image, index, h, x);
-    match d {
-        Direction::Analysis => all,
-        Direction::Generation => {
-            if asked.len() / 2 <= n {
+    match asked {
+        PathAsked::Anything => all,
+        PathAsked::Exactly => {
+            if path.len() / 2 <= n {
                 return Range { low: 0, high: 0 };
             }
-            let e = image::number_at(asked, 2 * n);
+            let e = image::number_at(path, 2 * n);
             if e < all.low {
                 return Range { low: 0, high: 0 };
             }

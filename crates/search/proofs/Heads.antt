@@ -72,7 +72,7 @@ pub record Opening (image index : List ℕ) (h : Header) (q : Query) (place : Pl
   pub underway : Underway image index h place trail
   pub open-here : opensAt place ≡ true
   pub spare : trail .entries < 16
-  pub ranged : Ranged image q (place .onward) (trail .entries) low high
+  pub ranged : Ranged image (q .entries) (place .onward) (trail .entries) low high
 
 module _ {image index : List ℕ} {h : Header} {q : Query} {place : Place} {trail : Trail} {low high : ℕ} (o : Opening image index h q place trail low high) where
   pub range-end : low + (high - low) ≤ h .entries
