@@ -8,10 +8,10 @@ ghost use Rattle.model.specs.Calls.{listingReply, afterListing};
 ghost use Rattle.image.specs.Header.{headerOf};
 ghost use Rattle.image.specs.Index.{indexOf};
 ghost use Rattle.rows.specs.Fill.{replyOf};
-ghost use Rattle.listing.specs.Asked.{requestOf};
+ghost use Rattle.analyser.specs.Request.{requestOf};
+use crate::request::Direction;
 use grammar::Verdict;
 use image::Header;
-use listing::asked::Direction;
 use rows::Reply;
 
 pub fn analyse(image: &[u8], index: &[u8], h: Header, word: &[u8], out: &mut [u8]) -> Reply
@@ -54,7 +54,7 @@ pub fn list(
         Verdict::Refused(k) => Reply::Refused(k),
         Verdict::Accepted => {
             let capacity = out.len() / 116;
-            let found = search::search(image, index, h, d, asked, out);
+            let found = crate::request::search_for(image, index, h, d, asked, out);
             rows::reply_for(found, capacity)
         }
     }

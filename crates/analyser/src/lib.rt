@@ -1,6 +1,7 @@
 // Analysis of a word and generation from a path: the image check, the call's own tests, the index, and the search.
 pub mod indexed;
 pub mod own;
+pub mod request;
 
 ghost use mathlib.Core.Path.{_≡_};
 ghost use Rattle.model.specs.Blocks.{header};
@@ -10,10 +11,10 @@ ghost use Rattle.model.specs.Rows.{rowCount};
 ghost use Rattle.model.specs.Calls.{listingReply, afterListing};
 ghost use Rattle.image.specs.Header.{headerOf};
 ghost use Rattle.rows.specs.Fill.{replyOf};
-ghost use Rattle.listing.specs.Asked.{requestOf};
+ghost use Rattle.analyser.specs.Request.{requestOf};
+use crate::request::Direction;
 use grammar::Verdict;
 use image::Header;
-use listing::asked::Direction;
 use rows::Reply;
 
 // All readings of a word, as rows in the lent buffer.

@@ -4,10 +4,10 @@ ghost use Rattle.model.specs.Refusals.{firstFailing, wordTests, pathTests, ownT
 ghost use Rattle.image.specs.Header.{headerOf};
 ghost use Rattle.image.specs.Accepted.{Accepted};
 ghost use Rattle.grammar.specs.Answers.{verdictOf};
-ghost use Rattle.listing.specs.Asked.{requestOf};
+ghost use Rattle.analyser.specs.Request.{requestOf};
+use crate::request::Direction;
 use grammar::Verdict;
 use image::Header;
-use listing::asked::Direction;
 
 // Tests 9 and 10: 1 to 32 letters, each from 2 to L.
 fn word_verdict(image: &[u8], h: Header, word: &[u8]) -> Verdict

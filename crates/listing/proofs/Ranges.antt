@@ -1,17 +1,19 @@
--- The entries that may open at a place, and that nothing is found at the others.
+-- The entries that may open at a place, as a range, and the next of them.
 use Prim.Native.Nat.{ℕ, _+_, _*_, _/_, _<_, _≤_}
 use native.Mathlib.Omega.{arith}
-use native.Mathlib.Decide.{ℕ-discrete}
+use native.Mathlib.Decide.{decLt, ℕ-discrete}
 use mathlib.Core.Bool.{Bool, true, false, _&&_}
 use mathlib.Core.Path.{_≡_, refl, sym, ap, ap₂, _∙_, subst}
+use mathlib.Core.Logic.{_⊎_, inl, inr}
 use mathlib.Core.List.{List}
 use lib.ListN.{length, getD}
 use lib.Dec.{ltb, eqb}
 use borrow.Author.Tests.{le-leb, lt-leb, lt-ltb, le-ltb, eq-eqb, ne-eqb}
 use Rattle.model.specs.Lists.{number}
 use Rattle.model.specs.Blocks.{Header, header}
-use Rattle.model.specs.Lexicon.{firstEntry, entryCount, inLexicon}
-use Rattle.model.specs.Query.{Query, analysis, generation, queryOf, entryNumbers}
+use Rattle.model.specs.Lexicon.{firstEntry, entryCount, inLexicon, entry, continuation}
+use Rattle.model.specs.GrammarOf.{grammarOf}
+use Rattle.model.specs.Query.{Pattern, anything, exactly, entryNumbers}
 use Rattle.model.specs.Refusals.{rightEntries}
 use Rattle.model.proofs.Booleans.{left-false, right-false, of-true}
 use Rattle.model.proofs.Lists.{length-map-below, getD-map-below}
@@ -19,7 +21,8 @@ use Rattle.image.specs.Accepted.{Accepted}
 use Rattle.image.specs.Index.{indexOf}
 use Rattle.index.proofs.Laws.{length-indexOf, lexicon-number}
 use Rattle.lexicon.proofs.Laws as entries
-use Rattle.listing.specs.Opening.{Ranged}
+use Rattle.listing.specs.Places.{root, waysAfter}
+use Rattle.listing.specs.Opening.{mayEnter, mayEnterIn, Ranged, NextOf}
 
 module _ (image : List ℕ) (x : ℕ) where
   in-range : (e : ℕ) → firstEntry image x ≤ e → e < firstEntry image x + entryCount image x → inLexicon image x e ≡ true
@@ -38,23 +41,21 @@ module _ (image : List ℕ) (h : Header) (a : Accepted image h) (x : ℕ) (insid
   within : high ≤ header image .entries
   within = omega (arith, entries.lexicon-within image h (a .laid) (of-true (rightEntries image) (a .entries-right)) x inside, ap (λ (g : Header). g .entries) (a .laid .header-is))
 
-  -- analysis: all of the lexicon
-  pub analysis-range : (word : List ℕ) (n : ℕ) → Ranged image (queryOf (analysis word)) x n low high
-  unfolding queryOf
-  analysis-range word n = record {
-    in-order = omega arith;
-    in-entries = within;
+  -- any path: all of the lexicon
+  pub anything-range : (n : ℕ) → Ranged (mayEnterIn image anything x n) (header image .entries) low high
+  anything-range n = record {
+    in-bound = within;
     inside = λ e k l. rw (in-range image x e (omega arith) (omega arith)) refl;
     before = λ e k. left-false (inLexicon image x e) true (below-range image x e (omega arith));
     past = λ e k. left-false (inLexicon image x e) true (past-range image x e (omega arith));
   }
 
   module _ (path : List ℕ) (n : ℕ) where
-    abbrev q : Query
-    q = queryOf (generation path)
+    abbrev t : Pattern
+    t = exactly (entryNumbers path)
 
     abbrev asked : ℕ → Bool
-    asked e = q .entries .allows n e
+    asked e = t .allows n e
 
     numbers : length (entryNumbers path) ≡ length path / 2
     unfolding entryNumbers
@@ -66,45 +67,41 @@ module _ (image : List ℕ) (h : Header) (a : Accepted image h) (x : ℕ) (insid
 
     -- past the path's last entry
     not-past : length path / 2 ≤ n → (e : ℕ) → asked e ≡ false
-    unfolding queryOf
     not-past k e = left-false (ltb n (length (entryNumbers path))) (eqb (getD (entryNumbers path) n 0) e) (le-ltb n (length (entryNumbers path)) (omega (arith, numbers)))
 
     asked-other : n < length path / 2 → (e : ℕ) → (number path (2 * n) ≡ e → ⊥) → asked e ≡ false
-    unfolding queryOf
     asked-other k e f = right-false (ltb n (length (entryNumbers path))) (eqb (getD (entryNumbers path) n 0) e) (ne-eqb (getD (entryNumbers path) n 0) e (λ g. f (sym (named k) ∙ g)))
 
     asked-one : n < length path / 2 → (e : ℕ) → number path (2 * n) ≡ e → asked e ≡ true
-    unfolding queryOf
     asked-one k e g = rw (lt-ltb n (length (entryNumbers path)) (omega (arith, numbers)), eq-eqb (getD (entryNumbers path) n 0) e (named k ∙ g)) refl
 
-    none : ((e : ℕ) → (inLexicon image x e && asked e) ≡ false) → Ranged image q x n 0 0
-    none f = record { in-order = omega arith; in-entries = omega arith; inside = λ e k l. absurd (omega arith); before = λ e k. f e; past = λ e k. f e }
+    none : ((e : ℕ) → (inLexicon image x e && asked e) ≡ false) → Ranged (mayEnterIn image t x n) (header image .entries) 0 0
+    none f = record { in-bound = omega arith; inside = λ e k l. absurd (omega arith); before = λ e k. f e; past = λ e k. f e }
 
-    pub generation-past : length path / 2 ≤ n → Ranged image q x n 0 0
-    generation-past k = none (λ e. right-false (inLexicon image x e) (asked e) (not-past k e))
+    pub exactly-past : length path / 2 ≤ n → Ranged (mayEnterIn image t x n) (header image .entries) 0 0
+    exactly-past k = none (λ e. right-false (inLexicon image x e) (asked e) (not-past k e))
 
     module _ (k : n < length path / 2) (one : ℕ) (e3 : one ≡ number path (2 * n)) where
       other : (e : ℕ) → (e ≡ one → ⊥) → (inLexicon image x e && asked e) ≡ false
       other e f = right-false (inLexicon image x e) (asked e) (asked-other k e (λ g. f (sym g ∙ sym e3)))
 
-      pub generation-below : one < low → Ranged image q x n 0 0
-      generation-below l = none (λ e. go e (ℕ-discrete e one))
+      pub exactly-below : one < low → Ranged (mayEnterIn image t x n) (header image .entries) 0 0
+      exactly-below l = none (λ e. go e (ℕ-discrete e one))
         where
           go : (e : ℕ) → Dec (e ≡ one) → (inLexicon image x e && asked e) ≡ false
           go e (yes g) = left-false (inLexicon image x e) (asked e) (below-range image x e (omega arith))
           go e (no f) = other e f
 
-      pub generation-above : high ≤ one → Ranged image q x n 0 0
-      generation-above l = none (λ e. go e (ℕ-discrete e one))
+      pub exactly-above : high ≤ one → Ranged (mayEnterIn image t x n) (header image .entries) 0 0
+      exactly-above l = none (λ e. go e (ℕ-discrete e one))
         where
           go : (e : ℕ) → Dec (e ≡ one) → (inLexicon image x e && asked e) ≡ false
           go e (yes g) = left-false (inLexicon image x e) (asked e) (past-range image x e (omega arith))
           go e (no f) = other e f
 
-      pub generation-one : low ≤ one → one < high → Ranged image q x n one (one + 1)
-      generation-one l m = record {
-        in-order = omega arith;
-        in-entries = omega (arith, within);
+      pub exactly-one : low ≤ one → one < high → Ranged (mayEnterIn image t x n) (header image .entries) one (one + 1)
+      exactly-one l m = record {
+        in-bound = omega (arith, within);
         inside = λ e i j. rw (in-range image x e (omega arith) (omega arith)) (asked-one k e (sym e3 ∙ omega arith));
         before = λ e i. other e (λ g. omega arith);
         past = λ e i. other e (λ g. omega arith);
@@ -134,3 +131,45 @@ module _ (image index : List ℕ) (h : Header) (a : Accepted image h) (is : inde
       let k : x + 1 ≤ header image .lexicons = omega (arith, ap (λ (g : Header). g .lexicons) (a .laid .header-is)) in
       let w : 39168 + 2 * x + 2 ≡ 39168 + 2 * (x + 1) = omega arith in
       ap₂ (λ (l : List ℕ) (i : ℕ). number l i) is w ∙ lexicon-number here (x + 1) k (omega (arith, total, entries.first-more image x)) ∙ entries.first-more image x
+
+-- by another test with the same answers
+pub ranged-as : {may other : ℕ → Bool} {bound low high : ℕ} → ((e : ℕ) → other e ≡ may e) → Ranged may bound low high → Ranged other bound low high
+ranged-as same r = record {
+  in-bound = r .in-bound;
+  inside = λ e k l. same e ∙ r .inside e k l;
+  before = λ e k. same e ∙ r .before e k;
+  past = λ e k. same e ∙ r .past e k;
+}
+
+-- the next of a range
+module _ {may : ℕ → Bool} {bound low high : ℕ} (r : Ranged may bound low high) (from : ℕ) where
+  pub next-low : from < low → low < high → NextOf may bound from low
+  next-low a b = record { onward = omega arith; in-bound = omega (arith, r .in-bound); passed = λ k i j. r .before k j; passes = λ i. r .inside low (omega arith) b }
+
+  pub next-here : low ≤ from → from < high → NextOf may bound from from
+  next-here a b = record { onward = omega arith; in-bound = omega (arith, r .in-bound); passed = λ k i j. absurd (omega arith); passes = λ i. r .inside from a b }
+
+  pub next-none : from ≤ bound → high ≤ from ⊎ high ≤ low → NextOf may bound from bound
+  next-none a b = record { onward = a; in-bound = omega arith; passed = λ k i j. go k i (decLt k low) b; passes = λ i. absurd (omega arith) }
+    where
+      go : (k : ℕ) → from ≤ k → Dec (k < low) → high ≤ from ⊎ high ≤ low → may k ≡ false
+      go k i (yes l) b = r .before k l
+      go k i (no l) (inl h) = r .past k (omega arith)
+      go k i (no l) (inr h) = r .past k (omega arith)
+
+-- after an entry, or first: the entries of a lexicon, or none
+module _ (image : List ℕ) (t : Pattern) (last n : ℕ) where
+  pub root-ways : last ≡ root → (e : ℕ) → mayEnter image t last n e ≡ mayEnterIn image t 0 n e
+  unfolding waysAfter grammarOf
+  root-ways h e = rw (eq-eqb last root h) refl
+
+  module _ (some : last ≡ root → ⊥) (x : ℕ) (next : x ≡ continuation (entry image last)) where
+    pub no-ways : x ≡ 255 → Ranged (mayEnter image t last n) (header image .entries) 0 0
+    unfolding waysAfter grammarOf
+    no-ways h =
+        let none : (e : ℕ) → mayEnter image t last n e ≡ false = λ e. rw (ne-eqb last root some, sym next, eq-eqb x 255 h) refl in
+        record { in-bound = omega arith; inside = λ e k l. absurd (omega arith); before = λ e k. none e; past = λ e k. none e }
+
+    pub lexicon-ways : (x ≡ 255 → ⊥) → (e : ℕ) → mayEnter image t last n e ≡ mayEnterIn image t x n e
+    unfolding waysAfter grammarOf
+    lexicon-ways h e = rw (ne-eqb last root some, sym next, ne-eqb x 255 h) refl

@@ -12,7 +12,7 @@ use borrow.Author.Tests.{lt-ltb}
 use Rattle.model.specs.Lists.{every, within}
 use Rattle.model.specs.Blocks.{Header, header, blockTotal}
 use Rattle.model.specs.GrammarOf.{grammarOf}
-use Rattle.model.specs.Query.{Query}
+use Rattle.model.specs.Query.{Pattern, Query}
 use Rattle.model.specs.Tree.{spells, left, lettersAnd, nullsAnd, isNil, mayAt, goAt, complete}
 use Rattle.model.proofs.Booleans.{and-out, true-of}
 use Rattle.image.specs.Laid.{Laid}
@@ -75,8 +75,8 @@ module _ (image : List ℕ) (from to : ℕ) (inside : to ≤ length image) where
 abbrev pub nullsLet : List ℕ → Place → ℕ → Bool
 nullsLet image place p = leb (nullsAnd (place .nulls) (pairAt image p .lexical)) 8
 
-abbrev pub levelLets : List ℕ → Query → Place → ℕ → Bool
-levelLets image q place p = levelMayBy (q .letters) (levelOf (place .surface)) (pairAt image p .surface)
+abbrev pub levelLets : List ℕ → Pattern → Place → ℕ → Bool
+levelLets image t place p = levelMayBy t (levelOf (place .surface)) (pairAt image p .surface)
 
 abbrev pub rulesLet : List ℕ → Place → ℕ → Bool
 rulesLet image place p = aliveOf (grammarOf image) (stepOf (grammarOf image) (place .states) p)
@@ -100,21 +100,21 @@ pub record SpellsOn (image : List ℕ) (place : Place) (p : ℕ) : Type 0 where
   pub spells-on : T (spells (restOf image place) (pairAt image p .lexical))
 
 module _ {image : List ℕ} {place : Place} {p : ℕ} (q : Query) (here : SpellsOn image place p) where
-  pair-tests : (n m : ℕ) → m < 40 → mayAt (grammarOf image) q false (nodeOf image place n m) p ≡ (nullsLet image place p && levelLets image q place p && rulesLet image place p)
+  pair-tests : (n m : ℕ) → m < 40 → mayAt (grammarOf image) q false (nodeOf image place n m) p ≡ (nullsLet image place p && levelLets image (q .letters) place p && rulesLet image place p)
   unfolding mayAt nodeOf grammarOf levelMayBy
   pair-tests n m h = rw (true-of (spells (restOf image place) (pairAt image p .lexical)) (here .spells-on), lt-ltb m 40 h) refl
 
   -- not taken, by the first test that fails
-  refused : (nullsLet image place p && levelLets image q place p && rulesLet image place p) ≡ false → Took image q place p false place
+  refused : (nullsLet image place p && levelLets image (q .letters) place p && rulesLet image place p) ≡ false → Took image q place p false place
   refused e = record { may-is = λ n m h. sym (pair-tests n m h ∙ e); node-is = λ f. absurd (false≢true f); stands = λ f. absurd (false≢true f) }
 
   pub refused-nulls : nullsLet image place p ≡ false → Took image q place p false place
   refused-nulls e = refused (rw e refl)
 
-  pub refused-level : nullsLet image place p ≡ true → levelLets image q place p ≡ false → Took image q place p false place
+  pub refused-level : nullsLet image place p ≡ true → levelLets image (q .letters) place p ≡ false → Took image q place p false place
   refused-level a e = refused (rw (a, e) refl)
 
-  pub refused-rules : nullsLet image place p ≡ true → levelLets image q place p ≡ true → rulesLet image place p ≡ false → Took image q place p false place
+  pub refused-rules : nullsLet image place p ≡ true → levelLets image (q .letters) place p ≡ true → rulesLet image place p ≡ false → Took image q place p false place
   refused-rules a b e = refused (rw (a, b, e) refl)
 
   -- taken
@@ -151,7 +151,7 @@ module _ {image : List ℕ} {place : Place} {p : ℕ} (q : Query) (here : Spells
           states-live = moved .states-live;
         }
 
-    pub took : nullsLet image place p ≡ true → levelLets image q place p ≡ true → rulesLet image place p ≡ true → Took image q place p true after
+    pub took : nullsLet image place p ≡ true → levelLets image (q .letters) place p ≡ true → rulesLet image place p ≡ true → Took image q place p true after
     took a b c = record { may-is = λ n m k. sym (pair-tests n m k ∙ rw (a, b, c) refl); node-is = λ f. after-node; stands = λ f. after-stands }
 
 -- the tests that are left for the end of a reading, where every letter is paired and the path has ended

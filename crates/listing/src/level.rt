@@ -3,11 +3,10 @@ ghost use mathlib.Core.Bool.{true};
 ghost use mathlib.Core.Path.{_≡_};
 ghost use Prim.Native.Nat.{_≤_, _<_};
 ghost use lib.Dec.{leb};
-ghost use Rattle.model.specs.Query.{queryOf};
 ghost use Rattle.model.specs.Tree.{lettersAnd, nullsAnd};
-ghost use Rattle.listing.specs.Asked.{requestOf};
+ghost use Rattle.listing.specs.Asked.{wordPattern};
 ghost use Rattle.listing.specs.Levels.{levelMayBy, levelGoBy, levelOf, Bounded};
-use crate::asked::Direction;
+use crate::asked::WordAsked;
 use letters::Lexical;
 use letters::Surface;
 
@@ -22,9 +21,9 @@ pub struct SurfaceAfter {
     pub level: Level,
 }
 
-pub fn pass(d: Direction, asked: &[u8], level: Level, x: Surface) -> SurfaceAfter
+pub fn pass(asked: WordAsked, word: &[u8], level: Level, x: Surface) -> SurfaceAfter
     requires { ⌜ Bounded level ⌝ }
-    ensures may { λ r. ⌜ r .may ≡ levelMayBy (queryOf (requestOf d (now (asked .entry))) .letters) (levelOf level) (x .0) ⌝ }
+    ensures may { λ r. ⌜ r .may ≡ levelMayBy (wordPattern asked (now (word .entry))) (levelOf level) (x .0) ⌝ }
     ensures go { λ r. ⌜ (r .may ≡ true → (levelOf (r .level) ≡ levelGoBy (levelOf level) (x .0)) × Bounded (r .level)) ⌝ }
 {
     let letters = level.letters;
@@ -39,7 +38,7 @@ pub fn pass(d: Direction, asked: &[u8], level: Level, x: Surface) -> SurfaceAfte
             level: more,
         };
     }
-    if !crate::asked::allows_letter(d, asked, letters, x) {
+    if !crate::asked::allows_letter(asked, word, letters, x) {
         return SurfaceAfter {
             may: false,
             level: level,

@@ -6,14 +6,15 @@ ghost use lib.ListN.{getD};
 ghost use lib.Dec.{T};
 ghost use Rattle.model.specs.RuleTables.{pairs, boundaryPair};
 ghost use Rattle.model.specs.GrammarOf.{grammarOf};
-ghost use Rattle.model.specs.Query.{queryOf};
+ghost use Rattle.model.specs.Query.{Pattern};
 ghost use Rattle.model.specs.Tree.{spells, complete};
 ghost use Rattle.image.specs.Header.{headerOf};
 ghost use Rattle.image.specs.Accepted.{Accepted};
 ghost use Rattle.image.specs.Index.{indexOf};
-ghost use Rattle.listing.specs.Asked.{requestOf};
+ghost use Rattle.listing.specs.Asked.{wordQuery, queryBy};
 ghost use Rattle.listing.specs.Places.{restOf, nodeOf, Standing, Took};
-use crate::asked::Direction;
+use crate::asked::Asked;
+use crate::asked::WordAsked;
 use crate::place::Place;
 use image::Header;
 
@@ -27,8 +28,8 @@ pub fn take(
     image: &[u8],
     index: &[u8],
     h: Header,
-    d: Direction,
-    asked: &[u8],
+    asked: WordAsked,
+    word: &[u8],
     place: Place,
     p: usize,
 ) -> Taken
@@ -37,7 +38,7 @@ pub fn take(
     requires { ⌜ Standing (now image) place ⌝ }
     requires { ⌜ p < h .pairs ⌝ }
     requires { ⌜ T (spells (restOf (now image) place) (getD (pairs (now image)) p boundaryPair .lexical)) ⌝ }
-    ensures { λ r. ⌜ Took (now (image .entry)) (queryOf (requestOf d (now (asked .entry)))) place p (r .may) (r .place) ⌝ }
+    ensures { λ r. ⌜ ((t : Pattern) → Took (now (image .entry)) (wordQuery asked (now (word .entry)) t) place p (r .may) (r .place)) ⌝ }
 {
     let level = place.surface;
     let states = place.states;
@@ -48,7 +49,7 @@ pub fn take(
             place: place,
         };
     }
-    let passed = crate::level::pass(d, asked, level, letters::surface_side(image, p));
+    let passed = crate::level::pass(asked, word, level, letters::surface_side(image, p));
     if !passed.may {
         return Taken {
             may: false,
@@ -83,8 +84,9 @@ pub fn ends(
     image: &[u8],
     index: &[u8],
     h: Header,
-    d: Direction,
-    asked: &[u8],
+    asked: Asked,
+    path: &[u8],
+    word: &[u8],
     place: Place,
     n: usize,
 ) -> bool
@@ -92,9 +94,10 @@ pub fn ends(
     requires { ⌜ now index ≡ indexOf (now image) ⌝ }
     requires { ⌜ Standing (now image) place ⌝ }
     requires { ⌜ (place .from ≡ place .to) × (place .ended ≡ true) ⌝ }
-    ensures { λ r. ⌜ ((m : ℕ) → r ≡ complete (grammarOf (now (image .entry))) (queryOf (requestOf d (now (asked .entry)))) (nodeOf (now (image .entry)) place n m)) ⌝ }
+    ensures { λ r. ⌜ ((m : ℕ) → r ≡ complete (grammarOf (now (image .entry))) (queryBy asked (now (path .entry)) (now (word .entry))) (nodeOf (now (image .entry)) place n m)) ⌝ }
 {
-    if !crate::asked::ends_entries(d, asked, n) {
+    let path_asked = asked.path;
+    if !crate::asked::ends_entries(path_asked, path, n) {
         return false;
     }
     let level = place.surface;
@@ -102,7 +105,8 @@ pub fn ends(
     if letters == 0 {
         return false;
     }
-    if !crate::asked::ends_letters(d, asked, letters) {
+    let word_asked = asked.word;
+    if !crate::asked::ends_letters(word_asked, word, letters) {
         return false;
     }
     let states = place.states;

@@ -10,9 +10,8 @@ use Rattle.model.specs.Blocks.{Header, header}
 use Rattle.model.specs.Lexicon.{inLexicon}
 use Rattle.model.specs.GrammarOf.{grammarOf}
 use Rattle.model.specs.Readings.{Reading}
-use Rattle.model.specs.Query.{Request, queryOf}
-use Rattle.model.specs.Tree.{Node, start}
-use Rattle.model.specs.Calls.{allReadings}
+use Rattle.model.specs.Query.{Query}
+use Rattle.model.specs.Tree.{Node, start, readings}
 use Rattle.image.specs.Accepted.{Accepted}
 use Rattle.image.specs.Index.{indexOf}
 use Rattle.rules.specs.Live.{BegunOf}
@@ -30,16 +29,15 @@ abbrev pub root : List ℕ → Place
 root states = record { from = 0; to = 0; last = 65535; ended = false; nulls = 0; surface = record { letters = 0; nulls = 0 }; states = states }
 
 -- the readings, by whether all rules are alive after the front
-module _ (image : List ℕ) (request : Request) {lives : Bool} {states : List ℕ} (front : BegunOf image lives states) where
-  front-readings : allReadings image request ≡ given lives (gather (grammarOf image) (queryOf request) 57 (start (grammarOf image) (queryOf request)) (record { path = []; pairing = [] }))
-  unfolding allReadings start
+module _ (image : List ℕ) (q : Query) {lives : Bool} {states : List ℕ} (front : BegunOf image lives states) where
+  front-readings : readings (grammarOf image) q ≡ given lives (gather (grammarOf image) q 57 (start (grammarOf image) q) (record { path = []; pairing = [] }))
+  unfolding start
   front-readings =
       let g = grammarOf image in
-      let q = queryOf request in
       readings-gathered g q ∙ ap (λ (b : Bool). given b (gather g q 57 (start g q) (record { path = []; pairing = [] }))) (sym (front .alive-is))
 
-pub dead-found : (image : List ℕ) (request : Request) (states : List ℕ) → BegunOf image false states → allReadings image request ≡ []
-dead-found image request states front = front-readings image request front
+pub dead-found : (image : List ℕ) (q : Query) (states : List ℕ) → BegunOf image false states → readings (grammarOf image) q ≡ []
+dead-found image q states front = front-readings image q front
 
 module _ {image index : List ℕ} {h : Header} {states : List ℕ} {trail : Trail} (ok : Accepted image h) (indexed : index ≡ indexOf image) (front : BegunOf image true states) (holds : Holds trail (record { path = []; pairing = [] }) 0 0) where
   here : Accepted image (header image)
@@ -61,9 +59,9 @@ module _ {image index : List ℕ} {h : Header} {states : List ℕ} {trail : Trai
     short = holds .short;
   }
 
-  root-node : (request : Request) → nodeOf image (root states) 0 0 ≡ start (grammarOf image) (queryOf request)
+  root-node : (q : Query) → nodeOf image (root states) 0 0 ≡ start (grammarOf image) q
   unfolding waysAfter stopsAfter nodeOf start grammarOf
-  root-node request = λ i. record {
+  root-node q = λ i. record {
     rest = [];
     ways = inLexicon image 0;
     stop = false;
@@ -75,16 +73,15 @@ module _ {image index : List ℕ} {h : Header} {states : List ℕ} {trail : Trai
     states = front .states-are refl i;
   }
 
-  root-steps : (request : Request) → stepsFrom (start (grammarOf image) (queryOf request)) ≡ 57
+  root-steps : (q : Query) → stepsFrom (start (grammarOf image) q) ≡ 57
   unfolding stepsFrom start
-  root-steps request = refl
+  root-steps q = refl
 
-  pub start-found : (request : Request) → foundAt image (queryOf request) (root states) trail ≡ allReadings image request
+  pub start-found : (q : Query) → foundAt image q (root states) trail ≡ readings (grammarOf image) q
   unfolding foundAt
-  start-found request =
+  start-found q =
       let g = grammarOf image in
-      let q = queryOf request in
-      let e : nodeAt image (root states) trail ≡ start g q = ap₂ (nodeOf image (root states)) (holds .entries-are) (holds .pairs-are) ∙ root-node request in
+      let e : nodeAt image (root states) trail ≡ start g q = ap₂ (nodeOf image (root states)) (holds .entries-are) (holds .pairs-are) ∙ root-node q in
       ap₂ (λ (n : Node) (r : Reading). gather g q (stepsFrom n) n r) e (holds .reading)
-      ∙ ap (λ (k : ℕ). gather g q k (start g q) (record { path = []; pairing = [] })) (root-steps request)
-      ∙ sym (front-readings image request front)
+      ∙ ap (λ (k : ℕ). gather g q k (start g q) (record { path = []; pairing = [] })) (root-steps q)
+      ∙ sym (front-readings image q front)

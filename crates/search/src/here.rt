@@ -7,7 +7,6 @@ ghost use lib.ListN.{length, getD};
 ghost use Rattle.model.specs.Lists.{given};
 ghost use Rattle.model.specs.Blocks.{header};
 ghost use Rattle.model.specs.GrammarOf.{grammarOf};
-ghost use Rattle.model.specs.Query.{queryOf};
 ghost use Rattle.model.specs.Rows.{rowCount};
 ghost use Rattle.model.specs.Tree.{complete};
 ghost use Rattle.image.specs.Header.{headerOf};
@@ -16,13 +15,13 @@ ghost use Rattle.image.specs.Index.{indexOf, candidates};
 ghost use Rattle.rows.specs.Trail.{readingOf};
 ghost use Rattle.rows.specs.Offering.{offerAll};
 ghost use Rattle.rows.specs.Fill.{put};
-ghost use Rattle.listing.specs.Asked.{requestOf};
+ghost use Rattle.listing.specs.Asked.{queryBy};
 ghost use Rattle.listing.specs.Places.{restOf, Standing};
 ghost use Rattle.listing.specs.Search.{nodeAt, headOf};
 ghost use Rattle.search.specs.Here.{opensAt, Underway};
 use image::Header;
 use letters::Lexical;
-use listing::asked::Direction;
+use listing::asked::Asked;
 use listing::place::Place;
 use rows::Trail;
 
@@ -42,8 +41,9 @@ pub fn put_ended(
     image: &[u8],
     index: &[u8],
     h: Header,
-    d: Direction,
-    asked: &[u8],
+    asked: Asked,
+    path: &[u8],
+    word: &[u8],
     place: Place,
     trail: Trail,
     out: &mut [u8],
@@ -52,12 +52,12 @@ pub fn put_ended(
     requires { ⌜ Underway (now image) (now index) (headerOf h) place trail ⌝ }
     requires { ⌜ opensAt place ≡ false ⌝ }
     requires { ⌜ found ≤ rowCount (now out) ⌝ }
-    ensures { λ r. ⌜ (now (out .exit), r) ≡ offerAll (put (rowCount (now (out .entry)))) (now (out .entry), found) (given (complete (grammarOf (now (image .entry))) (queryOf (requestOf d (now (asked .entry)))) (nodeAt (now (image .entry)) place trail)) (readingOf trail ∷ [])) ⌝ }
+    ensures { λ r. ⌜ (now (out .exit), r) ≡ offerAll (put (rowCount (now (out .entry)))) (now (out .entry), found) (given (complete (grammarOf (now (image .entry))) (queryBy asked (now (path .entry)) (now (word .entry))) (nodeAt (now (image .entry)) place trail)) (readingOf trail ∷ [])) ⌝ }
 {
     if place.from < place.to {
         return found;
     }
-    if !listing::pairing::ends(image, index, h, d, asked, place, trail.entries) {
+    if !listing::pairing::ends(image, index, h, asked, path, word, place, trail.entries) {
         return found;
     }
     rows::offer(out, found, trail)

@@ -1,4 +1,4 @@
-// The search for readings, one for both directions: opening an entry and pairing its letters call each other, and each reading found is offered
+// The search for readings, for whatever is asked of the path and of the word: opening an entry and pairing its letters call each other, and each reading found is offered
 // to the lent rows.
 pub mod here;
 pub mod starts;
@@ -6,19 +6,19 @@ pub mod starts;
 ghost use mathlib.Core.Bool.{true};
 ghost use mathlib.Core.Path.{_≡_};
 ghost use Prim.Native.Nat.{_≤_};
-ghost use Rattle.model.specs.Query.{queryOf};
+ghost use Rattle.model.specs.GrammarOf.{grammarOf};
 ghost use Rattle.model.specs.Rows.{rowCount};
-ghost use Rattle.model.specs.Calls.{allReadings};
+ghost use Rattle.model.specs.Tree.{readings};
 ghost use Rattle.image.specs.Header.{headerOf};
 ghost use Rattle.image.specs.Accepted.{Accepted};
 ghost use Rattle.image.specs.Index.{indexOf};
 ghost use Rattle.rows.specs.Offering.{offerAll};
 ghost use Rattle.rows.specs.Fill.{put};
-ghost use Rattle.listing.specs.Asked.{requestOf};
+ghost use Rattle.listing.specs.Asked.{queryBy};
 ghost use Rattle.listing.specs.Search.{foundAt};
 ghost use Rattle.search.specs.Here.{opensAt, Underway};
 use image::Header;
-use listing::asked::Direction;
+use listing::asked::Asked;
 use listing::level::Level;
 use listing::place::Place;
 use rows::Trail;
@@ -29,8 +29,9 @@ pub fn open(
     image: &[u8],
     index: &[u8],
     h: Header,
-    d: Direction,
-    asked: &[u8],
+    asked: Asked,
+    path: &[u8],
+    word: &[u8],
     place: Place,
     trail: Trail,
     out: &mut [u8],
@@ -40,22 +41,24 @@ pub fn open(
     requires { ⌜ Underway (now image) (now index) (headerOf h) place trail ⌝ }
     requires { ⌜ opensAt place ≡ true ⌝ }
     requires { ⌜ (capacity ≡ rowCount (now out)) × (found ≤ capacity) ⌝ }
-    ensures { λ r. ⌜ (now (out .exit), r) ≡ offerAll (put capacity) (now (out .entry), found) (foundAt (now (image .entry)) (queryOf (requestOf d (now (asked .entry)))) place trail) ⌝ }
+    ensures { λ r. ⌜ (now (out .exit), r) ≡ offerAll (put capacity) (now (out .entry), found) (foundAt (now (image .entry)) (queryBy asked (now (path .entry)) (now (word .entry))) place trail) ⌝ }
 {
     if trail.entries >= 16 {
         return found;
     }
+    let path_asked = asked.path;
     let range = listing::opening::open_range(
         image,
         index,
         h,
-        d,
-        asked,
+        path_asked,
+        path,
         place.onward,
         trail.entries,
     );
     let low = range.low;
     let count = range.high - low;
+    let word_asked = asked.word;
     let mut known = [0u8; 128];
     let mut n = found;
     let mut k: usize = 0;
@@ -67,12 +70,12 @@ pub fn open(
         let letter = crate::starts::first_letter(image, h, e);
         let at = letter.0 as usize;
         if known[at] == 0 {
-            known[at] = crate::starts::look(image, index, h, d, asked, place, e, letter);
+            known[at] = crate::starts::look(image, index, h, word_asked, word, place, e, letter);
         }
         if known[at] != 1 {
             let next = listing::place::enter(image, h, place, e);
             let longer = rows::with_entry(trail, e as u16);
-            n = pair(image, index, h, d, asked, next, longer, out, capacity, n);
+            n = pair(image, index, h, asked, path, word, next, longer, out, capacity, n);
         }
         k += 1;
     }
@@ -84,8 +87,9 @@ pub fn pair(
     image: &[u8],
     index: &[u8],
     h: Header,
-    d: Direction,
-    asked: &[u8],
+    asked: Asked,
+    path: &[u8],
+    word: &[u8],
     place: Place,
     trail: Trail,
     out: &mut [u8],
@@ -94,15 +98,16 @@ pub fn pair(
 ) -> usize
     requires { ⌜ Underway (now image) (now index) (headerOf h) place trail ⌝ }
     requires { ⌜ (capacity ≡ rowCount (now out)) × (found ≤ capacity) ⌝ }
-    ensures { λ r. ⌜ (now (out .exit), r) ≡ offerAll (put capacity) (now (out .entry), found) (foundAt (now (image .entry)) (queryOf (requestOf d (now (asked .entry)))) place trail) ⌝ }
+    ensures { λ r. ⌜ (now (out .exit), r) ≡ offerAll (put capacity) (now (out .entry), found) (foundAt (now (image .entry)) (queryBy asked (now (path .entry)) (now (word .entry))) place trail) ⌝ }
 {
     if crate::here::opens_at(place) {
         return open(
             image,
             index,
             h,
-            d,
             asked,
+            path,
+            word,
             place,
             trail,
             out,
@@ -110,11 +115,12 @@ pub fn pair(
             found,
         );
     }
-    let ended = crate::here::put_ended(image, index, h, d, asked, place, trail, out, found);
+    let ended = crate::here::put_ended(image, index, h, asked, path, word, place, trail, out, found);
     if trail.pairs >= 40 {
         return ended;
     }
     let letter = crate::here::next_letter(image, place);
+    let word_asked = asked.word;
     let many = crate::here::candidate_count(image, index, h, letter);
     let mut n = ended;
     let mut k: usize = 0;
@@ -123,11 +129,11 @@ pub fn pair(
             return n;
         }
         let p = crate::here::candidate(image, index, h, letter, k);
-        let taken = listing::pairing::take(image, index, h, d, asked, place, p);
+        let taken = listing::pairing::take(image, index, h, word_asked, word, place, p);
         if taken.may {
             let next = taken.place;
             let longer = rows::with_pair(trail, p as u8);
-            n = pair(image, index, h, d, asked, next, longer, out, capacity, n);
+            n = pair(image, index, h, asked, path, word, next, longer, out, capacity, n);
         }
         k += 1;
     }
@@ -139,13 +145,14 @@ pub fn search(
     image: &[u8],
     index: &[u8],
     h: Header,
-    d: Direction,
-    asked: &[u8],
+    asked: Asked,
+    path: &[u8],
+    word: &[u8],
     out: &mut [u8],
 ) -> usize
     requires { ⌜ Accepted (now image) (headerOf h) ⌝ }
     requires { ⌜ now index ≡ indexOf (now image) ⌝ }
-    ensures { λ r. ⌜ (now (out .exit), r) ≡ offerAll (put (rowCount (now (out .entry)))) (now (out .entry), 0) (allReadings (now (image .entry)) (requestOf d (now (asked .entry)))) ⌝ }
+    ensures { λ r. ⌜ (now (out .exit), r) ≡ offerAll (put (rowCount (now (out .entry)))) (now (out .entry), 0) (readings (grammarOf (now (image .entry))) (queryBy asked (now (path .entry)) (now (word .entry)))) ⌝ }
 {
     let capacity = out.len() / 116;
     let begun = rules::states::begin_all(image, index, h);
@@ -167,5 +174,5 @@ pub fn search(
         states: states,
     };
     let trail = rows::no_trail();
-    open(image, index, h, d, asked, place, trail, out, capacity, 0)
+    open(image, index, h, asked, path, word, place, trail, out, capacity, 0)
 }

@@ -2,17 +2,17 @@
 ghost use mathlib.Core.Path.{_≡_};
 ghost use Prim.Native.Nat.{ℕ, _≤_, _<_};
 ghost use Rattle.model.specs.GrammarOf.{grammarOf};
-ghost use Rattle.model.specs.Query.{queryOf};
+ghost use Rattle.model.specs.Query.{Pattern};
 ghost use Rattle.image.specs.Header.{headerOf};
 ghost use Rattle.image.specs.Accepted.{Accepted};
 ghost use Rattle.image.specs.Index.{indexOf};
-ghost use Rattle.listing.specs.Asked.{requestOf};
+ghost use Rattle.listing.specs.Asked.{wordQuery};
 ghost use Rattle.listing.specs.Places.{restOf, nodeOf, Standing};
 ghost use Rattle.listing.specs.Search.{headOf};
 ghost use Rattle.search.specs.FirstLetters.{startsAt, seenAt};
 use image::Header;
 use letters::Lexical;
-use listing::asked::Direction;
+use listing::asked::WordAsked;
 use listing::place::Place;
 
 // The first letter of the form of entry e, 0 where it has none: the bytes after a form are 0.
@@ -29,8 +29,8 @@ fn can_start(
     image: &[u8],
     index: &[u8],
     h: Header,
-    d: Direction,
-    asked: &[u8],
+    asked: WordAsked,
+    word: &[u8],
     place: Place,
     letter: Lexical,
 ) -> bool
@@ -38,13 +38,13 @@ fn can_start(
     requires { ⌜ now index ≡ indexOf (now image) ⌝ }
     requires { ⌜ Standing (now image) place ⌝ }
     requires { ⌜ (letter .0 ≡ headOf (restOf (now image) place)) × (letter .0 ≤ h .letters) ⌝ }
-    ensures { λ r. ⌜ ((n m : ℕ) → m < 40 → r ≡ startsAt (now (image .entry)) (queryOf (requestOf d (now (asked .entry)))) (nodeOf (now (image .entry)) place n m) (letter .0)) ⌝ }
+    ensures { λ r. ⌜ ((t : Pattern) (n m : ℕ) → m < 40 → r ≡ startsAt (now (image .entry)) (wordQuery asked (now (word .entry)) t) (nodeOf (now (image .entry)) place n m) (letter .0)) ⌝ }
 {
     let many = crate::here::candidate_count(image, index, h, letter);
     let mut k: usize = 0;
     while k < many {
         let p = crate::here::candidate(image, index, h, letter, k);
-        let taken = listing::pairing::take(image, index, h, d, asked, place, p);
+        let taken = listing::pairing::take(image, index, h, asked, word, place, p);
         if taken.may {
             return true;
         }
@@ -58,8 +58,8 @@ pub fn look(
     image: &[u8],
     index: &[u8],
     h: Header,
-    d: Direction,
-    asked: &[u8],
+    asked: WordAsked,
+    word: &[u8],
     place: Place,
     e: usize,
     letter: Lexical,
@@ -68,13 +68,13 @@ pub fn look(
     requires { ⌜ now index ≡ indexOf (now image) ⌝ }
     requires { ⌜ Standing (now image) place ⌝ }
     requires { ⌜ (e < h .entries) × ((letter .0 ≡ headOf (grammarOf (now image) .form e)) × (letter .0 ≤ h .letters)) ⌝ }
-    ensures { λ r. ⌜ ((n m : ℕ) → m < 40 → r ≡ seenAt (now (image .entry)) (queryOf (requestOf d (now (asked .entry)))) (nodeOf (now (image .entry)) place n m) e (letter .0)) ⌝ }
+    ensures { λ r. ⌜ ((t : Pattern) (n m : ℕ) → m < 40 → r ≡ seenAt (now (image .entry)) (wordQuery asked (now (word .entry)) t) (nodeOf (now (image .entry)) place n m) e (letter .0)) ⌝ }
 {
     if letter.0 == 0 {
         return 2;
     }
     let next = listing::place::enter(image, h, place, e);
-    if can_start(image, index, h, d, asked, next, letter) {
+    if can_start(image, index, h, asked, word, next, letter) {
         return 2;
     }
     1

@@ -5,7 +5,7 @@ use Rattle.model.specs.Blocks.{header}
 use Rattle.model.specs.Refusals.{accepted, imageVerdict}
 use Rattle.grammar.specs.Answers.{verdictOf}
 use Rattle.grammar.proofs.Verdicts.{accepted-image, laid-some}
-use Rattle.listing.specs.Asked.{requestOf}
+use Rattle.analyser.specs.Request.{requestOf}
 use Rattle.analyser.proofs.Replies.{image-refused}
 use Rattle.analyser.proofs.list.Statement.{statement}
 use Rattle.analyser.proofs.list.Tie as tie

@@ -8,7 +8,7 @@ use Rattle.model.specs.Rows.{rowCount}
 use Rattle.rules.specs.Live.{BegunOf}
 use Rattle.rows.specs.Offering.{offerAll}
 use Rattle.rows.specs.Fill.{put}
-use Rattle.listing.specs.Asked.{requestOf}
+use Rattle.listing.specs.Asked.{queryBy}
 use Rattle.search.specs.Here.{opensAt}
 use Rattle.search.proofs.Starting.{start-underway, start-found, dead-found}
 use Rattle.search.proofs.search.Statement.{statement}
@@ -17,7 +17,7 @@ use Rattle.search.proofs.search.Tie as tie
 -- the front
 module _ (c : tie.After-begin-all) where
   abbrev start : tie.Start
-  start = c .before .before .before .before .before
+  start = c .before .before .before .before .before .before
 
   front : (b : Bool) → c .begin-all .result .alive ≡ b → BegunOf (start .args .image .now) b (c .begin-all .result .states)
   front b e = subst (λ (b : Bool). BegunOf (start .args .image .now) b (c .begin-all .result .states)) e (c .begin-all .ensures)
@@ -38,7 +38,7 @@ unfolding offerAll
 returns c =
     let d = c .before in
     let a = start d .args in
-    sym (ap (offerAll (put (rowCount (a .out .now))) (a .out .now, 0)) (dead-found (a .image .now) (requestOf (a .d) (a .asked .now)) (d .begin-all .result .states) (front d false (not-true (d .begin-all .result .alive) (c .if1 .taken)))))
+    sym (ap (offerAll (put (rowCount (a .out .now))) (a .out .now, 0)) (dead-found (a .image .now) (queryBy (a .asked) (a .path .now) (a .word .now)) (d .begin-all .result .states) (front d false (not-true (d .begin-all .result .alive) (c .if1 .taken)))))
 
 no-trail-requires : tie.Need-no-trail-requires
 no-trail-requires c κs = search needs
@@ -59,7 +59,7 @@ returns-2 c =
     let s = start (beginning t) in
     let a = s .args in
     c .before .before .«open» .ensures
-    ∙ ap (offerAll (put (rowCount (a .out .now))) (a .out .now, 0)) (start-found (s .pre .0) (s .pre .1) (begun t) (t .no-trail .ensures) (requestOf (a .d) (a .asked .now)))
+    ∙ ap (offerAll (put (rowCount (a .out .now))) (a .out .now, 0)) (start-found (s .pre .0) (s .pre .1) (begun t) (t .no-trail .ensures) (queryBy (a .asked) (a .path .now) (a .word .now)))
 
 pub search-spec : {M : Type 1} → statement M
 search-spec = tie.close (tie.spec begin-all-requires returns no-trail-requires open-requires same-length returns-2)

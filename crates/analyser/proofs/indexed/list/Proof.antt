@@ -4,7 +4,7 @@ use mathlib.Core.Path.{_≡_, sym, ap, _∙_}
 use Rattle.model.specs.Refusals.{accepted, firstFailing, ownTests}
 use Rattle.image.specs.Header.{headerOf}
 use Rattle.grammar.specs.Answers.{verdictOf}
-use Rattle.listing.specs.Asked.{requestOf}
+use Rattle.analyser.specs.Request.{requestOf}
 use Rattle.analyser.proofs.Replies.{accepted-by, own-refused, own-accepted}
 use Rattle.analyser.proofs.indexed.list.Statement.{statement}
 use Rattle.analyser.proofs.indexed.list.Tie as tie
@@ -18,8 +18,8 @@ enum-known-verdict c = search needs
 enum-told : tie.Need-enum-told
 enum-told c = search needs
 
-search-requires : tie.Need-search-requires
-search-requires c κs = let s = c .before .before .before .before .before .before .before .before in (accepted-by (s .args .image .now) (headerOf (s .args .h)) (s .pre .0) (s .pre .1 .0), s .pre .1 .1)
+search-for-requires : tie.Need-search-for-requires
+search-for-requires c κs = let s = c .before .before .before .before .before .before .before .before in (accepted-by (s .args .image .now) (headerOf (s .args .h)) (s .pre .0) (s .pre .1 .0), s .pre .1 .1)
 
 reply-for-requires : tie.Need-reply-for-requires
 reply-for-requires c κs = search needs
@@ -41,7 +41,7 @@ returns-2 c =
     let a = s .args in
     let request = requestOf (a .d) (a .asked .now) in
     let passed : firstFailing (ownTests (a .image .now) request) ≡ accepted = sym (told .before .before .own-verdict .ensures) ∙ ap verdictOf (told .enum-told .given .1) in
-    let found = c .before .before .before .search in
+    let found = c .before .before .before .search-for in
     let both = own-accepted (a .image .now) request (a .out .now) (s .pre .0) passed _ (found .result) (found .ensures) in
     (c .reply-for .ensures ∙ both .0, both .1)
 
@@ -52,7 +52,7 @@ list-spec =
     own-verdict-requires
     enum-known-verdict
     enum-told
-    search-requires
+    search-for-requires
     reply-for-requires
     returns
     same-length

@@ -2,8 +2,8 @@
 use borrow.Author.Needs.{needs}
 use mathlib.Core.Path.{sym, ap, _∙_}
 use Rattle.model.specs.Refusals.{firstFailing, ownTests}
-use Rattle.listing.specs.declared.asked.Direction.{Direction}
-use Rattle.listing.specs.Asked.{requestOf}
+use Rattle.analyser.specs.declared.request.Direction.{Direction}
+use Rattle.analyser.specs.Request.{requestOf}
 use Rattle.analyser.proofs.own.own_verdict.Statement.{statement}
 use Rattle.analyser.proofs.own.own_verdict.Tie as tie
 

@@ -4,7 +4,7 @@ use mathlib.Core.Path.{refl, ap, _∙_}
 use Prim.Native.Nat.{ℕ}
 use lib.Dec.{eqb}
 use borrow.Author.Tests.{le-ltb, lt-ltb}
-use Rattle.model.specs.Query.{queryOf}
+use Rattle.listing.specs.Asked.{wordPattern}
 use Rattle.listing.proofs.asked.allows_letter.Statement.{statement}
 use Rattle.listing.proofs.asked.allows_letter.Tie as tie
 
@@ -15,7 +15,7 @@ enum-told-2 : tie.Need-enum-told-2
 enum-told-2 c = search needs
 
 returns : tie.Need-returns
-unfolding queryOf
+unfolding wordPattern
 returns c = rw (c .before .enum-told2 .given .1, le-ltb _ _ (c .if1 .taken)) refl
 
 surface-at-requires : tie.Need-surface-at-requires
@@ -25,11 +25,11 @@ same-surface-requires : tie.Need-same-surface-requires
 same-surface-requires c κs = search needs
 
 returns-2 : tie.Need-returns-2
-unfolding queryOf
+unfolding wordPattern
 returns-2 c = rw (c .enum-told .given .1) refl
 
 returns-3 : tie.Need-returns-3
-unfolding queryOf
+unfolding wordPattern
 returns-3 c =
     let there = c .before .before in
     let x = there .before .before .before .before .args .x .0 in

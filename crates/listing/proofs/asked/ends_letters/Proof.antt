@@ -1,7 +1,7 @@
 -- `ends_letters` meets its contract.
 use borrow.Author.Needs.{needs}
 use mathlib.Core.Path.{refl}
-use Rattle.model.specs.Query.{queryOf}
+use Rattle.listing.specs.Asked.{wordPattern}
 use Rattle.listing.proofs.asked.ends_letters.Statement.{statement}
 use Rattle.listing.proofs.asked.ends_letters.Tie as tie
 
@@ -12,11 +12,11 @@ enum-told-2 : tie.Need-enum-told-2
 enum-told-2 c = search needs
 
 returns : tie.Need-returns
-unfolding queryOf
+unfolding wordPattern
 returns c = rw (c .enum-told .given .1) refl
 
 returns-2 : tie.Need-returns-2
-unfolding queryOf
+unfolding wordPattern
 returns-2 c = rw (c .enum-told2 .given .1) refl
 
 pub ends-letters-spec : {M : Type 1} → statement M

@@ -3,8 +3,7 @@ use borrow.Author.Needs.{needs}
 use borrow.Author.Tests.{not-true, not-false}
 use mathlib.Core.Bool.{true, false, false≢true}
 use mathlib.Core.Path.{sym, _∙_}
-use Rattle.model.specs.Query.{queryOf}
-use Rattle.listing.specs.Asked.{requestOf}
+use Rattle.listing.specs.Asked.{wordPattern}
 use Rattle.listing.proofs.Levels.{null-may, null-go, null-bounded, letter-not, letter-may, letter-go, letter-bounded}
 use Rattle.listing.proofs.level.pass.Statement.{statement}
 use Rattle.listing.proofs.level.pass.Tie as tie
@@ -15,7 +14,7 @@ add-t10 c = search needs
 returns : tie.Need-returns
 returns c =
     let start = c .before .before .before in
-    let t = queryOf (requestOf (start .args .d) (start .args .asked .now)) .letters in
+    let t = wordPattern (start .args .asked) (start .args .word .now) in
     let level = start .args .level in
     let x = start .args .x .0 in
     (null-may t level (start .pre) x (c .if1 .taken), λ e. (null-go t level (start .pre) x (c .if1 .taken), null-bounded t level (start .pre) e))
@@ -26,7 +25,7 @@ allows-letter-requires c κs = search needs
 returns-2 : tie.Need-returns-2
 returns-2 c =
     let start = c .before .before .before .before .before in
-    let t = queryOf (requestOf (start .args .d) (start .args .asked .now)) .letters in
+    let t = wordPattern (start .args .asked) (start .args .word .now) in
     let level = start .args .level in
     let x = start .args .x .0 in
     (letter-not t level (start .pre) x (c .before .before .if1 .left) (sym (c .before .allows-letter .ensures) ∙ not-true (c .before .allows-letter .result) (c .if2 .taken)), λ e. absurd (false≢true e))
@@ -37,7 +36,7 @@ add-t13 c = search needs
 returns-3 : tie.Need-returns-3
 returns-3 c =
     let start = c .before .before .before .before .before in
-    let t = queryOf (requestOf (start .args .d) (start .args .asked .now)) .letters in
+    let t = wordPattern (start .args .asked) (start .args .word .now) in
     let level = start .args .level in
     let x = start .args .x .0 in
     (letter-may t level (start .pre) x (c .before .before .if1 .left) (sym (c .before .allows-letter .ensures) ∙ not-false (c .before .allows-letter .result) (c .if2 .left)), λ e. (letter-go t level (start .pre) x (c .before .before .if1 .left), letter-bounded t level (start .pre) e))

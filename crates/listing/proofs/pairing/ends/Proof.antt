@@ -7,20 +7,20 @@ use mathlib.Core.Path.{_≡_, refl, sym, ap, _∙_}
 use Prim.Native.Nat.{ℕ, _<_}
 use lib.Dec.{ltb}
 use Rattle.model.specs.GrammarOf.{grammarOf}
-use Rattle.model.specs.Query.{Query, queryOf}
+use Rattle.model.specs.Query.{Query}
 use Rattle.model.specs.Tree.{complete}
 use Rattle.rules.specs.Live.{finishOf}
-use Rattle.listing.specs.Asked.{requestOf}
+use Rattle.listing.specs.Asked.{queryBy}
 use Rattle.listing.specs.Places.{nodeOf}
 use Rattle.listing.proofs.Taking.{end-tests}
 use Rattle.listing.proofs.pairing.ends.Statement.{statement}
 use Rattle.listing.proofs.pairing.ends.Tie as tie
 
 abbrev start : tie.After-ends-entries → tie.Start
-start c = c .before .before .before .before
+start c = c .before .before .before .before .before
 
 abbrev query : tie.Start → Query
-query s = queryOf (requestOf (s .args .d) (s .args .asked .now))
+query s = queryBy (s .args .asked) (s .args .path .now) (s .args .word .now)
 
 abbrev letters : tie.Start → ℕ
 letters s = s .args .place .surface .letters

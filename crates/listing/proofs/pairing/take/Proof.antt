@@ -5,9 +5,9 @@ use borrow.Author.Tests.{not-true, not-false}
 use mathlib.Core.Bool.{Bool, true}
 use mathlib.Core.Path.{_≡_, refl, sym, _∙_}
 use Prim.Native.Nat.{_≤_}
-use Rattle.model.specs.Query.{Query, queryOf}
+use Rattle.model.specs.Query.{Pattern, Query}
 use Rattle.image.specs.Header.{headerOf}
-use Rattle.listing.specs.Asked.{requestOf}
+use Rattle.listing.specs.Asked.{wordPattern, wordQuery}
 use Rattle.listing.proofs.Taking.{side-there, image-short, nullsLet, levelLets, rulesLet, SpellsOn, refused-nulls, refused-level, refused-rules, took}
 use Rattle.listing.proofs.pairing.take.Statement.{statement}
 use Rattle.listing.proofs.pairing.take.Tie as tie
@@ -33,14 +33,14 @@ surface c = c .before .before .before
 
 -- the model's tests
 module _ (s : tie.Start) where
-  abbrev query : Query
-  query = queryOf (requestOf (s .args .d) (s .args .asked .now))
+  abbrev query : Pattern → Query
+  query = wordQuery (s .args .asked) (s .args .word .now)
 
   abbrev nulls : Bool
   nulls = nullsLet (s .args .image .now) (s .args .place) (s .args .p)
 
   abbrev level : Bool
-  level = levelLets (s .args .image .now) query (s .args .place) (s .args .p)
+  level = levelLets (s .args .image .now) (wordPattern (s .args .asked) (s .args .word .now)) (s .args .place) (s .args .p)
 
   abbrev rules : Bool
   rules = rulesLet (s .args .image .now) (s .args .place) (s .args .p)
@@ -78,9 +78,9 @@ spell-requires c κs =
     (stands .nulls-in, omega (arith, image-short (s .args .image .now) (headerOf (s .args .h)) (s .pre .0), stands .in-order, stands .in-image))
 
 returns : tie.Need-returns
-returns c =
+returns c t =
     let s = start (c .before) in
-    refused-nulls (query s) (spells-on s)
+    refused-nulls (query s t) (spells-on s)
     (sym (nulls-test (c .before)) ∙ not-true (c .before .before .spell .result .may) (c .if1 .taken))
 
 surface-side-requires : tie.Need-surface-side-requires
@@ -90,9 +90,9 @@ pass-requires : tie.Need-pass-requires
 pass-requires c κs = search needs
 
 returns-2 : tie.Need-returns-2
-returns-2 c =
+returns-2 c t =
     let s = start (lexical (c .before)) in
-    refused-level (query s) (spells-on s)
+    refused-level (query s t) (spells-on s)
     (nulls-passed (c .before .before .before .before))
     (sym (level-test (c .before)) ∙ not-true (c .before .before .pass .result .may) (c .if2 .taken))
 
@@ -103,16 +103,16 @@ step-all-requires c κs =
     (s .pre .0, (s .pre .1 .0, (p, s .pre .1 .1 .0 .states-live)))
 
 returns-3 : tie.Need-returns-3
-returns-3 c =
+returns-3 c t =
     let by-level = c .before .before .before in
     let s = start (lexical (by-level .before)) in
-    refused-rules (query s) (spells-on s)
+    refused-rules (query s t) (spells-on s)
     (nulls-passed (by-level .before .before .before .before))
     (level-passed by-level)
     (sym (rules-test (c .before)) ∙ not-true (c .before .before .step-all .result .alive) (c .if3 .taken))
 
 returns-4 : tie.Need-returns-4
-returns-4 c =
+returns-4 c t =
     let by-rules = c .before .before in
     let by-level = by-rules .before .before .before in
     let by-nulls = by-level .before .before .before .before in
@@ -123,7 +123,7 @@ returns-4 c =
     let lexical = rw (by-nulls .before .before .before .lexical-side .ensures) at (spelled .ensures .1 (not-false (spelled .result .may) (by-nulls .if1 .left))) in
     let surface = rw (by-level .before .before .before .surface-side .ensures) at (passed .ensures .1 (not-false (passed .result .may) (by-level .if2 .left))) in
     let lives = not-false (stepped .result .alive) (by-rules .if3 .left) in
-    took (query s) (spells-on s)
+    took (query s t) (spells-on s)
     (record {
       from-is = lexical .0;
       to-is = refl;

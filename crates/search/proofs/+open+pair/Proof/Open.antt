@@ -4,11 +4,11 @@ use native.Mathlib.Omega.{arith}
 use borrow.Author.Needs.{needs}
 use mathlib.Core.Logic.{⊎-elim}
 use mathlib.Core.Path.{refl, sym, _∙_}
-use Rattle.model.specs.Query.{Query, queryOf}
+use Rattle.model.specs.Query.{Query}
 use Rattle.image.specs.Header.{headerOf}
 use Rattle.rows.proofs.Offering.{offer-none}
 use Rattle.rows.proofs.Fill.{put-keeps}
-use Rattle.listing.specs.Asked.{requestOf}
+use Rattle.listing.specs.Asked.{pathPattern, queryBy}
 use Rattle.search.proofs.Turns.{turns-none, turns-more, turns-skip, turns-stop, turns-all, turns-is}
 use Rattle.search.proofs.Heads.{Opening, onward-in, open-last, range-end, entry-few, open-found, open-underway, open-less, open-turn}
 use Rattle.search.proofs.FirstLetters.{Known, known-none, known-more}
@@ -31,7 +31,7 @@ module _ (t : ℕ) where
 
   -- from each of them back to the one before
   abbrev start : Head → OfOpen t lts.Start
-  start w = w .before .before .before .before .before .before .before .before
+  start w = w .before .before .before .before .before .before .before .before .before
 
   abbrev head : Turn → Head
   head c = c .before .before .before
@@ -40,7 +40,7 @@ module _ (t : ℕ) where
   turn c = c .before .before
 
   abbrev query : OfOpen t lts.Start → Query
-  query s = queryOf (requestOf (s .args .d) (s .args .asked .now))
+  query s = queryBy (s .args .asked) (s .args .path .now) (s .args .word .now)
 
   abbrev low : Head → ℕ
   low w = w .before .open-range .result .low
@@ -53,11 +53,11 @@ module _ (t : ℕ) where
 
   -- before the loop
   pub returns : OfOpen t lts.Need-returns
-  returns c = let s = c .before .before .before .before .before .before in rw (open-last (s .pre .1 .0) (query s) (s .pre .1 .1 .0) (c .if1 .taken)) (sym (offer-none _ _))
+  returns c = let s = c .before .before .before .before .before .before .before in rw (open-last (s .pre .1 .0) (query s) (s .pre .1 .1 .0) (c .if1 .taken)) (sym (offer-none _ _))
 
   pub open-range-requires : OfOpen t lts.Need-open-range-requires
   open-range-requires c κs =
-      let s = c .before .before .before .before .before .before in
+      let s = c .before .before .before .before .before .before .before in
       let underway = s .pre .1 .0 in
       (underway .accepted, (underway .indexed, onward-in underway (s .pre .1 .1 .0)))
 
@@ -113,7 +113,7 @@ module _ (t : ℕ) where
       let loop = turn first .before .before .loop in
       let letter = first .before .first-letter in
       ⊎-elim
-      (λ v. rw (v .2) (known-more (loop .inv .1 .1 .1) (low w + loop .k) (letter .result .0) (v .1 .result) (letter-few first) (letter .ensures .0) (v .1 .ensures)))
+      (λ v. rw (v .2) (known-more (loop .inv .1 .1 .1) (low w + loop .k) (letter .result .0) (v .1 .result) (letter-few first) (letter .ensures .0) (v .1 .ensures (pathPattern (start w .args .asked .path) (start w .args .path .now)))))
       (λ v. rw (v .1) (loop .inv .1 .1 .1))
       (c .if3 .came)
 
@@ -161,7 +161,7 @@ module _ (t : ℕ) where
       let letter = joined .before .before .first-letter in (
         omega (arith, here .before .loop-test .taken),
         (
-          ⊎-elim (λ v. rw (v .7) (v .4 .kept .1 .1 .1 .1 .1 .1 .1 .0 ∙ loop .inv .1 .0)) (λ v. rw (v .1) (loop .inv .1 .0)) (c .if4 .came),
+          ⊎-elim (λ v. rw (v .7) (v .4 .kept .1 .1 .1 .1 .1 .1 .1 .1 .0 ∙ loop .inv .1 .0)) (λ v. rw (v .1) (loop .inv .1 .0)) (c .if4 .came),
           (
             ⊎-elim
                 (λ v.

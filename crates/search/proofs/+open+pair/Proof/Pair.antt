@@ -6,13 +6,13 @@ use mathlib.Core.Bool.{false}
 use mathlib.Core.Logic.{⊎-elim}
 use mathlib.Core.Path.{_≡_, refl, sym, ap, _∙_}
 use lib.ListN.{length}
-use Rattle.model.specs.Query.{Query, queryOf}
+use Rattle.model.specs.Query.{Pattern, Query}
 use Rattle.image.specs.Header.{headerOf}
 use Rattle.image.specs.Index.{candidates}
 use Rattle.rows.specs.Fill.{put}
 use Rattle.rows.proofs.Offering.{offer-by}
 use Rattle.rows.proofs.Fill.{put-keeps}
-use Rattle.listing.specs.Asked.{requestOf}
+use Rattle.listing.specs.Asked.{pathPattern, queryBy}
 use Rattle.listing.specs.Places.{restOf}
 use Rattle.search.specs.Here.{opensAt}
 use Rattle.search.proofs.Candidates.{Candidate, candidate-spells}
@@ -40,7 +40,7 @@ module _ (t : ℕ) where
 
   -- from each of them back to the one before
   abbrev first : Ended → OfPair t lts.Start
-  first w = w .before .before .before .before .before .before .before .before .before .before .before
+  first w = w .before .before .before .before .before .before .before .before .before .before .before .before
 
   abbrev start : Head → OfPair t lts.Start
   start w = first (w .before .before .before)
@@ -49,7 +49,7 @@ module _ (t : ℕ) where
   head c = c .before .before .before
 
   abbrev query : OfPair t lts.Start → Query
-  query s = queryOf (requestOf (s .args .d) (s .args .asked .now))
+  query s = queryBy (s .args .asked) (s .args .path .now) (s .args .word .now)
 
   abbrev letter : Head → ℕ
   letter w = w .before .next-letter .result .0
@@ -75,7 +75,7 @@ module _ (t : ℕ) where
 
   pub open-requires : OfPair t lts.Need-open-requires
   open-requires c κs =
-      let s = c .before .before .before .before .before .before .before in
+      let s = c .before .before .before .before .before .before .before .before in
       (omega (arith, s .pre .0), (s .pre .1 .0, (sym (c .before .before .opens-at .ensures) ∙ c .before .if1 .taken, s .pre .1 .1)))
 
   pub same-length : OfPair t lts.Need-same-length
@@ -86,7 +86,7 @@ module _ (t : ℕ) where
 
   pub put-ended-requires : OfPair t lts.Need-put-ended-requires
   put-ended-requires c κs =
-      let s = c .before .before .before .before .before .before .before in
+      let s = c .before .before .before .before .before .before .before .before in
       (s .pre .1 .0, (sym (c .before .before .opens-at .ensures) ∙ c .before .if1 .left, omega (arith, s .pre .1 .1)))
 
   pub same-length-2 : OfPair t lts.Need-same-length-2
@@ -137,6 +137,10 @@ module _ (t : ℕ) where
       let o = pairing w in
       (o .underway .accepted, (o .underway .indexed, (o .underway .stands, (c .candidate .ensures .1, candidate-spells (restOf (a .image .now) (a .place)) (o .letter) (chosen c)))))
 
+  -- what is asked of the path beside
+  abbrev path : Tried → Pattern
+  path c = let a = start (head (c .before .before)) .args in pathPattern (a .asked .path) (a .path .now)
+
   -- it may be taken
   pub cast-with-pair : OfPair t lts.Need-cast-with-pair
   cast-with-pair c =
@@ -156,7 +160,7 @@ module _ (t : ℕ) where
       let may = c .before .before .before .if4 .taken in
       let longer = c .before .with-pair in
       let ended = w .before .before .before .before .before .before .put-ended in
-      (omega (arith, s .pre .0, pair-less o (chosen (tried .before)) (tried .take .ensures) may (longer .ensures)), (pair-underway o (chosen (tried .before)) (tried .take .ensures) may (longer .ensures), (rw (here .before .before .loop .inv .1 .0, ended .kept .1 .1 .1 .1 .1 .1 .1 .0) (s .pre .1 .1 .0), here .if3 .left)))
+      (omega (arith, s .pre .0, pair-less o (chosen (tried .before)) (tried .take .ensures (path tried)) may (longer .ensures)), (pair-underway o (chosen (tried .before)) (tried .take .ensures (path tried)) may (longer .ensures), (rw (here .before .before .loop .inv .1 .0, ended .kept .1 .1 .1 .1 .1 .1 .1 .1 .0) (s .pre .1 .1 .0), here .if3 .left)))
 
   pub add-k : OfPair t lts.Need-add-k
   add-k c = search needs
@@ -173,10 +177,10 @@ module _ (t : ℕ) where
       let loop = here .before .before .loop in (
         omega (arith, here .before .loop-test .taken),
         (
-          ⊎-elim (λ v. rw (v .7) (v .4 .kept .1 .1 .1 .1 .1 .1 .1 .0 ∙ loop .inv .1 .0)) (λ v. rw (v .1) (loop .inv .1 .0)) (c .if4 .came),
+          ⊎-elim (λ v. rw (v .7) (v .4 .kept .1 .1 .1 .1 .1 .1 .1 .1 .0 ∙ loop .inv .1 .0)) (λ v. rw (v .1) (loop .inv .1 .0)) (c .if4 .came),
           ⊎-elim
-              (λ v. turns-is (turns-more _ (loop .inv .1 .1) (v .4 .ensures) (pair-turn o (chosen (tried .before)) (tried .take .ensures) (v .0 .taken) (v .2 .ensures))) (v .7) (v .8))
-              (λ v. turns-is (turns-skip (loop .inv .1 .1) (pair-none o (chosen (tried .before)) (tried .take .ensures) (v .0 .left))) (v .1) (v .2))
+              (λ v. turns-is (turns-more _ (loop .inv .1 .1) (v .4 .ensures) (pair-turn o (chosen (tried .before)) (tried .take .ensures (path tried)) (v .0 .taken) (v .2 .ensures))) (v .7) (v .8))
+              (λ v. turns-is (turns-skip (loop .inv .1 .1) (pair-none o (chosen (tried .before)) (tried .take .ensures (path tried)) (v .0 .left))) (v .1) (v .2))
               (c .if4 .came),
         ),
       )

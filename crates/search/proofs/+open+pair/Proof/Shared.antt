@@ -4,9 +4,8 @@ use mathlib.Core.Path.{_≡_}
 use lib.ListN.{length}
 use borrow.Fn.Kinds.{In, Out}
 use borrow.Fn.PlainCycle.{Measures, is, falls, and}
-use Rattle.model.specs.Query.{queryOf}
 use Rattle.rows.specs.Fill.{put}
-use Rattle.listing.specs.Asked.{requestOf}
+use Rattle.listing.specs.Asked.{queryBy}
 use Rattle.listing.proofs.Searching.{openOne}
 use Rattle.listing.proofs.opening.open_range.Reads as open-range-reads
 use Rattle.listing.proofs.pairing.take.Reads as take-reads
@@ -30,23 +29,23 @@ use Rattle.search.proofs.here.opens_at.Reads as opens-at-reads
 use Rattle.search.proofs.starts.first_letter.Reads as first-letter-reads
 use Rattle.search.proofs.starts.look.Reads as look-reads
 
-abbrev pub μ-open : Measures 4 open-kinds.ps ℕ
-μ-open κs a = 2 * stepsAfter (a .1 .1 .1 .1 .1 .1 .0)
+abbrev pub μ-open : Measures 5 open-kinds.ps ℕ
+μ-open κs a = 2 * stepsAfter (a .1 .1 .1 .1 .1 .1 .1 .0)
 
-abbrev pub μ-pair : Measures 4 pair-kinds.ps ℕ
-μ-pair κs a = 2 * stepsAfter (a .1 .1 .1 .1 .1 .1 .0) + 1
+abbrev pub μ-pair : Measures 5 pair-kinds.ps ℕ
+μ-pair κs a = 2 * stepsAfter (a .1 .1 .1 .1 .1 .1 .1 .0) + 1
 
-abbrev pub open-at : ℕ → In 4 open-kinds.ps
-open-at t = and 4 open-kinds.ps (is 4 open-kinds.ps μ-open t) open.Pre
+abbrev pub open-at : ℕ → In 5 open-kinds.ps
+open-at t = and 5 open-kinds.ps (is 5 open-kinds.ps μ-open t) open.Pre
 
-abbrev pub open-below : ℕ → In 4 open-kinds.ps
-open-below t = and 4 open-kinds.ps (falls 4 open-kinds.ps _<_ μ-open t) open.Pre
+abbrev pub open-below : ℕ → In 5 open-kinds.ps
+open-below t = and 5 open-kinds.ps (falls 5 open-kinds.ps _<_ μ-open t) open.Pre
 
-abbrev pub pair-at : ℕ → In 4 pair-kinds.ps
-pair-at t = and 4 pair-kinds.ps (is 4 pair-kinds.ps μ-pair t) pair.Pre
+abbrev pub pair-at : ℕ → In 5 pair-kinds.ps
+pair-at t = and 5 pair-kinds.ps (is 5 pair-kinds.ps μ-pair t) pair.Pre
 
-abbrev pub pair-below : ℕ → In 4 pair-kinds.ps
-pair-below t = and 4 pair-kinds.ps (falls 4 pair-kinds.ps _<_ μ-pair t) pair.Pre
+abbrev pub pair-below : ℕ → In 5 pair-kinds.ps
+pair-below t = and 5 pair-kinds.ps (falls 5 pair-kinds.ps _<_ μ-pair t) pair.Pre
 
 abbrev pub open-claims : ℕ → open-lts.Claims
 open-claims t = (
@@ -87,22 +86,22 @@ pair-claims t = (
 )
 
 abbrev pub open-Inv-loop : open-lts.InvT-loop
-open-Inv-loop image index h d asked place trail out₀ capacity found low count known₀ n₀ k₀ out known n k =
-    (k ≤ count) × ((length out ≡ length out₀) × (Turns (put capacity) (openOne image (queryOf (requestOf d asked)) place trail low) (out₀, found) (out, n) k × Known image (queryOf (requestOf d asked)) place trail known))
+open-Inv-loop image index h asked path word place trail out₀ capacity found low count asks known₀ n₀ k₀ out known n k =
+    (k ≤ count) × ((length out ≡ length out₀) × (Turns (put capacity) (openOne image (queryBy asked path word) place trail low) (out₀, found) (out, n) k × Known image (queryBy asked path word) place trail known))
 
 abbrev pub open-μ-loop : open-lts.MeasureT-loop
-open-μ-loop image index h d asked place trail out₀ capacity found low count known₀ n₀ k₀ out known n k = count - k
+open-μ-loop image index h asked path word place trail out₀ capacity found low count asks known₀ n₀ k₀ out known n k = count - k
 
 abbrev pub pair-Inv-loop : pair-lts.InvT-loop
-pair-Inv-loop image index h d asked place trail out₀ capacity found ended letter many n₀ k₀ out n k =
-    (k ≤ many) × ((length out ≡ length out₀) × Turns (put capacity) (candidateOne image (queryOf (requestOf d asked)) place trail (letter .0)) (out₀, ended) (out, n) k)
+pair-Inv-loop image index h asked path word place trail out₀ capacity found ended letter asks many n₀ k₀ out n k =
+    (k ≤ many) × ((length out ≡ length out₀) × Turns (put capacity) (candidateOne image (queryBy asked path word) place trail (letter .0)) (out₀, ended) (out, n) k)
 
 abbrev pub pair-μ-loop : pair-lts.MeasureT-loop
-pair-μ-loop image index h d asked place trail out₀ capacity found ended letter many n₀ k₀ out n k = many - k
+pair-μ-loop image index h asked path word place trail out₀ capacity found ended letter asks many n₀ k₀ out n k = many - k
 
--- a need of either, or a place of its code, at the measure t. Where a need takes `.kept .1 .1 .1 .1 .1 .1 .1 .0` of a call, that is: the buffer keeps its length
-abbrev pub OfOpen : ℕ → (open-lts.Claims → In 4 open-kinds.ps → Out 4 open-kinds.ps open-kinds.r → open-lts.InvT-loop → open-lts.MeasureT-loop → Type 0) → Type 0
+-- a need of either, or a place of its code, at the measure t. Where a need takes `.kept .1 .1 .1 .1 .1 .1 .1 .1 .0` of a call, that is: the buffer keeps its length
+abbrev pub OfOpen : ℕ → (open-lts.Claims → In 5 open-kinds.ps → Out 5 open-kinds.ps open-kinds.r → open-lts.InvT-loop → open-lts.MeasureT-loop → Type 0) → Type 0
 OfOpen t f = f (open-claims t) (open-at t) open.Post open-Inv-loop open-μ-loop
 
-abbrev pub OfPair : ℕ → (pair-lts.Claims → In 4 pair-kinds.ps → Out 4 pair-kinds.ps pair-kinds.r → pair-lts.InvT-loop → pair-lts.MeasureT-loop → Type 0) → Type 0
+abbrev pub OfPair : ℕ → (pair-lts.Claims → In 5 pair-kinds.ps → Out 5 pair-kinds.ps pair-kinds.r → pair-lts.InvT-loop → pair-lts.MeasureT-loop → Type 0) → Type 0
 OfPair t f = f (pair-claims t) (pair-at t) pair.Post pair-Inv-loop pair-μ-loop

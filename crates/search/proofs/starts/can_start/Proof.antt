@@ -3,9 +3,9 @@ use borrow.Author.Needs.{needs}
 use native.Mathlib.Omega.{arith}
 use Prim.Native.Nat.{_-_, _<_, _≤_}
 use lib.ListN.{length}
-use Rattle.model.specs.Query.{queryOf}
+use Rattle.model.specs.Query.{Pattern}
 use Rattle.image.specs.Index.{candidates}
-use Rattle.listing.specs.Asked.{requestOf}
+use Rattle.listing.specs.Asked.{wordQuery}
 use Rattle.listing.specs.Places.{restOf}
 use Rattle.search.proofs.Candidates.{Candidate, candidate-spells}
 use Rattle.search.proofs.FirstLetters.{Left, left-none, left-more, left-found, left-all}
@@ -13,10 +13,10 @@ use Rattle.search.proofs.starts.can_start.Statement.{statement}
 use Rattle.search.proofs.starts.can_start.Tie as tie
 
 abbrev Inv-loop : tie.InvT-loop
-Inv-loop image index h d asked place letter many k₀ k = (k ≤ many) × Left image (queryOf (requestOf d asked)) place (letter .0) k
+Inv-loop image index h asked word place letter many k₀ k = (k ≤ many) × ((t : Pattern) → Left image (wordQuery asked word t) place (letter .0) k)
 
 abbrev μ-loop : tie.MeasureT-loop
-μ-loop image index h d asked place letter many k₀ k = many - k
+μ-loop image index h asked word place letter many k₀ k = many - k
 
 -- where the loop begins
 abbrev Head : Type 0
@@ -29,7 +29,7 @@ candidate-count-requires : tie.Need-candidate-count-requires Inv-loop μ-loop
 candidate-count-requires c κs = let s = c .before .before .before in (s .pre .0, (s .pre .1 .0, s .pre .1 .1 .1 .1))
 
 loop-holds : tie.Need-loop-holds Inv-loop μ-loop
-loop-holds c = let a = start c .args in (search needs, left-none (a .image .now) (queryOf (requestOf (a .d) (a .asked .now))) (a .place) (a .letter .0))
+loop-holds c = let a = start c .args in (search needs, λ t. left-none (a .image .now) (wordQuery (a .asked) (a .word .now) t) (a .place) (a .letter .0))
 
 -- the candidate of a turn
 inside : (c : tie.In-loop Inv-loop μ-loop) → let a = start (c .before .before) .args in c .before .loop .k < length (candidates (a .image .now) (a .letter .0))
@@ -47,7 +47,7 @@ take-requires c κs =
     (s .pre .0, (s .pre .1 .0, (s .pre .1 .1 .0, (c .candidate .ensures .1, candidate-spells (restOf (s .args .image .now) (s .args .place)) (s .pre .1 .1 .1 .0) (chosen c)))))
 
 returns : tie.Need-returns Inv-loop μ-loop
-returns c = let tried = c .before in left-found (chosen (tried .before)) (tried .take .ensures) (tried .before .before .before .loop .inv .1) (c .if1 .taken)
+returns c t = let tried = c .before in left-found (chosen (tried .before)) (tried .take .ensures t) (tried .before .before .before .loop .inv .1 t) (c .if1 .taken)
 
 add-k : tie.Need-add-k Inv-loop μ-loop
 add-k c = search needs
@@ -56,13 +56,13 @@ loop-less : tie.Need-loop-less Inv-loop μ-loop
 loop-less c = search needs
 
 loop-again : tie.Need-loop-again Inv-loop μ-loop
-loop-again c = let tried = c .before in (search needs, left-more (chosen (tried .before)) (tried .take .ensures) (tried .before .before .before .loop .inv .1) (c .if1 .left))
+loop-again c = let tried = c .before in (search needs, λ t. left-more (chosen (tried .before)) (tried .take .ensures t) (tried .before .before .before .loop .inv .1 t) (c .if1 .left))
 
 returns-2 : tie.Need-returns-2 Inv-loop μ-loop
-returns-2 c =
+returns-2 c t =
     let w = c .before .before in
     let a = start w .args in
-    left-all (a .image .now) (queryOf (requestOf (a .d) (a .asked .now))) (a .place) (a .letter .0) (c .before .loop .k) (omega (arith, c .loop-test .left, w .candidate-count .ensures)) (c .before .loop .inv .1)
+    left-all (a .image .now) (wordQuery (a .asked) (a .word .now) t) (a .place) (a .letter .0) (c .before .loop .k) (omega (arith, c .loop-test .left, w .candidate-count .ensures)) (c .before .loop .inv .1 t)
 
 pub can-start-spec : {M : Type 1} → statement M
 can-start-spec =

@@ -1,0 +1,50 @@
+// What a call asks for: analysis the readings of a word, generation those of a path.
+ghost use mathlib.Core.Path.{_≡_};
+ghost use Rattle.model.specs.Rows.{rowCount};
+ghost use Rattle.model.specs.Calls.{allReadings};
+ghost use Rattle.image.specs.Header.{headerOf};
+ghost use Rattle.image.specs.Accepted.{Accepted};
+ghost use Rattle.image.specs.Index.{indexOf};
+ghost use Rattle.rows.specs.Offering.{offerAll};
+ghost use Rattle.rows.specs.Fill.{put};
+ghost use Rattle.analyser.specs.Request.{requestOf};
+use image::Header;
+use listing::asked::Asked;
+use listing::asked::PathAsked;
+use listing::asked::WordAsked;
+
+pub enum Direction {
+    Analysis,
+    Generation,
+}
+
+// The search for it: of what it does not ask for, anything will do, and no bytes are lent.
+pub fn search_for(
+    image: &[u8],
+    index: &[u8],
+    h: Header,
+    d: Direction,
+    asked: &[u8],
+    out: &mut [u8],
+) -> usize
+    requires { ⌜ Accepted (now image) (headerOf h) ⌝ }
+    requires { ⌜ now index ≡ indexOf (now image) ⌝ }
+    ensures { λ r. ⌜ (now (out .exit), r) ≡ offerAll (put (rowCount (now (out .entry)))) (now (out .entry), 0) (allReadings (now (image .entry)) (requestOf d (now (asked .entry)))) ⌝ }
+{
+    match d {
+        Direction::Analysis => {
+            let word = Asked {
+                path: PathAsked::Anything,
+                word: WordAsked::Exactly,
+            };
+            search::search(image, index, h, word, &asked[..0], asked, out)
+        }
+        Direction::Generation => {
+            let path = Asked {
+                path: PathAsked::Exactly,
+                word: WordAsked::Anything,
+            };
+            search::search(image, index, h, path, asked, &asked[..0], out)
+        }
+    }
+}
