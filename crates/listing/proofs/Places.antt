@@ -3,11 +3,11 @@ use Prim.Native.Nat.{ℕ, suc, _+_, _*_, _-_, _/_, _%_, _<_, _≤_}
 use native.Mathlib.Omega.{arith}
 use mathlib.Core.Bool.{true, false}
 use mathlib.Core.Path.{_≡_, refl, sym, ap, ap₂, _∙_, subst}
-use mathlib.Core.Logic.{inr}
+use mathlib.Core.Logic.{inl, inr}
 use mathlib.Core.List.{List}
 use lib.ListN.{take, drop}
-use lib.Dec.{T, eqb}
-use borrow.Author.Tests.{eq-eqb, ne-eqb}
+use lib.Dec.{T, ltb, eqb, ltb→lt}
+use borrow.Author.Tests.{ne-eqb, lt-ltb, le-ltb}
 use Rattle.model.specs.Lists.{every, within}
 use Rattle.model.specs.Blocks.{Header, header, entryBlock}
 use Rattle.model.specs.Lexicon.{entry, formLength, formOf, continuation}
@@ -16,12 +16,13 @@ use Rattle.model.specs.Query.{Query}
 use Rattle.model.specs.Refusals.{rightEntries}
 use Rattle.model.specs.Beside.{formStart}
 use Rattle.model.specs.Tree.{goAt}
-use Rattle.model.proofs.Booleans.{of-true}
+use Rattle.model.proofs.Booleans.{and-out, of-true, false-of}
+use Rattle.model.proofs.Endings.{image-one-way}
 use Rattle.image.specs.Accepted.{Accepted}
 use Rattle.lexicon.proofs.Laws as entries
 use Rattle.listing.specs.declared.place.Place.{Place}
 use Rattle.listing.specs.Levels.{levelOf}
-use Rattle.listing.specs.Places.{root, waysAfter, stopsAfter, restOf, nodeOf, Standing}
+use Rattle.listing.specs.Places.{root, ended, waysAfter, stopsAfter, restOf, nodeOf, Standing, OnlyStops}
 
 module _ (image : List ℕ) (h : Header) (a : Accepted image h) (e : ℕ) (inside : e < h .entries) where
   right : T (rightEntries image)
@@ -29,19 +30,25 @@ module _ (image : List ℕ) (h : Header) (a : Accepted image h) (e : ℕ) (insid
 
   -- the place after it
   abbrev entered : ℕ → ℕ → Place → Place
-  entered at len place = record { from = at + 1; to = at + 1 + len; last = e; ended = false; nulls = place .nulls; surface = place .surface; states = place .states }
+  entered at len place = record { from = at + 1; to = at + 1 + len; last = e; nulls = place .nulls; surface = place .surface; states = place .states }
 
-  -- an entry of the image is not where none is open
-  apart : eqb e root ≡ false
-  apart = ne-eqb e root (λ f. omega (arith, a .laid .limits .entries-most))
+  -- an entry of the image is neither where none is open nor where the path has ended
+  few : e < ended
+  few = omega (arith, a .laid .limits .entries-most)
+
+  not-root : eqb e root ≡ false
+  not-root = ne-eqb e root (λ f. omega (arith, few))
+
+  not-ended : eqb e ended ≡ false
+  not-ended = ne-eqb e ended (λ f. omega (arith, few))
 
   ways-are : waysAfter image e ≡ grammarOf image .follows e
   unfolding waysAfter
-  ways-are = rw apart refl
+  ways-are = rw (not-root, not-ended) refl
 
   stop-is : stopsAfter image e ≡ grammarOf image .ends e
   unfolding stopsAfter
-  stop-is = rw apart refl
+  stop-is = rw (lt-ltb e ended few) refl
 
   module _ (at len : ℕ) (place : Place) (e1 : at ≡ 512 * (entryBlock h + e / 31) + (4 + 16 * (e % 31))) (e2 : len ≡ formLength (entry image e)) where
     short : formLength (entry image e) ≤ 12
@@ -71,7 +78,7 @@ module _ (image : List ℕ) (h : Header) (a : Accepted image h) (e : ℕ) (insid
           rest = form-is i;
           ways = ways-are i;
           stop = stop-is i;
-          ended = false;
+          ended = not-ended i;
           entries = suc n;
           pairs = p;
           nulls = place .nulls;
@@ -84,29 +91,40 @@ module _ (image : List ℕ) (h : Header) (a : Accepted image h) (e : ℕ) (insid
       in-order = omega arith;
       in-image = omega (arith, entries.form-inside image h (a .laid) e inside short, start-is);
       letters-right = subst (λ (l : List ℕ). T (every (within 2 (header image .letters)) l)) (sym rest-is) (subst (λ (g : Header). T (every (within 2 (g .letters)) (formOf (entry image e)))) (a .laid .header-is) (entries.form-letters image h (a .laid) right e inside));
-      last-right = inr (omega (arith, ap (λ (g : Header). g .entries) (a .laid .header-is)));
+      last-right = inr (inr (omega (arith, ap (λ (g : Header). g .entries) (a .laid .header-is))));
       nulls-in = s .nulls-in;
       surface-in = s .surface-in;
       states-live = s .states-live;
     }
 
 -- the path ends
-abbrev ended : Place → Place
-ended place = record { from = place .from; to = place .to; last = place .last; ended = true; nulls = place .nulls; surface = place .surface; states = place .states }
+abbrev stopped : Place → Place
+stopped place = record { from = place .from; to = place .to; last = ended; nulls = place .nulls; surface = place .surface; states = place .states }
 
-pub ended-node : (place : Place) (image : List ℕ) (q : Query) (n p : ℕ) → nodeOf image (ended place) n p ≡ goAt (grammarOf image) q true (nodeOf image place n p) 0
-unfolding nodeOf goAt
-ended-node place image q n p = refl
+pub stopped-node : (place : Place) (image : List ℕ) (q : Query) (n p : ℕ) → nodeOf image (stopped place) n p ≡ goAt (grammarOf image) q true (nodeOf image place n p) 0
+unfolding waysAfter stopsAfter nodeOf goAt
+stopped-node place image q n p = refl
 
-pub ended-stands : (place : Place) (image : List ℕ) → Standing image place → Standing image (ended place)
-ended-stands place image s = record { in-order = s .in-order; in-image = s .in-image; letters-right = s .letters-right; last-right = s .last-right; nulls-in = s .nulls-in; surface-in = s .surface-in; states-live = s .states-live }
+pub stopped-stands : (place : Place) (image : List ℕ) → Standing image place → Standing image (stopped place)
+stopped-stands place image s = record { in-order = s .in-order; in-image = s .in-image; letters-right = s .letters-right; last-right = inr (inl refl); nulls-in = s .nulls-in; surface-in = s .surface-in; states-live = s .states-live }
 
 -- whether it may end, by the byte of the last entry
 module _ (image : List ℕ) (last : ℕ) where
-  pub stops-root : last ≡ root → false ≡ stopsAfter image last
+  pub stops-none : ended ≤ last → false ≡ stopsAfter image last
   unfolding stopsAfter
-  stops-root e = rw (eq-eqb last root e) refl
+  stops-none h = rw (le-ltb last ended h) refl
 
-  pub stops-entry : (last ≡ root → ⊥) → (byte : ℕ) → byte ≡ continuation (entry image last) → eqb byte 255 ≡ stopsAfter image last
+  pub stops-entry : last < ended → (byte : ℕ) → byte ≡ continuation (entry image last) → eqb byte 255 ≡ stopsAfter image last
   unfolding stopsAfter grammarOf
-  stops-entry f byte e = rw (ne-eqb last root f, e) refl
+  stops-entry h byte e = rw (lt-ltb last ended h, e) refl
+
+  -- an entry has one way on
+  pub only-stops : stopsAfter image last ≡ true → OnlyStops image last
+  unfolding stopsAfter waysAfter
+  only-stops t =
+      let u = and-out (ltb last ended) (grammarOf image .ends last) (of-true (stopsAfter image last) t) in
+      let h = ltb→lt last ended (u .0) in
+      record {
+        stops = t;
+        none-next = λ e. rw (ne-eqb last root (λ f. omega arith), ne-eqb last ended (λ f. omega arith)) (false-of (grammarOf image .follows last e) (image-one-way image last e (u .1)));
+      }

@@ -1,10 +1,9 @@
 -- The entries that may open at a place, as a range, and the next of them.
 use Prim.Native.Nat.{ℕ, _+_, _*_, _/_, _<_, _≤_}
 use native.Mathlib.Omega.{arith}
-use native.Mathlib.Decide.{decLt, ℕ-discrete}
+use native.Mathlib.Decide.{ℕ-discrete}
 use mathlib.Core.Bool.{Bool, true, false, _&&_}
 use mathlib.Core.Path.{_≡_, refl, sym, ap, ap₂, _∙_, subst}
-use mathlib.Core.Logic.{_⊎_, inl, inr}
 use mathlib.Core.List.{List}
 use lib.ListN.{length, getD}
 use lib.Dec.{ltb, eqb}
@@ -21,7 +20,7 @@ use Rattle.image.specs.Accepted.{Accepted}
 use Rattle.image.specs.Index.{indexOf}
 use Rattle.index.proofs.Laws.{length-indexOf, lexicon-number}
 use Rattle.lexicon.proofs.Laws as entries
-use Rattle.listing.specs.Places.{root, waysAfter}
+use Rattle.listing.specs.Places.{root, ended, waysAfter}
 use Rattle.listing.specs.Opening.{mayEnter, mayEnterIn, Ranged, NextOf}
 
 module _ (image : List ℕ) (x : ℕ) where
@@ -143,19 +142,11 @@ ranged-as same r = record {
 
 -- the next of a range
 module _ {may : ℕ → Bool} {bound low high : ℕ} (r : Ranged may bound low high) (from : ℕ) where
-  pub next-low : from < low → low < high → NextOf may bound from low
-  next-low a b = record { onward = omega arith; in-bound = omega (arith, r .in-bound); passed = λ k i j. r .before k j; passes = λ i. r .inside low (omega arith) b }
-
   pub next-here : low ≤ from → from < high → NextOf may bound from from
   next-here a b = record { onward = omega arith; in-bound = omega (arith, r .in-bound); passed = λ k i j. absurd (omega arith); passes = λ i. r .inside from a b }
 
-  pub next-none : from ≤ bound → high ≤ from ⊎ high ≤ low → NextOf may bound from bound
-  next-none a b = record { onward = a; in-bound = omega arith; passed = λ k i j. go k i (decLt k low) b; passes = λ i. absurd (omega arith) }
-    where
-      go : (k : ℕ) → from ≤ k → Dec (k < low) → high ≤ from ⊎ high ≤ low → may k ≡ false
-      go k i (yes l) b = r .before k l
-      go k i (no l) (inl h) = r .past k (omega arith)
-      go k i (no l) (inr h) = r .past k (omega arith)
+  pub next-none : from ≤ bound → high ≤ from → NextOf may bound from bound
+  next-none a b = record { onward = a; in-bound = omega arith; passed = λ k i j. r .past k (omega arith); passes = λ i. absurd (omega arith) }
 
 -- after an entry, or first: the entries of a lexicon, or none
 module _ (image : List ℕ) (t : Pattern) (last n : ℕ) where
@@ -163,13 +154,19 @@ module _ (image : List ℕ) (t : Pattern) (last n : ℕ) where
   unfolding waysAfter grammarOf
   root-ways h e = rw (eq-eqb last root h) refl
 
-  module _ (some : last ≡ root → ⊥) (x : ℕ) (next : x ≡ continuation (entry image last)) where
+  module _ (some : last < ended) (x : ℕ) (next : x ≡ continuation (entry image last)) where
+    not-root : eqb last root ≡ false
+    not-root = ne-eqb last root (λ f. omega arith)
+
+    not-ended : eqb last ended ≡ false
+    not-ended = ne-eqb last ended (λ f. omega arith)
+
     pub no-ways : x ≡ 255 → Ranged (mayEnter image t last n) (header image .entries) 0 0
     unfolding waysAfter grammarOf
     no-ways h =
-        let none : (e : ℕ) → mayEnter image t last n e ≡ false = λ e. rw (ne-eqb last root some, sym next, eq-eqb x 255 h) refl in
+        let none : (e : ℕ) → mayEnter image t last n e ≡ false = λ e. rw (not-root, not-ended, sym next, eq-eqb x 255 h) refl in
         record { in-bound = omega arith; inside = λ e k l. absurd (omega arith); before = λ e k. none e; past = λ e k. none e }
 
     pub lexicon-ways : (x ≡ 255 → ⊥) → (e : ℕ) → mayEnter image t last n e ≡ mayEnterIn image t x n e
     unfolding waysAfter grammarOf
-    lexicon-ways h e = rw (ne-eqb last root some, sym next, ne-eqb x 255 h) refl
+    lexicon-ways h e = rw (not-root, not-ended, sym next, ne-eqb x 255 h) refl

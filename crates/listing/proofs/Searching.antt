@@ -5,7 +5,7 @@ use mathlib.Core.Bool.{Bool, true, false, _&&_, _||_, true≢false}
 use mathlib.Core.Path.{_≡_, refl, sym, ap, ap₂, _∙_}
 use mathlib.Core.List.{List, [], _∷_, _++_, append-nil}
 use lib.ListN.{getD}
-use lib.Dec.{T, eqb}
+use lib.Dec.{T, ltb, eqb}
 use borrow.Author.Tests.{lt-ltb, le-ltb, eqb-false, eqb-true, ne-eqb, eq-eqb}
 use Rattle.model.specs.Lists.{below, given, flatMap, isZero}
 use Rattle.model.specs.Blocks.{header}
@@ -21,7 +21,7 @@ use Rattle.rows.specs.declared.Trail.{Trail}
 use Rattle.rows.specs.Trail.{readingOf}
 use Rattle.listing.specs.declared.place.Place.{Place}
 use Rattle.listing.specs.Gather.{grow, gather, stepsLeft, stepsFrom}
-use Rattle.listing.specs.Places.{stopsAfter, restOf, nodeOf}
+use Rattle.listing.specs.Places.{ended, stopsAfter, restOf, nodeOf, OnlyStops}
 use Rattle.listing.specs.Opening.{mayEnter}
 use Rattle.listing.specs.Search.{nodeAt, headOf, foundAt}
 use Rattle.listing.proofs.Gather.{branch, gather-open, gather-pair, gather-last, stepsFrom-stop, stepsFrom-enter, stepsFrom-pair}
@@ -92,6 +92,14 @@ module _ (image : List ℕ) (q : Query) (place : Place) (trail : Trail) where
   unfolding mayAt nodeOf
   full-none h e = same-none (mayAt g q true n (suc e)) _ (rw (le-ltb (trail .entries) 16 h) refl)
 
+  shut-none : OnlyStops image (place .last) → (e : ℕ) → entryOne e ≡ []
+  unfolding mayAt nodeOf
+  shut-none only e = same-none (mayAt g q true n (suc e)) _ (rw (only .none-next e) (go (ltb (trail .entries) 16) (q .entries .allows (trail .entries) e)))
+    where
+      go : (a b : Bool) → (a && false && b) ≡ false
+      go true b = refl
+      go false b = refl
+
   entries-few : trail .entries < 16 → n .entries < 16
   unfolding nodeOf
   entries-few spare = spare
@@ -119,6 +127,12 @@ module _ (image : List ℕ) (q : Query) (place : Place) (trail : Trail) where
         ap (λ (m : Node). gather g q (stepsFrom m) m r) e
         ∙ ap (λ (k : ℕ). gather g q k (goAt g q true n 0) r) s
         ∙ ap (λ (b : Bool). given b (gather g q (pred (stepsFrom n)) (goAt g q true n 0) r)) (sym t)
+
+    -- where the path can only end, that is all
+    pub only-stop : OnlyStops image (place .last) → (next : Place) → nodeAt image next trail ≡ goAt g q true n 0 → foundAt image q next trail ≡ foundAt image q place trail
+    only-stop only next e =
+        stop-one (only .stops) next e
+        ∙ sym (open-all ∙ ap (λ (l : List Reading). stopOne ++ l) (all-empty entryOne (header image .entries) (shut-none only)) ∙ append-nil stopOne)
 
     pub entry-one : (spare : trail .entries < 16) (e : ℕ) → mayEnter image (q .entries) (place .last) (trail .entries) e ≡ true → (next : Place) (longer : Trail) → nodeAt image next longer ≡ goAt g q true n (suc e) → readingOf longer ≡ grow true r (suc e) → foundAt image q next longer ≡ entryOne e
     unfolding foundAt
@@ -179,7 +193,7 @@ pairOne image q place trail p = branch (grammarOf image) q (pred (stepsFrom (nod
 module _ (image : List ℕ) (q : Query) (place : Place) (trail : Trail) (spare : trail .pairs < 40) where
   pair-steps : stepsFrom (nodeAt image place trail) ≡ suc (pred (stepsFrom (nodeAt image place trail)))
   unfolding stepsFrom nodeOf
-  pair-steps = go (place .ended)
+  pair-steps = go (eqb (place .last) ended)
     where
       go : (ended : Bool) → stepsLeft ended (trail .entries) (trail .pairs) ≡ suc (pred (stepsLeft ended (trail .entries) (trail .pairs)))
       go true = omega arith

@@ -7,7 +7,7 @@ use mathlib.Core.Path.{_≡_, refl, sym, ap₂, _∙_, subst}
 use mathlib.Core.List.{List, [], _∷_}
 use lib.ListN.{length, getD, take, drop}
 use lib.Seq.{drop-cons}
-use lib.Dec.{T, leb, ltb}
+use lib.Dec.{T, leb, ltb, eqb}
 use borrow.Author.Tests.{lt-ltb}
 use Rattle.model.specs.Lists.{every, within}
 use Rattle.model.specs.Blocks.{Header, header, blockTotal}
@@ -21,7 +21,7 @@ use Rattle.letters.proofs.Laws.{pairAt}
 use Rattle.rules.specs.Live.{Live, stepOf, aliveOf, finishOf}
 use Rattle.listing.specs.declared.place.Place.{Place}
 use Rattle.listing.specs.Levels.{levelOf, levelMayBy, levelGoBy, Bounded}
-use Rattle.listing.specs.Places.{waysAfter, stopsAfter, restOf, nodeOf, Standing, Took}
+use Rattle.listing.specs.Places.{ended, waysAfter, stopsAfter, restOf, nodeOf, Standing, Took}
 
 -- of an accepted image
 module _ (image : List ℕ) (h : Header) (a : Accepted image h) where
@@ -86,7 +86,6 @@ pub record Moved (image : List ℕ) (place : Place) (p : ℕ) (after : Place) : 
   pub from-is : after .from ≡ lettersAnd (place .from) (pairAt image p .lexical)
   pub to-is : after .to ≡ place .to
   pub last-is : after .last ≡ place .last
-  pub ended-is : after .ended ≡ place .ended
   pub nulls-are : after .nulls ≡ nullsAnd (place .nulls) (pairAt image p .lexical)
   pub level-is : levelOf (after .surface) ≡ levelGoBy (levelOf (place .surface)) (pairAt image p .surface)
   pub states-are : take (grammarOf image .rules) (after .states) ≡ stepOf (grammarOf image) (place .states) p
@@ -131,7 +130,7 @@ module _ {image : List ℕ} {place : Place} {p : ℕ} (q : Query) (here : Spells
           rest = rest-is i;
           ways = waysAfter image (moved .last-is i);
           stop = stopsAfter image (moved .last-is i);
-          ended = moved .ended-is i;
+          ended = eqb (moved .last-is i) ended;
           entries = n;
           pairs = suc m;
           nulls = moved .nulls-are i;
@@ -155,7 +154,7 @@ module _ {image : List ℕ} {place : Place} {p : ℕ} (q : Query) (here : Spells
     took a b c = record { may-is = λ n m k. sym (pair-tests n m k ∙ rw (a, b, c) refl); node-is = λ f. after-node; stands = λ f. after-stands }
 
 -- the tests that are left for the end of a reading, where every letter is paired and the path has ended
-module _ (image : List ℕ) (q : Query) (place : Place) (n m : ℕ) (here : (place .from ≡ place .to) × (place .ended ≡ true)) where
+module _ (image : List ℕ) (q : Query) (place : Place) (n m : ℕ) (here : (place .from ≡ place .to) × (place .last ≡ ended)) where
   nothing-left : isNil (restOf image place) ≡ true
   nothing-left = let z : place .to - place .from ≡ 0 = omega (arith, here .0) in rw z refl
 

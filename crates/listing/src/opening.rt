@@ -97,22 +97,14 @@ pub fn ways_on(
     open_range(image, index, h, asked, path, x, n)
 }
 
-// The next entry that may open, from an entry on; the number of entries where there is none.
+// The next entry that may open, from one on that is not before the first of them; the number of entries where there is none.
 pub fn next_entry(h: Header, ways: Range, from: usize) -> usize
-    requires { ⌜ from ≤ h .entries ⌝ }
+    requires { ⌜ (ways .low ≤ from) × (from ≤ h .entries) ⌝ }
     ensures { λ r. ⌜ ((may : ℕ → Bool) → Ranged may (h .entries) (ways .low) (ways .high) → NextOf may (h .entries) from r) ⌝ }
 {
-    let low = ways.low;
     let high = ways.high;
-    let entries = h.entries;
-    if from < low {
-        if low < high {
-            return low;
-        }
-        return entries;
-    }
     if from < high {
         return from;
     }
-    entries
+    h.entries
 }

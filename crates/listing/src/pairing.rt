@@ -12,7 +12,7 @@ ghost use Rattle.image.specs.Header.{headerOf};
 ghost use Rattle.image.specs.Accepted.{Accepted};
 ghost use Rattle.image.specs.Index.{indexOf};
 ghost use Rattle.listing.specs.Asked.{wordQuery, queryBy};
-ghost use Rattle.listing.specs.Places.{restOf, nodeOf, Standing, Took};
+ghost use Rattle.listing.specs.Places.{ended, restOf, nodeOf, Standing, Took};
 use crate::asked::Asked;
 use crate::asked::WordAsked;
 use crate::place::Place;
@@ -71,7 +71,6 @@ pub fn take(
             from: spelled.from,
             to: place.to,
             last: place.last,
-            ended: place.ended,
             nulls: spelled.nulls,
             surface: surface,
             states: after,
@@ -93,7 +92,7 @@ pub fn ends(
     requires { ⌜ Accepted (now image) (headerOf h) ⌝ }
     requires { ⌜ now index ≡ indexOf (now image) ⌝ }
     requires { ⌜ Standing (now image) place ⌝ }
-    requires { ⌜ (place .from ≡ place .to) × (place .ended ≡ true) ⌝ }
+    requires { ⌜ (place .from ≡ place .to) × (place .last ≡ ended) ⌝ }
     ensures { λ r. ⌜ ((m : ℕ) → r ≡ complete (grammarOf (now (image .entry))) (queryBy asked (now (path .entry)) (now (word .entry))) (nodeOf (now (image .entry)) place n m)) ⌝ }
 {
     let path_asked = asked.path;

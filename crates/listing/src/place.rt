@@ -8,16 +8,15 @@ ghost use Rattle.model.specs.Query.{Query};
 ghost use Rattle.model.specs.Tree.{goAt};
 ghost use Rattle.image.specs.Header.{headerOf};
 ghost use Rattle.image.specs.Accepted.{Accepted};
-ghost use Rattle.listing.specs.Places.{stopsAfter, nodeOf, Standing};
+ghost use Rattle.listing.specs.Places.{stopsAfter, nodeOf, Standing, OnlyStops};
 use crate::level::Level;
 use image::Header;
 
-// The letters left stand in the image from `from` up to `to`; `last` is the entry opened last, or ROOT; `ended` says that the path goes on with none.
+// The letters left stand in the image from `from` up to `to`; `last` is the entry opened last, or ROOT, or ENDED.
 pub struct Place {
     pub from: usize,
     pub to: usize,
     pub last: usize,
-    pub ended: bool,
     pub nulls: usize,
     pub surface: Level,
     pub states: [u8; 32],
@@ -25,6 +24,9 @@ pub struct Place {
 
 // No entry is open yet.
 pub const ROOT: usize = 65535;
+
+// The path has ended, and goes on with none.
+pub const ENDED: usize = 65534;
 
 // Entry e opens.
 pub fn enter(image: &[u8], h: Header, place: Place, e: usize) -> Place
@@ -41,7 +43,6 @@ pub fn enter(image: &[u8], h: Header, place: Place, e: usize) -> Place
         from: from,
         to: from + lexicon::form_length(image, h, e),
         last: e,
-        ended: false,
         nulls: place.nulls,
         surface: surface,
         states: states,
@@ -55,10 +56,19 @@ pub fn may_stop(image: &[u8], h: Header, place: Place) -> bool
     ensures { λ r. ⌜ r ≡ stopsAfter (now (image .entry)) (place .last) ⌝ }
 {
     let last = place.last;
-    if last == ROOT {
+    if ENDED <= last {
         return false;
     }
     lexicon::continuation_of(image, h, last) == 255
+}
+
+// Whether the path can only end here: then it is ended without looking for entries. An entry of form 1 has one way on.
+pub fn only_stops(image: &[u8], h: Header, place: Place) -> bool
+    requires { ⌜ Accepted (now image) (headerOf h) ⌝ }
+    requires { ⌜ Standing (now image) place ⌝ }
+    ensures { λ r. ⌜ (r ≡ true → OnlyStops (now (image .entry)) (place .last)) ⌝ }
+{
+    may_stop(image, h, place)
 }
 
 // The path ends.
@@ -71,8 +81,7 @@ pub fn stop(place: Place) -> Place
     Place {
         from: place.from,
         to: place.to,
-        last: place.last,
-        ended: true,
+        last: ENDED,
         nulls: place.nulls,
         surface: surface,
         states: states,

@@ -104,7 +104,7 @@ module _ (g : Grammar) (q : Query) where
       && live
 
   unfoldable pub goAt : Bool → Node → ℕ → Node
-  goAt true n zero = record { rest = n .rest; ways = n .ways; stop = n .stop; ended = true; entries = n .entries; pairs = n .pairs; nulls = n .nulls; surface = n .surface; states = n .states }
+  goAt true n zero = record { rest = n .rest; ways = λ e. false; stop = false; ended = true; entries = n .entries; pairs = n .pairs; nulls = n .nulls; surface = n .surface; states = n .states }
   goAt true n (suc e) = record { rest = g .form e; ways = g .follows e; stop = g .ends e; ended = false; entries = suc (n .entries); pairs = n .pairs; nulls = n .nulls; surface = n .surface; states = n .states }
   goAt false n p = record { rest = left (n .rest) (g .lexical p); ways = n .ways; stop = n .stop; ended = n .ended; entries = n .entries; pairs = suc (n .pairs); nulls = nullsAnd (n .nulls) (g .lexical p); surface = levelGo (g .surface) (q .letters) (n .surface) p; states = stepAll (g .rules) (g .next) (g .final) (n .states) p }
 

@@ -22,6 +22,7 @@ ghost use Rattle.search.specs.Here.{opensAt, Underway};
 use image::Header;
 use letters::Lexical;
 use listing::asked::Asked;
+use listing::place::ENDED;
 use listing::place::Place;
 use rows::Trail;
 
@@ -32,8 +33,7 @@ pub fn opens_at(place: Place) -> bool
     if place.from < place.to {
         return false;
     }
-    let ended = place.ended;
-    !ended
+    place.last != ENDED
 }
 
 // Offers the reading that ends here, where one does.

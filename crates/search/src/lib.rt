@@ -21,9 +21,10 @@ use image::Header;
 use listing::asked::Asked;
 use listing::level::Level;
 use listing::place::Place;
+use listing::place::ROOT;
 use rows::Trail;
 
-// Each entry that may open here opens, and its letters are paired. Whether a pair may be taken at once is the same for all entries that begin with
+// The path ends here, where it may; then each entry that may open here opens, and its letters are paired. Whether a pair may be taken at once is the same for all entries that begin with
 // one letter: `known` keeps what was seen of each, 0 before it is looked at, and where that is 1 an entry is passed over.
 pub fn open(
     image: &[u8],
@@ -43,41 +44,46 @@ pub fn open(
     requires { ⌜ (capacity ≡ rowCount (now out)) × (found ≤ capacity) ⌝ }
     ensures { λ r. ⌜ (now (out .exit), r) ≡ offerAll (put capacity) (now (out .entry), found) (foundAt (now (image .entry)) (queryBy asked (now (path .entry)) (now (word .entry))) place trail) ⌝ }
 {
+    let mut n = found;
+    if listing::place::may_stop(image, h, place) {
+        let ended = listing::place::stop(place);
+        n = pair(image, index, h, asked, path, word, ended, trail, out, capacity, n);
+    }
     if trail.entries >= 16 {
-        return found;
+        return n;
     }
     let path_asked = asked.path;
-    let range = listing::opening::open_range(
+    let word_asked = asked.word;
+    let ways = listing::opening::ways_on(
         image,
         index,
         h,
         path_asked,
         path,
-        place.onward,
+        place.last,
         trail.entries,
     );
-    let low = range.low;
-    let count = range.high - low;
-    let word_asked = asked.word;
+    let entries = h.entries;
     let mut known = [0u8; 128];
-    let mut n = found;
-    let mut k: usize = 0;
-    while k < count {
-        if capacity < n {
-            return n;
-        }
-        let e = low + k;
+    let mut e = listing::opening::next_entry(h, ways, ways.low);
+    while e < entries {
         let letter = crate::starts::first_letter(image, h, e);
         let at = letter.0 as usize;
         if known[at] == 0 {
             known[at] = crate::starts::look(image, index, h, word_asked, word, place, e, letter);
         }
         if known[at] != 1 {
+            if capacity < n {
+                return n;
+            }
             let next = listing::place::enter(image, h, place, e);
-            let longer = rows::with_entry(trail, e as u16);
+            let mut longer = trail;
+            let many = longer.entries;
+            longer.path[many] = e as u16;
+            longer.entries = many + 1;
             n = pair(image, index, h, asked, path, word, next, longer, out, capacity, n);
         }
-        k += 1;
+        e = listing::opening::next_entry(h, ways, e + 1);
     }
     n
 }
@@ -101,6 +107,10 @@ pub fn pair(
     ensures { λ r. ⌜ (now (out .exit), r) ≡ offerAll (put capacity) (now (out .entry), found) (foundAt (now (image .entry)) (queryBy asked (now (path .entry)) (now (word .entry))) place trail) ⌝ }
 {
     if crate::here::opens_at(place) {
+        if listing::place::only_stops(image, h, place) {
+            let ended = listing::place::stop(place);
+            return pair(image, index, h, asked, path, word, ended, trail, out, capacity, found);
+        }
         return open(
             image,
             index,
@@ -132,7 +142,10 @@ pub fn pair(
         let taken = listing::pairing::take(image, index, h, word_asked, word, place, p);
         if taken.may {
             let next = taken.place;
-            let longer = rows::with_pair(trail, p as u8);
+            let mut longer = trail;
+            let have = longer.pairs;
+            longer.pairing[have] = p as u8;
+            longer.pairs = have + 1;
             n = pair(image, index, h, asked, path, word, next, longer, out, capacity, n);
         }
         k += 1;
@@ -168,7 +181,7 @@ pub fn search(
     let place = Place {
         from: 0,
         to: 0,
-        onward: 0,
+        last: ROOT,
         nulls: 0,
         surface: surface,
         states: states,

@@ -9,6 +9,7 @@ use Rattle.model.proofs.Booleans.{of-true}
 use Rattle.image.specs.Header.{headerOf}
 use Rattle.lexicon.proofs.Laws.{continuation-right}
 use Rattle.listing.specs.Asked.{pathPattern}
+use Rattle.listing.specs.Places.{ended}
 use Rattle.listing.proofs.Ranges.{ranged-as, root-ways, no-ways, lexicon-ways}
 use Rattle.listing.proofs.opening.ways_on.Statement.{statement}
 use Rattle.listing.proofs.opening.ways_on.Tie as tie
@@ -28,6 +29,9 @@ start c = c .before .before .before .before
 entry : (c : tie.Else1) → start c .args .last < start c .args .h .entries
 entry c = ⊎-elim (λ e. absurd (c .if1 .left e)) (λ l. l) (start c .pre .1 .1)
 
+short : (c : tie.Else1) → start c .args .last < ended
+short c = omega (arith, entry c, start c .pre .0 .laid .limits .entries-most)
+
 continuation-of-requires : tie.Need-continuation-of-requires
 continuation-of-requires c κs = (start c .pre .0 .laid, entry c)
 
@@ -35,7 +39,7 @@ returns-2 : tie.Need-returns-2
 returns-2 c =
     let goes = c .before in
     let a = start (goes .before) .args in
-    no-ways (a .image .now) (pathPattern (a .asked) (a .path .now)) (a .last) (a .n) (goes .before .if1 .left) (goes .continuation-of .result) (goes .continuation-of .ensures .0) (c .if2 .taken)
+    no-ways (a .image .now) (pathPattern (a .asked) (a .path .now)) (a .last) (a .n) (short (goes .before)) (goes .continuation-of .result) (goes .continuation-of .ensures .0) (c .if2 .taken)
 
 open-range-requires-2 : tie.Need-open-range-requires-2
 open-range-requires-2 c κs =
@@ -50,7 +54,7 @@ returns-3 : tie.Need-returns-3
 returns-3 c =
     let goes = c .before .before in
     let a = start (goes .before) .args in
-    ranged-as (lexicon-ways (a .image .now) (pathPattern (a .asked) (a .path .now)) (a .last) (a .n) (goes .before .if1 .left) (goes .continuation-of .result) (goes .continuation-of .ensures .0) (c .before .if2 .left)) (c .open-range2 .ensures)
+    ranged-as (lexicon-ways (a .image .now) (pathPattern (a .asked) (a .path .now)) (a .last) (a .n) (short (goes .before)) (goes .continuation-of .result) (goes .continuation-of .ensures .0) (c .before .if2 .left)) (c .open-range2 .ensures)
 
 pub ways-on-spec : {M : Type 1} → statement M
 ways-on-spec =

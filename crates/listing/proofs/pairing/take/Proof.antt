@@ -128,7 +128,6 @@ returns-4 c t =
       from-is = lexical .0;
       to-is = refl;
       last-is = refl;
-      ended-is = refl;
       nulls-are = lexical .1 .0;
       level-is = surface .0;
       states-are = stepped .ensures .states-are lives;
