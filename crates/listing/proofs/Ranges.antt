@@ -43,6 +43,7 @@ module _ (image : List ℕ) (h : Header) (a : Accepted image h) (x : ℕ) (insid
   -- any path: all of the lexicon
   pub anything-range : (n : ℕ) → Ranged (mayEnterIn image anything x n) (header image .entries) low high
   anything-range n = record {
+    low-in = omega (arith, within);
     in-bound = within;
     inside = λ e k l. rw (in-range image x e (omega arith) (omega arith)) refl;
     before = λ e k. left-false (inLexicon image x e) true (below-range image x e (omega arith));
@@ -75,7 +76,7 @@ module _ (image : List ℕ) (h : Header) (a : Accepted image h) (x : ℕ) (insid
     asked-one k e g = rw (lt-ltb n (length (entryNumbers path)) (omega (arith, numbers)), eq-eqb (getD (entryNumbers path) n 0) e (named k ∙ g)) refl
 
     none : ((e : ℕ) → (inLexicon image x e && asked e) ≡ false) → Ranged (mayEnterIn image t x n) (header image .entries) 0 0
-    none f = record { in-bound = omega arith; inside = λ e k l. absurd (omega arith); before = λ e k. f e; past = λ e k. f e }
+    none f = record { low-in = omega arith; in-bound = omega arith; inside = λ e k l. absurd (omega arith); before = λ e k. f e; past = λ e k. f e }
 
     pub exactly-past : length path / 2 ≤ n → Ranged (mayEnterIn image t x n) (header image .entries) 0 0
     exactly-past k = none (λ e. right-false (inLexicon image x e) (asked e) (not-past k e))
@@ -100,6 +101,7 @@ module _ (image : List ℕ) (h : Header) (a : Accepted image h) (x : ℕ) (insid
 
       pub exactly-one : low ≤ one → one < high → Ranged (mayEnterIn image t x n) (header image .entries) one (one + 1)
       exactly-one l m = record {
+        low-in = omega (arith, within);
         in-bound = omega (arith, within);
         inside = λ e i j. rw (in-range image x e (omega arith) (omega arith)) (asked-one k e (sym e3 ∙ omega arith));
         before = λ e i. other e (λ g. omega arith);
@@ -134,6 +136,7 @@ module _ (image index : List ℕ) (h : Header) (a : Accepted image h) (is : inde
 -- by another test with the same answers
 pub ranged-as : {may other : ℕ → Bool} {bound low high : ℕ} → ((e : ℕ) → other e ≡ may e) → Ranged may bound low high → Ranged other bound low high
 ranged-as same r = record {
+  low-in = r .low-in;
   in-bound = r .in-bound;
   inside = λ e k l. same e ∙ r .inside e k l;
   before = λ e k. same e ∙ r .before e k;
@@ -165,7 +168,7 @@ module _ (image : List ℕ) (t : Pattern) (last n : ℕ) where
     unfolding waysAfter grammarOf
     no-ways h =
         let none : (e : ℕ) → mayEnter image t last n e ≡ false = λ e. rw (not-root, not-ended, sym next, eq-eqb x 255 h) refl in
-        record { in-bound = omega arith; inside = λ e k l. absurd (omega arith); before = λ e k. none e; past = λ e k. none e }
+        record { low-in = omega arith; in-bound = omega arith; inside = λ e k l. absurd (omega arith); before = λ e k. none e; past = λ e k. none e }
 
     pub lexicon-ways : (x ≡ 255 → ⊥) → (e : ℕ) → mayEnter image t last n e ≡ mayEnterIn image t x n e
     unfolding waysAfter grammarOf

@@ -17,6 +17,7 @@ mayEnterIn image t x n e = inLexicon image x e && t .allows n e
 
 -- the numbers from low up to high, all below a bound, are those that pass a test
 pub record Ranged (may : ℕ → Bool) (bound low high : ℕ) : Type 0 where
+  pub low-in : low ≤ bound
   pub in-bound : high ≤ bound
   pub inside : (e : ℕ) → low ≤ e → e < high → may e ≡ true
   pub before : (e : ℕ) → e < low → may e ≡ false

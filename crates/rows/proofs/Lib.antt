@@ -1,5 +1,6 @@
--- Laws that the proofs of functions cite; `Offering` and `Fill` are for the callers too.
+-- Laws that the proofs of functions cite; `Longer`, `Offering` and `Fill` are for the callers too.
 pub mod Places
 pub mod Bytes
+pub mod Longer
 pub mod Offering
 pub mod Fill

@@ -1,11 +1,11 @@
 // What a search carries of a reading, the rows that it puts into a lent buffer, and the reply.
 ghost use mathlib.Core.Path.{_≡_};
 ghost use mathlib.Core.List.{[]};
-ghost use Prim.Native.Nat.{_+_, _^_, _<_, _≤_};
+ghost use Prim.Native.Nat.{_^_, _<_, _≤_};
 ghost use lib.ListN.{length, getD};
 ghost use Rattle.model.specs.Rows.{padded, rowBytes, rowCount, replyNumber};
 ghost use Rattle.model.specs.Demand.{replyRows};
-ghost use Rattle.rows.specs.Trail.{readingOf, withEntry, withPair, Short, Holds, rowNumber};
+ghost use Rattle.rows.specs.Trail.{readingOf, Short, Holds, rowNumber};
 ghost use Rattle.rows.specs.Fill.{put, replyFor, replyOf};
 
 // A reading as far as a search has come: its entries and its pairs.
@@ -25,28 +25,6 @@ pub fn no_trail() -> Trail
         pairing: [0u8; 40],
         pairs: 0,
     }
-}
-
-pub fn with_entry(t: Trail, e: u16) -> Trail
-    requires { ⌜ Short t × (t .entries < 16) ⌝ }
-    ensures { λ r. ⌜ Holds r (withEntry (readingOf t) e) (t .entries + 1) (t .pairs) ⌝ }
-{
-    let mut r = t;
-    let n = r.entries;
-    r.path[n] = e;
-    r.entries = n + 1;
-    r
-}
-
-pub fn with_pair(t: Trail, p: u8) -> Trail
-    requires { ⌜ Short t × (t .pairs < 40) ⌝ }
-    ensures { λ r. ⌜ Holds r (withPair (readingOf t) p) (t .entries) (t .pairs + 1) ⌝ }
-{
-    let mut r = t;
-    let n = r.pairs;
-    r.pairing[n] = p;
-    r.pairs = n + 1;
-    r
 }
 
 // What stands in a row's unused places.

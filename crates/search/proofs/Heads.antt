@@ -3,10 +3,12 @@ use Prim.Native.Nat.{ℕ, suc, _+_, _-_, _<_, _≤_}
 use native.Mathlib.Numerals.{add-one}
 use native.Mathlib.Omega.{arith}
 use mathlib.Core.Bool.{Bool, true, false, not, true≢false}
+use mathlib.Core.Logic.{_⊎_, inl, inr, ⊎-elim}
 use mathlib.Core.Path.{_≡_, refl, sym, ap, ap₂, _∙_}
 use mathlib.Core.List.{List, [], _∷_, _++_}
 use lib.ListN.{length, getD}
 use lib.Dec.{leb, eqb}
+use borrow.Author.Tests.{eqb-false}
 use Rattle.model.specs.Lists.{below, given, flatMap}
 use Rattle.model.specs.Blocks.{Header, header}
 use Rattle.model.specs.GrammarOf.{grammarOf}
@@ -20,7 +22,7 @@ use Rattle.rows.specs.Offering.{offerAll}
 use Rattle.rows.proofs.Offering.{offer-append}
 use Rattle.listing.specs.declared.place.Place.{Place}
 use Rattle.listing.specs.Gather.{stepsLeft}
-use Rattle.listing.specs.Places.{stopsAfter, restOf, nodeOf, Standing, Took}
+use Rattle.listing.specs.Places.{root, ended, stopsAfter, restOf, nodeOf, Standing, Took, OnlyStops}
 use Rattle.listing.specs.Opening.{mayEnter}
 use Rattle.listing.specs.Search.{nodeAt, headOf, foundAt}
 use Rattle.listing.proofs.Loops.{flatMap-places}
@@ -33,7 +35,7 @@ use Rattle.search.proofs.Candidates.{Candidate}
 
 -- how many steps are left at a place, after a trail
 abbrev pub stepsAfter : Place → Trail → ℕ
-stepsAfter p t = stepsLeft (p .ended) (t .entries) (t .pairs)
+stepsAfter p t = stepsLeft (eqb (p .last) ended) (t .entries) (t .pairs)
 
 -- what candidate k of letter a finds
 abbrev pub candidateOne : List ℕ → Query → Place → Trail → ℕ → ℕ → List Reading
@@ -47,24 +49,34 @@ module _ {image index : List ℕ} {h : Header} {place : Place} {trail : Trail} (
   opens-here : opens (nodeAt image place trail) ≡ opensAt place
   opens-here = opens-is image place (underway .stands) (trail .entries) (trail .pairs)
 
-  goes-on : opensAt place ≡ true → place .ended ≡ false
+  goes-on : opensAt place ≡ true → eqb (place .last) ended ≡ false
   unfolding opensAt
-  goes-on o = not-out (place .ended) (and-out (leb (place .to) (place .from)) (not (place .ended)) (of-true (opensAt place) o) .1)
+  goes-on o = not-out (eqb (place .last) ended) (and-out (leb (place .to) (place .from)) (not (eqb (place .last) ended)) (of-true (opensAt place) o) .1)
+
+  -- an entry is open, or none is yet
+  pub last-in : opensAt place ≡ true → (place .last ≡ root) ⊎ (place .last < h .entries)
+  last-in o =
+      ⊎-elim inl
+      (λ r. ⊎-elim (λ e. absurd (eqb-false (place .last) ended (goes-on o) e)) (λ l. inr (omega (arith, l, ap (λ (g : Header). g .entries) same-header))) r)
+      (underway .stands .last-right)
 
   pub letter-in : {a : ℕ} → a ≤ header image .letters → a ≤ h .letters
   letter-in m = omega (arith, m, ap (λ (g : Header). g .letters) same-header)
 
   -- the path ends here
-  module _ (o : opensAt place ≡ true) {next : Place} (go : (image : List ℕ) (q : Query) (n p : ℕ) → nodeOf image next n p ≡ goAt (grammarOf image) q true (nodeOf image place n p) 0) where
+  module _ (o : opensAt place ≡ true) (next : Place) (go : (image : List ℕ) (q : Query) (n p : ℕ) → nodeOf image next n p ≡ goAt (grammarOf image) q true (nodeOf image place n p) 0) where
     pub stop-underway : ((image : List ℕ) → Standing image place → Standing image next) → Underway image index h next trail
     stop-underway s = record { accepted = underway .accepted; indexed = underway .indexed; stands = s image (underway .stands); short = underway .short }
 
-    stopped : (q : Query) → next .ended ≡ true
+    stopped : (q : Query) → eqb (next .last) ended ≡ true
     unfolding nodeOf goAt
     stopped q = ap (λ (n : Node). n .ended) (go image q 0 0)
 
     pub stop-less : (q : Query) → stepsAfter place trail ≡ suc (stepsAfter next trail)
     stop-less q = rw (goes-on o, stopped q) refl
+
+    pub only-turn : (q : Query) → OnlyStops image (place .last) → foundAt image q next trail ≡ foundAt image q place trail
+    only-turn q only = found.only-stop image q place trail (opens-here ∙ o) only next (go image q (trail .entries) (trail .pairs))
 
     pub stop-turn : (q : Query) → stopsAfter image (place .last) ≡ true → foundAt image q next trail ≡ stopOne image q place trail
     stop-turn q t = found.stop-one image q place trail (opens-here ∙ o) t next (go image q (trail .entries) (trail .pairs))
@@ -101,11 +113,11 @@ module _ {image index : List ℕ} {h : Header} {place : Place} {trail : Trail} (
   entry-none q = found.entry-none image q place trail (o .spare)
 
   -- entry e opens
-  module _ {e : ℕ} {longer : Trail} (holds : Holds longer (withEntry (readingOf trail) e) (trail .entries + 1) (trail .pairs)) {next : Place} (go : (q : Query) (n p : ℕ) → nodeOf image next (suc n) p ≡ goAt (grammarOf image) q true (nodeOf image place n p) (suc e)) where
+  module _ (e : ℕ) {longer : Trail} (holds : Holds longer (withEntry (readingOf trail) e) (trail .entries + 1) (trail .pairs)) (next : Place) (go : (q : Query) (n p : ℕ) → nodeOf image next (suc n) p ≡ goAt (grammarOf image) q true (nodeOf image place n p) (suc e)) where
     pub open-underway : Standing image next → Underway image index h next longer
     open-underway s = record { accepted = o .underway .accepted; indexed = o .underway .indexed; stands = s; short = holds .short }
 
-    opened : (q : Query) → next .ended ≡ false
+    opened : (q : Query) → eqb (next .last) ended ≡ false
     unfolding nodeOf goAt
     opened q = ap (λ (n : Node). n .ended) (go q 0 0)
 
@@ -153,14 +165,14 @@ module _ {image index : List ℕ} {h : Header} {place : Place} {trail : Trail} {
       pub pair-underway : Underway image index h next longer
       pair-underway = record { accepted = o .underway .accepted; indexed = o .underway .indexed; stands = took .stands t; short = holds .short }
 
-      same-ended : next .ended ≡ place .ended
+      same-ended : eqb (next .last) ended ≡ eqb (place .last) ended
       unfolding nodeOf goAt
       same-ended = ap (λ (n : Node). n .ended) (took .node-is t 0 0)
 
       pub pair-less : stepsAfter place trail ≡ suc (stepsAfter next longer)
-      pair-less = rw same-ended (go (place .ended))
+      pair-less = rw same-ended (go (eqb (place .last) ended))
         where
-          go : (ended : Bool) → stepsLeft ended (trail .entries) (trail .pairs) ≡ suc (stepsLeft ended (longer .entries) (longer .pairs))
+          go : (b : Bool) → stepsLeft b (trail .entries) (trail .pairs) ≡ suc (stepsLeft b (longer .entries) (longer .pairs))
           go true = omega (arith, holds .entries-are, holds .pairs-are, o .spare)
           go false = omega (arith, holds .entries-are, holds .pairs-are, o .spare)
 

@@ -5,8 +5,8 @@ use native.Mathlib.Decide.{decLt}
 use mathlib.Core.Bool.{Bool, true, false, not, true≢false}
 use mathlib.Core.Path.{_≡_, refl, sym, ap, _∙_}
 use mathlib.Core.List.{List, [], _∷_}
-use lib.Dec.{T}
-use borrow.Author.Tests.{le-leb, lt-leb}
+use lib.Dec.{T, eqb}
+use borrow.Author.Tests.{le-leb, lt-leb, eqb-true}
 use Rattle.model.specs.Lists.{every, within, byte}
 use Rattle.model.specs.Blocks.{header}
 use Rattle.model.specs.GrammarOf.{grammarOf}
@@ -14,7 +14,7 @@ use Rattle.model.specs.Query.{Query}
 use Rattle.model.specs.Tree.{opens, complete}
 use Rattle.model.proofs.Booleans.{and-out, within-out}
 use Rattle.listing.specs.declared.place.Place.{Place}
-use Rattle.listing.specs.Places.{restOf, nodeOf, Standing}
+use Rattle.listing.specs.Places.{ended, restOf, nodeOf, Standing}
 use Rattle.listing.specs.Search.{headOf}
 use Rattle.listing.proofs.Taking.{part-nil, part-cons}
 use Rattle.search.specs.Here.{opensAt}
@@ -28,7 +28,7 @@ module _ (image : List ℕ) (place : Place) (stands : Standing image place) wher
   rest-none : place .to ≤ place .from → restOf image place ≡ []
   rest-none h = part-nil image (place .from) (place .to) (stands .in-image) h
 
-  rest-some : place .from < place .to → restOf image place ≡ byte image (place .from) ∷ restOf image (record { from = suc (place .from); to = place .to; last = place .last; ended = place .ended; nulls = place .nulls; surface = place .surface; states = place .states })
+  rest-some : place .from < place .to → restOf image place ≡ byte image (place .from) ∷ restOf image (record { from = suc (place .from); to = place .to; last = place .last; nulls = place .nulls; surface = place .surface; states = place .states })
   rest-some h = part-cons image (place .from) (place .to) (stands .in-image) h
 
   pub opens-is : (n m : ℕ) → opens (nodeOf image place n m) ≡ opensAt place
@@ -54,10 +54,10 @@ module _ (image : List ℕ) (place : Place) (stands : Standing image place) wher
   not-ended q n m h = rw (rest-some h) refl
 
 -- where no letter is left and no entry opens, the path has ended
-pub ended-here : (place : Place) → opensAt place ≡ false → place .to ≤ place .from → place .ended ≡ true
+pub ended-here : (place : Place) → opensAt place ≡ false → place .to ≤ place .from → place .last ≡ ended
 unfolding opensAt
-ended-here place e h = go (place .ended) (rw (le-leb (place .to) (place .from) h) at e)
+ended-here place e h = eqb-true (place .last) ended (go (eqb (place .last) ended) (rw (le-leb (place .to) (place .from) h) at e))
   where
-    go : (ended : Bool) → not ended ≡ false → ended ≡ true
+    go : (b : Bool) → not b ≡ false → b ≡ true
     go true e = refl
     go false e = absurd (true≢false e)

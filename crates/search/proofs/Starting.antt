@@ -19,6 +19,7 @@ use Rattle.rows.specs.declared.Trail.{Trail}
 use Rattle.rows.specs.Trail.{Holds}
 use Rattle.listing.specs.declared.place.Place.{Place}
 use Rattle.listing.specs.Gather.{gather, stepsFrom}
+use Rattle.listing.specs.Places as places
 use Rattle.listing.specs.Places.{waysAfter, stopsAfter, nodeOf}
 use Rattle.listing.specs.Search.{nodeAt, foundAt}
 use Rattle.listing.proofs.Gather.{readings-gathered}
@@ -26,7 +27,7 @@ use Rattle.search.specs.Here.{Underway}
 
 -- the root, with these states
 abbrev pub root : List ℕ → Place
-root states = record { from = 0; to = 0; last = 65535; ended = false; nulls = 0; surface = record { letters = 0; nulls = 0 }; states = states }
+root states = record { from = 0; to = 0; last = places.root; nulls = 0; surface = record { letters = 0; nulls = 0 }; states = states }
 
 -- the readings, by whether all rules are alive after the front
 module _ (image : List ℕ) (q : Query) {lives : Bool} {states : List ℕ} (front : BegunOf image lives states) where

@@ -51,3 +51,6 @@ module _ {S : Type 0} {step : S → Reading → S} {f : ℕ → List Reading} {s
 -- the state in two variables
 pub turns-is : {A B : Type 0} {step : A × B → Reading → A × B} {f : ℕ → List Reading} {s₀ : A × B} {a a′ : A} {b b′ : B} {k : ℕ} → Turns step f s₀ (a, b) k → a′ ≡ a → b′ ≡ b → Turns step f s₀ (a′, b′) k
 turns-is p e1 e2 = rw (e1, e2) p
+
+pub state-is : {A B : Type 0} {s : A × B} {a a′ : A} {b b′ : B} → (a, b) ≡ s → a′ ≡ a → b′ ≡ b → (a′, b′) ≡ s
+state-is p e1 e2 = rw (e1, e2) p

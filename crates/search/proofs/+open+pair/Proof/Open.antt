@@ -1,91 +1,151 @@
--- The needs of `open`. At its loop's head an `Opening` is known; each turn offers what one entry finds, or passes over an entry that finds nothing.
-use Prim.Native.Nat.{ℕ, _<_, _+_, _-_}
+-- The needs of `open`. Where the path may end, that is offered first. At the loop's head an `Opening` is known, and the next entry that may open; each turn
+-- offers what it finds, or passes over it where it finds nothing.
+use Prim.Native.Nat.{ℕ, _+_, _<_, _≤_}
+use native.Mathlib.Decide.{decLt}
 use native.Mathlib.Omega.{arith}
 use borrow.Author.Needs.{needs}
+use mathlib.Core.Bool.{Bool, false}
 use mathlib.Core.Logic.{⊎-elim}
-use mathlib.Core.Path.{refl, sym, _∙_}
+use mathlib.Core.Path.{_≡_, refl, sym, ap, _∙_, subst}
+use mathlib.Core.List.{List, []}
+use lib.ListN.{length, set}
+use Rattle.model.specs.Blocks.{Header, header}
 use Rattle.model.specs.Query.{Query}
+use Rattle.model.specs.Readings.{Reading}
 use Rattle.image.specs.Header.{headerOf}
+use Rattle.rows.specs.declared.Trail.{Trail}
+use Rattle.rows.specs.Trail.{readingOf, withEntry, Holds}
+use Rattle.rows.specs.Fill.{put}
+use Rattle.rows.specs.Offering.{offerAll}
+use Rattle.rows.proofs.Longer.{longer-entry}
 use Rattle.rows.proofs.Offering.{offer-none}
 use Rattle.rows.proofs.Fill.{put-keeps}
 use Rattle.listing.specs.Asked.{pathPattern, queryBy}
-use Rattle.search.proofs.Turns.{turns-none, turns-more, turns-skip, turns-stop, turns-all, turns-is}
-use Rattle.search.proofs.Heads.{Opening, onward-in, open-last, range-end, entry-few, open-found, open-underway, open-less, open-turn}
+use Rattle.listing.specs.Opening.{mayEnter, Ranged, NextOf}
+use Rattle.listing.proofs.Searching.{stopOne, stop-none, entryOne}
+use Rattle.search.proofs.Turns.{Turns, turns-none, turns-more, turns-skip, turns-far, turns-stop, turns-all, turns-is, state-is}
+use Rattle.search.proofs.Heads.{Opening, last-in, stop-underway, stop-less, stop-turn, open-last, entry-few, open-offered, entry-none, open-underway, open-less, open-turn}
 use Rattle.search.proofs.FirstLetters.{Known, known-none, known-more}
 use Rattle.search.proofs.+open+pair.Lts-open as lts
 use Rattle.search.proofs.+open+pair.Proof.Shared.{OfOpen}
 
+-- none may open before the next one
+before-next : {may : ℕ → Bool} {bound low high e : ℕ} → Ranged may bound low high → NextOf may bound low e → (k : ℕ) → k < e → may k ≡ false
+before-next {may} {bound} {low} r next k h = go (decLt k low)
+  where
+    go : Dec (k < low) → may k ≡ false
+    go (yes l) = r .before k l
+    go (no l) = next .passed k (omega arith) h
+
 module _ (t : ℕ) where
-  -- the places that the needs speak of: where the range of entries is known, a turn with rows to spare, its entry's first letter, and what is known of it
+  -- the places that the needs speak of: where the ending has been offered, where the first entry is known, a turn, its entry's first letter, what is known of it,
+  -- and where its entry opens
+  abbrev Stopped : Type 0
+  Stopped = OfOpen t lts.Joined1
+
   abbrev Head : Type 0
-  Head = OfOpen t lts.After-struct-known2
+  Head = OfOpen t lts.After-next-entry
 
   abbrev Turn : Type 0
-  Turn = OfOpen t lts.Else2
+  Turn = OfOpen t lts.In-loop
 
   abbrev First : Type 0
-  First = OfOpen t lts.After-struct-known3
+  First = OfOpen t lts.After-struct-known2
 
   abbrev Looked : Type 0
   Looked = OfOpen t lts.Joined3
 
+  abbrev Entered : Type 0
+  Entered = OfOpen t lts.After-enter
+
   -- from each of them back to the one before
+  abbrev first : Stopped → OfOpen t lts.Start
+  first w = w .before .before .before .before .before .before .before
+
+  abbrev stopped : Head → Stopped
+  stopped w = w .before .before .before .before
+
   abbrev start : Head → OfOpen t lts.Start
-  start w = w .before .before .before .before .before .before .before .before .before
+  start w = first (stopped w)
 
   abbrev head : Turn → Head
-  head c = c .before .before .before
+  head c = c .before .before
 
   abbrev turn : First → Turn
   turn c = c .before .before
 
+  abbrev entered : Entered → Turn
+  entered c = turn (c .before .before .before .before)
+
   abbrev query : OfOpen t lts.Start → Query
   query s = queryBy (s .args .asked) (s .args .path .now) (s .args .word .now)
 
-  abbrev low : Head → ℕ
-  low w = w .before .open-range .result .low
+  -- whether the path ends here
+  pub may-stop-requires : OfOpen t lts.Need-may-stop-requires
+  may-stop-requires c κs = let underway = c .before .before .before .before .before .pre .1 .0 in (underway .accepted, underway .stands)
 
-  abbrev high : Head → ℕ
-  high w = w .before .open-range .result .high
+  pub stop-requires : OfOpen t lts.Need-stop-requires
+  stop-requires c κs = search needs
 
-  opening : (w : Head) → let a = start w .args in Opening (a .image .now) (a .index .now) (headerOf (a .h)) (query (start w)) (a .place) (a .trail) (low w) (high w)
-  opening w = let s = start w in record { underway = s .pre .1 .0; open-here = s .pre .1 .1 .0; spare = w .before .before .if1 .left; ranged = w .before .open-range .ensures }
+  pub pair-requires : OfOpen t lts.Need-pair-requires
+  pair-requires c κs =
+      let s = c .before .before .before .before .before .before .before .before .before in
+      let place = c .before .stop in
+      let less = stop-less (s .pre .1 .0) (s .pre .1 .1 .0) (place .result) (place .ensures .0) (query s) in
+      (omega (arith, s .pre .0, less), (stop-underway (s .pre .1 .0) (s .pre .1 .1 .0) (place .result) (place .ensures .0) (place .ensures .1), s .pre .1 .1 .1))
 
-  -- before the loop
-  pub returns : OfOpen t lts.Need-returns
-  returns c = let s = c .before .before .before .before .before .before .before in rw (open-last (s .pre .1 .0) (query s) (s .pre .1 .1 .0) (c .if1 .taken)) (sym (offer-none _ _))
+  -- what the ending finds has been offered
+  ending : (w : Stopped) → let s = first w in (w .if1 .out, w .if1 .n) ≡ offerAll (put (s .args .capacity)) (s .args .out .now, s .args .found) (stopOne (s .args .image .now) (query s) (s .args .place) (s .args .trail))
+  ending w =
+      let s = first w in
+      let a = s .args in
+      let may = w .before .may-stop .ensures in
+      let offered : List Reading → List ℕ × ℕ = offerAll (put (a .capacity)) (a .out .now, a .found) in
+      ⊎-elim
+      (λ v. state-is (v .3 .ensures ∙ ap offered (stop-turn (s .pre .1 .0) (s .pre .1 .1 .0) (v .1 .result) (v .1 .ensures .0) (query s) (sym may ∙ v .0 .taken))) (v .6) (v .7))
+      (λ v. state-is (sym (ap offered (stop-none (a .image .now) (query s) (a .place) (a .trail) (sym may ∙ v .0 .left)) ∙ offer-none _ _)) (v .1) (v .2))
+      (w .if1 .came)
 
-  pub open-range-requires : OfOpen t lts.Need-open-range-requires
-  open-range-requires c κs =
-      let s = c .before .before .before .before .before .before .before in
-      let underway = s .pre .1 .0 in
-      (underway .accepted, (underway .indexed, onward-in underway (s .pre .1 .1 .0)))
-
-  pub sub-count : OfOpen t lts.Need-sub-count
-  sub-count c = c .before .open-range .ensures .in-order
-
-  pub loop-holds : OfOpen t lts.Need-loop-holds
-  loop-holds c = (search needs, (refl, (turns-none, known-none)))
+  kept : (w : Stopped) → length (w .if1 .out) ≡ length (first w .args .out .now)
+  kept w = ⊎-elim (λ v. ap length (v .6) ∙ v .3 .kept .1 .1 .1 .1 .1 .1 .1 .1 .0) (λ v. ap length (v .1)) (w .if1 .came)
 
   pub same-length : OfOpen t lts.Need-same-length
-  same-length c = search needs
+  same-length c = kept (c .before .before)
 
-  -- the rows are full
-  pub returns-2 : OfOpen t lts.Need-returns-2
-  returns-2 c =
-      let w = c .before .before .before in
-      let loop = c .before .before .loop in
-      rw (open-found (opening w)) (turns-stop (put-keeps (start w .args .capacity)) (high w - low w) (loop .inv .1 .1 .0) (loop .inv .0) (c .if2 .taken))
+  -- with no entry to spare
+  pub returns : OfOpen t lts.Need-returns
+  returns c = let w = c .before .before in let s = first w in rw (open-last (s .pre .1 .0) (query s) (s .pre .1 .1 .0) (c .if2 .taken)) (ending w)
 
-  -- the entry of a turn
-  pub add-e : OfOpen t lts.Need-add-e
-  add-e c = omega (arith, entry-few (opening (head c)) (c .before .before .loop .k) (c .before .loop-test .taken))
+  opening : (w : Head) → let a = start w .args in Opening (a .image .now) (a .index .now) (headerOf (a .h)) (a .place) (a .trail)
+  opening w = let s = start w in record { underway = s .pre .1 .0; open-here = s .pre .1 .1 .0; spare = w .before .before .if2 .left }
 
-  inside : (c : Turn) → low (head c) + c .before .before .loop .k < start (head c) .args .h .entries
-  inside c = omega (arith, c .before .loop-test .taken, range-end (opening (head c)))
+  pub ways-on-requires : OfOpen t lts.Need-ways-on-requires
+  ways-on-requires c κs =
+      let s = first (c .before .before) in
+      let underway = s .pre .1 .0 in
+      (underway .accepted, (underway .indexed, last-in underway (s .pre .1 .1 .0)))
+
+  -- the entries that may open
+  ways : (w : OfOpen t lts.After-ways-on) → let a = first (w .before .before .before) .args in Ranged (mayEnter (a .image .now) (query (first (w .before .before .before)) .entries) (a .place .last) (a .trail .entries)) (a .h .entries) (w .ways-on .result .low) (w .ways-on .result .high)
+  ways w =
+      let s = first (w .before .before .before) in
+      let a = s .args in
+      subst (λ (n : ℕ). Ranged (mayEnter (a .image .now) (query s .entries) (a .place .last) (a .trail .entries)) n (w .ways-on .result .low) (w .ways-on .result .high)) (ap (λ (g : Header). g .entries) (sym (s .pre .1 .0 .accepted .laid .header-is))) (w .ways-on .ensures)
+
+  pub next-entry-requires : OfOpen t lts.Need-next-entry-requires
+  next-entry-requires c κs = (omega arith, ways c .low-in)
+
+  pub loop-holds : OfOpen t lts.Need-loop-holds
+  loop-holds c =
+      let s = start c in
+      let a = s .args in
+      let r = ways (c .before) in
+      let next = c .next-entry .ensures _ r in
+      let none : (e : ℕ) → e < c .next-entry .result → entryOne (a .image .now) (query s) (a .place) (a .trail) e ≡ [] = λ e k. entry-none (opening c) (query s) e (before-next r next e k) in
+      ((next .onward, (next .in-bound, next .passes)), (refl, (turns-far (c .next-entry .result) turns-none (omega arith) (λ e i k. none e k), known-none)))
 
   pub first-letter-requires : OfOpen t lts.Need-first-letter-requires
-  first-letter-requires c κs = (opening (head c) .underway .accepted, inside c)
+  first-letter-requires c κs = (opening (head c) .underway .accepted, c .loop-test .taken)
 
   -- what is known of its first letter
   letter-few : (c : First) → c .before .first-letter .result .0 < 128
@@ -101,7 +161,7 @@ module _ (t : ℕ) where
   look-requires c κs =
       let here = turn (c .before) in
       let underway = opening (head here) .underway in
-      (underway .accepted, (underway .indexed, (underway .stands, (inside here, c .before .before .first-letter .ensures))))
+      (underway .accepted, (underway .indexed, (underway .stands, (here .loop-test .taken, c .before .before .first-letter .ensures))))
 
   pub array-write-known : OfOpen t lts.Need-array-write-known
   array-write-known c = letter-few (c .before .before)
@@ -110,76 +170,115 @@ module _ (t : ℕ) where
   looked c =
       let first = c .before in
       let w = head (turn first) in
-      let loop = turn first .before .before .loop in
+      let loop = turn first .before .loop in
       let letter = first .before .first-letter in
+      let a = start w .args in
       ⊎-elim
-      (λ v. rw (v .2) (known-more (loop .inv .1 .1 .1) (low w + loop .k) (letter .result .0) (v .1 .result) (letter-few first) (letter .ensures .0) (v .1 .ensures (pathPattern (start w .args .asked .path) (start w .args .path .now)))))
+      (λ v. rw (v .2) (known-more (loop .inv .1 .1 .1) (loop .e) (letter .result .0) (v .1 .result) (letter-few first) (letter .ensures .0) (v .1 .ensures (pathPattern (a .asked .path) (a .path .now)))))
       (λ v. rw (v .1) (loop .inv .1 .1 .1))
       (c .if3 .came)
 
   pub array-read-if4 : OfOpen t lts.Need-array-read-if4
   array-read-if4 c = letter-few (c .before)
 
+  -- the rows are full
+  pub same-length-2 : OfOpen t lts.Need-same-length-2
+  same-length-2 c = let here = turn (c .before .before .before) in here .before .loop .inv .1 .0 ∙ kept (stopped (head here))
+
+  pub returns-2 : OfOpen t lts.Need-returns-2
+  returns-2 c =
+      let here = turn (c .before .before .before) in
+      let w = head here in
+      let s = start w in
+      let loop = here .before .loop in
+      open-offered (opening w) (query s) (put (s .args .capacity)) (s .args .out .now, s .args .found) (ending (stopped w))
+      (turns-stop (put-keeps (s .args .capacity)) (s .args .h .entries) (loop .inv .1 .1 .0) (loop .inv .0 .1 .0) (c .if5 .taken))
+
   -- its entry opens
   pub enter-requires : OfOpen t lts.Need-enter-requires
   enter-requires c κs =
-      let here = turn (c .before .before) in
-      let underway = opening (head here) .underway in
-      (underway .accepted, (underway .stands, inside here))
-
-  pub cast-with-entry : OfOpen t lts.Need-cast-with-entry
-  cast-with-entry c =
       let here = turn (c .before .before .before) in
-      omega (arith, entry-few (opening (head here)) (here .before .before .loop .k) (here .before .loop-test .taken))
+      let underway = opening (head here) .underway in
+      (underway .accepted, (underway .stands, here .loop-test .taken))
 
-  pub with-entry-requires : OfOpen t lts.Need-with-entry-requires
-  with-entry-requires c κs = let o = opening (head (turn (c .before .before .before))) in (o .underway .short, o .spare)
+  pub cast-longer : OfOpen t lts.Need-cast-longer
+  cast-longer c = let here = entered c in omega (arith, entry-few (opening (head here)) (here .before .loop .e) (here .loop-test .taken))
 
-  pub pair-requires : OfOpen t lts.Need-pair-requires
-  pair-requires c κs =
-      let here = turn (c .before .before .before .before .before) in
+  pub mul-longer : OfOpen t lts.Need-mul-longer
+  mul-longer c = omega (arith, opening (head (entered c)) .spare)
+
+  pub element-write-longer : OfOpen t lts.Need-element-write-longer
+  element-write-longer c = opening (head (entered c)) .spare
+
+  pub add-longer : OfOpen t lts.Need-add-longer
+  add-longer c = omega (arith, opening (head (entered c)) .spare)
+
+  -- the trail with it
+  longer : (c : Turn) → let a = start (head c) .args in let e = c .before .loop .e in
+      Holds (record { path = set (a .trail .path) (a .trail .entries) e; entries = a .trail .entries + 1; pairing = a .trail .pairing; pairs = a .trail .pairs }) (withEntry (readingOf (a .trail)) e) (a .trail .entries + 1) (a .trail .pairs)
+  longer c =
+      let o = opening (head c) in
+      let a = start (head c) .args in
+      let good = start (head c) .good .1 .1 .1 .1 .1 .1 .1 .0 in
+      let spare = o .spare in
+      let room : a .trail .entries < length (a .trail .path) = search needs in
+      longer-entry (a .trail) (o .underway .short) (o .spare) room (c .before .loop .e)
+
+  pub pair-requires-2 : OfOpen t lts.Need-pair-requires-2
+  pair-requires-2 c κs =
+      let at = c .before in
+      let here = entered at in
       let w = head here in
       let s = start w in
-      let loop = here .before .before .loop in
-      let longer = c .before .with-entry in
-      let less = open-less (opening w) (loop .k) (longer .ensures) in
-      (omega (arith, s .pre .0, less), (open-underway (opening w) (loop .k) (longer .ensures) (c .before .before .enter .ensures .1), (rw (loop .inv .1 .0) (s .pre .1 .1 .1 .0), here .if2 .left)))
+      let o = opening w in
+      let loop = here .before .loop in
+      let next = at .enter in
+      let holds = longer here in
+      let less = open-less o (loop .e) holds (next .result) (next .ensures .0) (query s) in
+      (omega (arith, s .pre .0, less), (open-underway o (loop .e) holds (next .result) (next .ensures .0) (next .ensures .1), (rw (loop .inv .1 .0, kept (stopped w)) (s .pre .1 .1 .1 .0), at .before .if5 .left)))
 
-  pub add-k : OfOpen t lts.Need-add-k
-  add-k c = search needs
+  pub add-next-entry : OfOpen t lts.Need-add-next-entry
+  add-next-entry c = let here = turn (c .before .before) in omega (arith, entry-few (opening (head here)) (here .before .loop .e) (here .loop-test .taken))
+
+  pub next-entry-requires-2 : OfOpen t lts.Need-next-entry-requires-2
+  next-entry-requires-2 c κs = let here = turn (c .before .before) in (omega (arith, here .before .loop .inv .0 .0), omega (arith, here .loop-test .taken))
 
   pub loop-less : OfOpen t lts.Need-loop-less
-  loop-less c = search needs
+  loop-less c =
+      let here = turn (c .before .before .before) in
+      let next = c .next-entry2 .ensures _ (ways (head here .before)) in
+      omega (arith, next .onward, here .loop-test .taken, next .in-bound)
 
-  -- after a turn: the entry that opened has offered what it finds, or the one passed over finds nothing
   pub loop-again : OfOpen t lts.Need-loop-again
   loop-again c =
-      let joined = c .before in
+      let done = c .before in
+      let joined = done .before in
       let here = turn (joined .before) in
       let w = head here in
-      let loop = here .before .before .loop in
-      let letter = joined .before .before .first-letter in (
-        omega (arith, here .before .loop-test .taken),
+      let s = start w in
+      let o = opening w in
+      let loop = here .before .loop in
+      let letter = joined .before .before .first-letter in
+      let next = c .next-entry2 .ensures _ (ways (w .before)) in
+      let passed =
+          ⊎-elim
+          (λ v. turns-is (turns-more _ (loop .inv .1 .1 .0) (v .4 .ensures) (open-turn o (loop .e) (longer here) (v .2 .result) (v .2 .ensures .0) (query s) (loop .inv .0 .1 .1 (here .loop-test .taken)))) (v .7) (v .8))
+          (λ v. turns-is (turns-skip (loop .inv .1 .1 .0) (looked joined .barren (letter .result .0) (v .0 .left) (loop .e) (sym (letter .ensures .0)))) (v .1) (v .2))
+          (done .if4 .came) in (
+        (omega (arith, next .onward, loop .inv .0 .0), (next .in-bound, next .passes)),
         (
-          ⊎-elim (λ v. rw (v .7) (v .4 .kept .1 .1 .1 .1 .1 .1 .1 .1 .0 ∙ loop .inv .1 .0)) (λ v. rw (v .1) (loop .inv .1 .0)) (c .if4 .came),
-          (
-            ⊎-elim
-                (λ v.
-                let next = v .1 in
-                let longer = v .2 in
-                turns-is (turns-more _ (loop .inv .1 .1 .0) (v .4 .ensures) (open-turn (opening w) (loop .k) (longer .ensures) (next .result) (next .ensures .0))) (v .7) (v .8))
-                (λ v. turns-is (turns-skip (loop .inv .1 .1 .0) (looked joined .barren (letter .result .0) (v .0 .left) (low w) (loop .k) (sym (letter .ensures .0)))) (v .1) (v .2))
-                (c .if4 .came),
-            looked joined,
-          ),
+          ⊎-elim (λ v. ap length (v .7) ∙ v .4 .kept .1 .1 .1 .1 .1 .1 .1 .1 .0 ∙ loop .inv .1 .0) (λ v. ap length (v .1) ∙ loop .inv .1 .0) (done .if4 .came),
+          (turns-far (c .next-entry2 .result) passed (next .onward) (λ e i k. entry-none o (query s) e (next .passed e i k)), looked joined),
         ),
       )
 
-  pub same-length-2 : OfOpen t lts.Need-same-length-2
-  same-length-2 c = search needs
+  pub same-length-3 : OfOpen t lts.Need-same-length-3
+  same-length-3 c = let at = c .before in at .loop .inv .1 .0 ∙ kept (stopped (at .before))
 
   pub returns-3 : OfOpen t lts.Need-returns-3
   returns-3 c =
-      let w = c .before .before in
-      let loop = c .before .loop in
-      rw (open-found (opening w)) (turns-all (high w - low w) (loop .inv .1 .1 .0) (omega (arith, c .loop-test .left, loop .inv .0)))
+      let at = c .before in
+      let w = at .before in
+      let s = start w in
+      open-offered (opening w) (query s) (put (s .args .capacity)) (s .args .out .now, s .args .found) (ending (stopped w))
+      (turns-all (s .args .h .entries) (at .loop .inv .1 .1 .0) (omega (arith, c .loop-test .left, at .loop .inv .0 .1 .0)))

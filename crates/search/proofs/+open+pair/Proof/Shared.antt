@@ -1,17 +1,21 @@
 -- What the two members of the cycle share: the measures, what each is given at the measure t and what a call of it asks below t, the invariants.
 use Prim.Native.Nat.{ℕ, _<_, _≤_, _+_, _*_, _-_}
+use mathlib.Core.Bool.{true}
 use mathlib.Core.Path.{_≡_}
 use lib.ListN.{length}
 use borrow.Fn.Kinds.{In, Out}
 use borrow.Fn.PlainCycle.{Measures, is, falls, and}
 use Rattle.rows.specs.Fill.{put}
 use Rattle.listing.specs.Asked.{queryBy}
-use Rattle.listing.proofs.Searching.{openOne}
-use Rattle.listing.proofs.opening.open_range.Reads as open-range-reads
+use Rattle.listing.specs.Opening.{mayEnter}
+use Rattle.listing.proofs.Searching.{entryOne}
+use Rattle.listing.proofs.opening.next_entry.Reads as next-entry-reads
+use Rattle.listing.proofs.opening.ways_on.Reads as ways-on-reads
 use Rattle.listing.proofs.pairing.take.Reads as take-reads
 use Rattle.listing.proofs.place.enter.Reads as enter-reads
-use Rattle.rows.proofs.with_entry.Reads as with-entry-reads
-use Rattle.rows.proofs.with_pair.Reads as with-pair-reads
+use Rattle.listing.proofs.place.may_stop.Reads as may-stop-reads
+use Rattle.listing.proofs.place.only_stops.Reads as only-stops-reads
+use Rattle.listing.proofs.place.stop.Reads as stop-reads
 use Rattle.search.proofs.Turns.{Turns}
 use Rattle.search.proofs.Heads.{stepsAfter, candidateOne}
 use Rattle.search.proofs.FirstLetters.{Known}
@@ -30,10 +34,10 @@ use Rattle.search.proofs.starts.first_letter.Reads as first-letter-read
 use Rattle.search.proofs.starts.look.Reads as look-reads
 
 abbrev pub μ-open : Measures 5 open-kinds.ps ℕ
-μ-open κs a = 2 * stepsAfter (a .1 .1 .1 .1 .1 .1 .1 .0)
+μ-open κs a = 2 * stepsAfter (a .1 .1 .1 .1 .1 .1 .0) (a .1 .1 .1 .1 .1 .1 .1 .0)
 
 abbrev pub μ-pair : Measures 5 pair-kinds.ps ℕ
-μ-pair κs a = 2 * stepsAfter (a .1 .1 .1 .1 .1 .1 .1 .0) + 1
+μ-pair κs a = 2 * stepsAfter (a .1 .1 .1 .1 .1 .1 .0) (a .1 .1 .1 .1 .1 .1 .1 .0) + 1
 
 abbrev pub open-at : ℕ → In 5 open-kinds.ps
 open-at t = and 5 open-kinds.ps (is 5 open-kinds.ps μ-open t) open.Pre
@@ -49,24 +53,34 @@ pair-below t = and 5 pair-kinds.ps (falls 5 pair-kinds.ps _<_ μ-pair t) pair.Pr
 
 abbrev pub open-claims : ℕ → open-lts.Claims
 open-claims t = (
-  open-range-reads.Asked,
-  open-range-reads.Learnt,
+  may-stop-reads.Asked,
+  may-stop-reads.Learnt,
+  stop-reads.Asked,
+  stop-reads.Learnt,
+  pair-below t,
+  pair.Post,
+  ways-on-reads.Asked,
+  ways-on-reads.Learnt,
+  next-entry-reads.Asked,
+  next-entry-reads.Learnt,
   first-letter-reads.Asked,
   first-letter-reads.Learnt,
   look-reads.Asked,
   look-reads.Learnt,
   enter-reads.Asked,
   enter-reads.Learnt,
-  with-entry-reads.Asked,
-  with-entry-reads.Learnt,
-  pair-below t,
-  pair.Post,
 )
 
 abbrev pub pair-claims : ℕ → pair-lts.Claims
 pair-claims t = (
   opens-at-reads.Asked,
   opens-at-reads.Learnt,
+  only-stops-reads.Asked,
+  only-stops-reads.Learnt,
+  stop-reads.Asked,
+  stop-reads.Learnt,
+  pair-below t,
+  pair.Post,
   open-below t,
   open.Post,
   put-ended-reads.Asked,
@@ -79,18 +93,17 @@ pair-claims t = (
   candidate-reads.Learnt,
   take-reads.Asked,
   take-reads.Learnt,
-  with-pair-reads.Asked,
-  with-pair-reads.Learnt,
-  pair-below t,
-  pair.Post,
 )
 
+-- entry e is the next that may open, and those before it have offered what they find
 abbrev pub open-Inv-loop : open-lts.InvT-loop
-open-Inv-loop image index h asked path word place trail out₀ capacity found low count asks known₀ n₀ k₀ out known n k =
-    (k ≤ count) × ((length out ≡ length out₀) × (Turns (put capacity) (openOne image (queryBy asked path word) place trail low) (out₀, found) (out, n) k × Known image (queryBy asked path word) place trail known))
+open-Inv-loop image index h asked path word place trail out₀ capacity found n₀ asks ways entries known₀ e₀ out n known e =
+    let q = queryBy asked path word in
+    ((ways .low ≤ e) × ((e ≤ h .entries) × (e < h .entries → mayEnter image (q .entries) (place .last) (trail .entries) e ≡ true)))
+    × ((length out ≡ length out₀) × (Turns (put capacity) (entryOne image q place trail) (out₀, n₀) (out, n) e × Known image q place trail known))
 
 abbrev pub open-μ-loop : open-lts.MeasureT-loop
-open-μ-loop image index h asked path word place trail out₀ capacity found low count asks known₀ n₀ k₀ out known n k = count - k
+open-μ-loop image index h asked path word place trail out₀ capacity found n₀ asks ways entries known₀ e₀ out n known e = entries - e
 
 abbrev pub pair-Inv-loop : pair-lts.InvT-loop
 pair-Inv-loop image index h asked path word place trail out₀ capacity found ended letter asks many n₀ k₀ out n k =

@@ -5,7 +5,7 @@ use native.Mathlib.Omega.{arith}
 use mathlib.Core.Path.{_∙_, sym}
 use Rattle.rows.proofs.Offering.{offer-none, offer-one}
 use Rattle.listing.specs.Asked.{queryBy}
-use Rattle.search.proofs.Standing.{not-ended, ended-onward}
+use Rattle.search.proofs.Standing.{not-ended, ended-here}
 use Rattle.search.proofs.here.put_ended.Statement.{statement}
 use Rattle.search.proofs.here.put_ended.Tie as tie
 
@@ -19,7 +19,7 @@ ends-requires : tie.Need-ends-requires
 ends-requires c κs =
     let start = c .before .before .before .before .before .before .before in
     let underway = start .pre .0 in
-    (underway .accepted, (underway .indexed, (underway .stands, (omega (arith, c .if1 .left, underway .stands .in-order), ended-onward (start .args .place) (start .pre .1 .0) (c .if1 .left)))))
+    (underway .accepted, (underway .indexed, (underway .stands, (omega (arith, c .if1 .left, underway .stands .in-order), ended-here (start .args .place) (start .pre .1 .0) (c .if1 .left)))))
 
 returns-2 : tie.Need-returns-2
 returns-2 c =
