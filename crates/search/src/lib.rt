@@ -75,7 +75,19 @@ pub fn open(
         if known[at] != 1 {
             let next = listing::place::enter(image, h, place, e);
             let longer = rows::with_entry(trail, e as u16);
-            n = pair(image, index, h, asked, path, word, next, longer, out, capacity, n);
+            n = pair(
+                image,
+                index,
+                h,
+                asked,
+                path,
+                word,
+                next,
+                longer,
+                out,
+                capacity,
+                n,
+            );
         }
         k += 1;
     }
@@ -115,7 +127,18 @@ pub fn pair(
             found,
         );
     }
-    let ended = crate::here::put_ended(image, index, h, asked, path, word, place, trail, out, found);
+    let ended = crate::here::put_ended(
+        image,
+        index,
+        h,
+        asked,
+        path,
+        word,
+        place,
+        trail,
+        out,
+        found,
+    );
     if trail.pairs >= 40 {
         return ended;
     }
@@ -133,7 +156,19 @@ pub fn pair(
         if taken.may {
             let next = taken.place;
             let longer = rows::with_pair(trail, p as u8);
-            n = pair(image, index, h, asked, path, word, next, longer, out, capacity, n);
+            n = pair(
+                image,
+                index,
+                h,
+                asked,
+                path,
+                word,
+                next,
+                longer,
+                out,
+                capacity,
+                n,
+            );
         }
         k += 1;
     }
@@ -174,5 +209,17 @@ pub fn search(
         states: states,
     };
     let trail = rows::no_trail();
-    open(image, index, h, asked, path, word, place, trail, out, capacity, 0)
+    open(
+        image,
+        index,
+        h,
+        asked,
+        path,
+        word,
+        place,
+        trail,
+        out,
+        capacity,
+        0,
+    )
 }
