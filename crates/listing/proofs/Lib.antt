@@ -5,3 +5,4 @@ pub mod Places
 pub mod Taking
 pub mod Ranges
 pub mod Searching
+pub mod Both

@@ -9,7 +9,7 @@ use Rattle.model.specs.Lists.{every, joined, sameList}
 use Rattle.model.specs.Lexicon.{linked, pathLength}
 use Rattle.model.specs.Grammar.{Grammar}
 use Rattle.model.specs.Readings.{Reading, isReading, isPath, isLinked, pairingLength, spelled, fewNulls, wordLength, word, passes}
-use Rattle.model.proofs.Booleans.{and-out, out4, out8, within-out}
+use Rattle.model.proofs.Booleans.{and-out, out3, out8, within-out}
 use Rattle.model.proofs.Lists.{every-at}
 use Rattle.print.proofs.Text.{TwoBytes}
 
@@ -20,10 +20,10 @@ pub record Small (r : Reading) : Type 0 where
   pub pairs-small : TwoBytes (r .pairing)
 
 module _ (g : Grammar) (entries-few : g .entries < 65536) (pairs-few : g .pairs < 65536) where
-  linked-small : (may : ℕ → Bool) (ended : Bool) (es : List ℕ) → T (linked (g .entries) (g .follows) (g .ends) may ended es) → TwoBytes es
+  linked-small : (may : ℕ → Bool) (stop : Bool) (es : List ℕ) → T (linked (g .entries) (g .follows) (g .ends) may stop es) → TwoBytes es
   unfolding linked
-  linked-small may ended (e ∷ es) t n (List·Memᴰ·head p) = let u = out4 (not ended) (may e) (ltb e (g .entries)) (linked (g .entries) (g .follows) (g .ends) (g .follows e) (g .ends e) es) t in omega (arith, p, ltb→lt e (g .entries) (u .2))
-  linked-small may ended (e ∷ es) t n (List·Memᴰ·tail m) = linked-small (g .follows e) (g .ends e) es (out4 (not ended) (may e) (ltb e (g .entries)) (linked (g .entries) (g .follows) (g .ends) (g .follows e) (g .ends e) es) t .3) n m
+  linked-small may stop (e ∷ es) t n (List·Memᴰ·head p) = let u = out3 (may e) (ltb e (g .entries)) (linked (g .entries) (g .follows) (g .ends) (g .follows e) (g .ends e) es) t in omega (arith, p, ltb→lt e (g .entries) (u .1))
+  linked-small may stop (e ∷ es) t n (List·Memᴰ·tail m) = linked-small (g .follows e) (g .ends e) es (out3 (may e) (ltb e (g .entries)) (linked (g .entries) (g .follows) (g .ends) (g .follows e) (g .ends e) es) t .2) n m
 
   pub reading-small : (r : Reading) → T (isReading g r) → Small r
   unfolding isReading isPath

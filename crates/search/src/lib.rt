@@ -125,7 +125,18 @@ pub fn pair(
             found,
         );
     }
-    let ended = crate::here::put_ended(image, index, h, asked, path, word, place, trail, out, found);
+    let ended = crate::here::put_ended(
+        image,
+        index,
+        h,
+        asked,
+        path,
+        word,
+        place,
+        trail,
+        out,
+        found,
+    );
     if trail.pairs >= 40 {
         return ended;
     }
@@ -187,5 +198,17 @@ pub fn search(
         states: states,
     };
     let trail = rows::no_trail();
-    open(image, index, h, asked, path, word, place, trail, out, capacity, 0)
+    open(
+        image,
+        index,
+        h,
+        asked,
+        path,
+        word,
+        place,
+        trail,
+        out,
+        capacity,
+        0,
+    )
 }
