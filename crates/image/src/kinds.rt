@@ -70,7 +70,7 @@ pub fn record_start(h: Header, kind: usize, i: usize) -> usize
     requires { ⌜ Limited (headerOf h) ⌝ }
     requires { ⌜ (1 ≤ kind) × (kind < 7) ⌝ }
     requires { ⌜ i < inAll (headerOf h) kind ⌝ }
-    ensures { λ r. ⌜ r ≡ recordStart (headerOf h) kind i ⌝ }
+    ensures { λ r. ⌜ (r ≡ recordStart (headerOf h) kind i) × (r < 65536) ⌝ }
 {
     let most = per_block(h, kind);
     512 * (first_block(h, kind) + i / most) + (4 + width(h, kind) * (i % most))

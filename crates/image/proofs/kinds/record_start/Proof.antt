@@ -65,7 +65,7 @@ add-result-3 c = omega (arith, near c, low (c .before))
 
 returns : tie.Need-returns
 unfolding recordStart
-returns c = rw (c .before .first-block .ensures, c .before .before .per-block .ensures, c .width .ensures) refl
+returns c = (rw (c .before .first-block .ensures, c .before .before .per-block .ensures, c .width .ensures) refl, omega (arith, near c, low (c .before)))
 
 pub record-start-spec : {M : Type 1} → statement M
 record-start-spec =
