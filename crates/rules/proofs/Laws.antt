@@ -10,7 +10,7 @@ use lib.Seq.{getD-take, getD-drop, getD-append-add}
 use lib.Dec.{T, leb, ltb, eqb}
 use borrow.Author.Tests.{lt-ltb, le-leb}
 use Rattle.model.specs.Lists.{below, given, flatMap, isZero, byte, number, numberBytes}
-use Rattle.model.specs.Blocks.{Header, header, blockTotal}
+use Rattle.model.specs.Blocks.{Header, header, kinds, recordStart}
 use Rattle.model.specs.RuleTables.{pairs, boundaryPair, table, columnCount, stateCount, rowsAt, isFinal, nextState, isTable, columnsOf}
 use Rattle.model.specs.Lexicon.{firstEntry}
 use Rattle.model.specs.GrammarOf.{grammarOf}
@@ -21,6 +21,7 @@ use Rattle.model.proofs.Parts.{length-parts, part-at}
 use Rattle.model.proofs.Sealing.{number-back}
 use Rattle.tables.proofs.Laws.{length-columnsOf, right-table, right-column, row-before, next-most}
 use Rattle.image.specs.Laid.{Laid}
+use Rattle.image.proofs.Records.{record-inside, record-byte}
 use Rattle.image.specs.Accepted.{Accepted}
 use Rattle.image.specs.Index.{only, indexRow, columnRow, candidates, candidateRow, ruleRows, lexiconRow, indexOf}
 
@@ -200,9 +201,14 @@ module _ {image : List ℕ} (ok : Accepted image (header image)) where
 
 -- the rules of an accepted image
 module _ {image : List ℕ} (ok : Accepted image (header image)) where
-  pub table-inside : (r : ℕ) → r < header image .rules → (i : ℕ) → i < 512 → 512 * (3 + r) + i < length image
-  unfolding blockTotal
-  table-inside r h i k = omega (arith, ok .laid .whole)
+  -- a byte of rule r's table, in the image
+  pub table-inside : (r : ℕ) → r < header image .rules → (i : ℕ) → i < 506 → recordStart (header image) 4 r + i < length image
+  unfolding kinds
+  table-inside r h i k = record-inside (ok .laid) 4 r i h k
+
+  pub table-byte : (r i : ℕ) → i < 506 → byte (table image r) i ≡ byte image (recordStart (header image) 4 r + i)
+  unfolding kinds
+  table-byte r i k = record-byte (ok .laid) 4 r i k
 
   pub table-ok : (r : ℕ) → r < header image .rules → T (isTable (table image r) (header image .letters))
   table-ok r h = right-table image (of-true (rightTables image) (ok .tables-right)) r h
@@ -218,7 +224,7 @@ module _ {image : List ℕ} (ok : Accepted image (header image)) where
 
   -- where rule r, in state s, finds its next state by a column
   pub next-byte : (r s p : ℕ) → r < header image .rules → p ≤ header image .pairs → 1 ≤ s → s ≤ stateCount (table image r)
-      → (rowsAt (table image r) + (columnCount (table image r) * (s - 1) + getD (columnsOf image r) p 0) < 510)
+      → (rowsAt (table image r) + (columnCount (table image r) * (s - 1) + getD (columnsOf image r) p 0) < 506)
       × (grammarOf image .next r s p ≡ byte (table image r) (rowsAt (table image r) + (columnCount (table image r) * (s - 1) + getD (columnsOf image r) p 0)))
       × (grammarOf image .next r s p ≤ stateCount (table image r))
   unfolding nextState
