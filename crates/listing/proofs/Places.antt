@@ -1,5 +1,5 @@
 -- What opening an entry does to a place, as the model's tree has it.
-use Prim.Native.Nat.{ℕ, suc, _+_, _*_, _-_, _/_, _%_, _<_, _≤_}
+use Prim.Native.Nat.{ℕ, suc, _+_, _-_, _<_, _≤_}
 use native.Mathlib.Omega.{arith}
 use mathlib.Core.Bool.{true}
 use mathlib.Core.Path.{_≡_, sym, ap, ap₂, _∙_, subst}
@@ -8,7 +8,7 @@ use mathlib.Core.List.{List}
 use lib.ListN.{take, drop}
 use lib.Dec.{T, eqb}
 use Rattle.model.specs.Lists.{every, within}
-use Rattle.model.specs.Blocks.{Header, header, entryBlock}
+use Rattle.model.specs.Blocks.{Header, header, recordStart}
 use Rattle.model.specs.Lexicon.{inLexicon, entry, formLength, formOf, continuation}
 use Rattle.model.specs.GrammarOf.{grammarOf}
 use Rattle.model.specs.Query.{Query}
@@ -30,13 +30,13 @@ module _ (image : List ℕ) (h : Header) (a : Accepted image h) (e : ℕ) (insid
   abbrev entered : ℕ → ℕ → ℕ → Place → Place
   entered at len onward place = record { from = at + 1; to = at + 1 + len; onward = onward; nulls = place .nulls; surface = place .surface; states = place .states }
 
-  module _ (at len onward : ℕ) (place : Place) (e1 : at ≡ 512 * (entryBlock h + e / 31) + (4 + 16 * (e % 31))) (e2 : len ≡ formLength (entry image e)) (e3 : onward ≡ continuation (entry image e)) where
+  module _ (at len onward : ℕ) (place : Place) (e1 : at ≡ recordStart h 6 e) (e2 : len ≡ formLength (entry image e)) (e3 : onward ≡ continuation (entry image e)) where
     short : formLength (entry image e) ≤ 12
     short = entries.form-short image h (a .laid) right e inside
 
     start-is : at + 1 ≡ formStart image e
     unfolding formStart
-    start-is = let f = ap (λ (g : Header). 512 * (entryBlock g + e / 31) + (5 + 16 * (e % 31))) (a .laid .header-is) in omega arith
+    start-is = ap (λ (n : ℕ). n + 1) (e1 ∙ ap (λ (g : Header). recordStart g 6 e) (a .laid .header-is))
 
     rest-is : restOf image (entered at len onward place) ≡ formOf (entry image e)
     rest-is =
