@@ -9,8 +9,9 @@ use lib.ListN.{length, getD, take, drop, length-take, length-drop}
 use lib.Seq.{getD-take, getD-drop}
 use lib.Dec.{eqb}
 use Rattle.model.specs.Lists.{sum, byte}
-use Rattle.model.specs.Blocks.{Header, header, Kind, fitting, kinds, rowOf, blocksBefore, inAll, recordWidth, perBlock, firstBlock, recordStart, blockTotal, recordAt}
+use Rattle.model.specs.Blocks.{Header, Kind, fitting, kinds, rowOf, blocksBefore, inAll, recordWidth, perBlock, firstBlock, recordStart, blockTotal, recordAt}
 use Rattle.image.specs.Laid.{Limited, Laid}
+use Rattle.image.specs.Kinds.{IsKind}
 
 -- a row whose records have room in its blocks
 pub record Fitted (r : Kind) : Type 0 where
@@ -112,12 +113,12 @@ module _ {image : List ℕ} {h : Header} (laid : Laid image h) (kind i : ℕ) wh
   record-byte j k = ap (λ (l : List ℕ). byte l j) record-part ∙ getD-take (recordWidth h kind) (drop (recordStart h kind i) image) j 0 k ∙ getD-drop (recordStart h kind i) image j 0
 
 -- a table with a place for each kind, read by kind; place 0 is no kind's
-pub by-kind : (f : ℕ → ℕ) (none kind : ℕ) → 1 ≤ kind → kind < 7 → getD (none ∷ f 1 ∷ f 2 ∷ f 3 ∷ f 4 ∷ f 5 ∷ f 6 ∷ []) kind 0 ≡ f kind
-by-kind f none zero least most = absurd (omega arith)
-by-kind f none (suc zero) least most = refl
-by-kind f none (suc (suc zero)) least most = refl
-by-kind f none (suc (suc (suc zero))) least most = refl
-by-kind f none (suc (suc (suc (suc zero)))) least most = refl
-by-kind f none (suc (suc (suc (suc (suc zero))))) least most = refl
-by-kind f none (suc (suc (suc (suc (suc (suc zero)))))) least most = refl
-by-kind f none (suc (suc (suc (suc (suc (suc (suc n))))))) least most = absurd (omega arith)
+pub by-kind : (f : ℕ → ℕ) (none kind : ℕ) → IsKind kind → getD (none ∷ f 1 ∷ f 2 ∷ f 3 ∷ f 4 ∷ f 5 ∷ f 6 ∷ []) kind 0 ≡ f kind
+by-kind f none zero is = absurd (omega arith)
+by-kind f none (suc zero) is = refl
+by-kind f none (suc (suc zero)) is = refl
+by-kind f none (suc (suc (suc zero))) is = refl
+by-kind f none (suc (suc (suc (suc zero)))) is = refl
+by-kind f none (suc (suc (suc (suc (suc zero))))) is = refl
+by-kind f none (suc (suc (suc (suc (suc (suc zero)))))) is = refl
+by-kind f none (suc (suc (suc (suc (suc (suc (suc n))))))) is = absurd (omega arith)

@@ -1,5 +1,6 @@
 pub mod Header
 pub mod Laid
+pub mod Kinds
 pub mod Accepted
 pub mod Index
 pub mod Sealing

@@ -2,10 +2,11 @@
 // layer reads it.
 use crate::Header;
 ghost use mathlib.Core.Path.{_≡_};
-ghost use Prim.Native.Nat.{_<_, _≤_};
+ghost use Prim.Native.Nat.{_<_};
 ghost use Rattle.model.specs.Blocks.{inAll, recordWidth, perBlock, firstBlock, recordStart};
 ghost use Rattle.image.specs.Header.{headerOf};
 ghost use Rattle.image.specs.Laid.{Limited};
+ghost use Rattle.image.specs.Kinds.{IsKind};
 
 // Of form 1, by kind.
 const WIDTH: [usize; 7] = [0, 12, 2, 2, 506, 2, 16];
@@ -31,14 +32,14 @@ pub const LETTERS_START: usize = 512 + 4;
 pub const PAIRS_START: usize = 2 * 512 + 4;
 
 pub fn width(h: Header, kind: usize) -> usize
-    requires { ⌜ (1 ≤ kind) × (kind < 7) ⌝ }
+    requires { ⌜ IsKind kind ⌝ }
     ensures { λ r. ⌜ r ≡ recordWidth (headerOf h) kind ⌝ }
 {
     WIDTH[kind]
 }
 
 pub fn per_block(h: Header, kind: usize) -> usize
-    requires { ⌜ (1 ≤ kind) × (kind < 7) ⌝ }
+    requires { ⌜ IsKind kind ⌝ }
     ensures { λ r. ⌜ r ≡ perBlock (headerOf h) kind ⌝ }
 {
     PER_BLOCK[kind]
@@ -46,7 +47,7 @@ pub fn per_block(h: Header, kind: usize) -> usize
 
 // How many records of a kind an image has.
 pub fn in_all(h: Header, kind: usize) -> usize
-    requires { ⌜ (1 ≤ kind) × (kind < 7) ⌝ }
+    requires { ⌜ IsKind kind ⌝ }
     ensures { λ r. ⌜ r ≡ inAll (headerOf h) kind ⌝ }
 {
     let counts = [0, 1, h.letters, h.pairs, h.rules, h.lexicons, h.entries];
@@ -56,7 +57,7 @@ pub fn in_all(h: Header, kind: usize) -> usize
 // The first block of a kind.
 pub fn first_block(h: Header, kind: usize) -> usize
     requires { ⌜ Limited (headerOf h) ⌝ }
-    requires { ⌜ (1 ≤ kind) × (kind < 7) ⌝ }
+    requires { ⌜ IsKind kind ⌝ }
     ensures { λ r. ⌜ r ≡ firstBlock (headerOf h) kind ⌝ }
 {
     let lexicons = 3 + h.rules;
@@ -68,7 +69,7 @@ pub fn first_block(h: Header, kind: usize) -> usize
 // Where record i of a kind begins. With the kind a constant, so is all that the table says of it.
 pub fn record_start(h: Header, kind: usize, i: usize) -> usize
     requires { ⌜ Limited (headerOf h) ⌝ }
-    requires { ⌜ (1 ≤ kind) × (kind < 7) ⌝ }
+    requires { ⌜ IsKind kind ⌝ }
     requires { ⌜ i < inAll (headerOf h) kind ⌝ }
     ensures { λ r. ⌜ (r ≡ recordStart (headerOf h) kind i) × (r < 65536) ⌝ }
 {

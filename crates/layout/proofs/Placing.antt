@@ -1,43 +1,43 @@
--- Which kind block k has, by the table's rows in their order, and the parts of a block's layout.
-use Prim.Native.Nat.{ℕ, zero, suc, _+_, _*_, _/_, _<_, _≤_}
+-- Which kind block k has, and the parts of a block's layout.
+use Prim.Native.Nat.{ℕ, _+_, _*_, _<_, _≤_}
 use native.Mathlib.Omega.{arith}
-use mathlib.Core.Bool.{false}
-use mathlib.Core.Path.{_≡_, refl}
-use mathlib.Core.List.{List}
+use mathlib.Core.Bool.{Bool, true, false, cond}
+use mathlib.Core.Path.{_≡_, refl, sym, ap, _∙_}
+use mathlib.Core.List.{List, [], _∷_}
 use lib.ListN.{take, drop}
-use borrow.Author.Tests.{lt-ltb, le-ltb, eq-eqb, ne-eqb}
-use Rattle.model.specs.Blocks.{Header, kinds, kindAt, recordsAt, recordWidth, firstBlock, blockTotal, laidOut}
+use lib.Dec.{eqb, ltb}
+use borrow.Author.Tests.{lt-ltb, le-ltb, eq-eqb, ne-eqb, eqb-true}
+use Rattle.model.specs.Blocks.{Header, Kind, kinds, rowOf, blocksBefore, kindFrom, kindAt, recordsAt, recordWidth, firstBlock, laidOut}
 use Rattle.model.specs.Lists.{every, isZero, byte}
+use Rattle.image.specs.Kinds.{IsKind}
 use Rattle.layout.specs.Placed.{Placed}
 
-pub placed-low : (h : Header) (k : ℕ) → k < 3 → Placed h k (k + 1)
-unfolding kinds kindAt
-placed-low h zero a = record { kind-is = refl; kind-least = omega arith; kind-most = omega arith; begun = omega arith }
-placed-low h (suc zero) a = record { kind-is = refl; kind-least = omega arith; kind-most = omega arith; begun = omega arith }
-placed-low h (suc (suc zero)) a = record { kind-is = refl; kind-least = omega arith; kind-most = omega arith; begun = omega arith }
-placed-low h (suc (suc (suc k))) a = absurd (omega arith)
+-- a block that is among those of a kind has that kind
+module _ (kind k : ℕ) where
+  before-least : (rs : List Kind) (n : ℕ) → n ≤ blocksBefore kind n rs
+  before-least [] n = omega arith
+  before-least (r ∷ rs) n = go (eqb (r .kind) kind) (before-least rs (n + r .blocks))
+    where
+      go : (b : Bool) → n + r .blocks ≤ blocksBefore kind (n + r .blocks) rs → n ≤ cond b n (blocksBefore kind (n + r .blocks) rs)
+      go true l = omega arith
+      go false l = omega arith
 
-module _ (h : Header) (k : ℕ) (low : 3 ≤ k) where
-  past-1 : 1 ≤ k
-  past-1 = omega arith
+  kind-among : (rs : List Kind) (n : ℕ) → blocksBefore kind n rs ≤ k → k < blocksBefore kind n rs + rowOf kind rs .blocks → kindFrom k n rs ≡ kind
+  kind-among [] n least most = absurd (omega arith)
+  kind-among (r ∷ rs) n least most = go (eqb (r .kind) kind) refl (kind-among rs (n + r .blocks)) least most
+    where
+      go : (b : Bool) → eqb (r .kind) kind ≡ b
+          → (blocksBefore kind (n + r .blocks) rs ≤ k → k < blocksBefore kind (n + r .blocks) rs + rowOf kind rs .blocks → kindFrom k (n + r .blocks) rs ≡ kind)
+          → cond b n (blocksBefore kind (n + r .blocks) rs) ≤ k → k < cond b n (blocksBefore kind (n + r .blocks) rs) + cond b r (rowOf kind rs) .blocks
+          → cond (ltb k (n + r .blocks)) (r .kind) (kindFrom k (n + r .blocks) rs) ≡ kind
+      go true e rest least most = ap (λ (b : Bool). cond b (r .kind) (kindFrom k (n + r .blocks) rs)) (lt-ltb k (n + r .blocks) most) ∙ eqb-true (r .kind) kind e
+      go false e rest least most =
+          ap (λ (b : Bool). cond b (r .kind) (kindFrom k (n + r .blocks) rs)) (le-ltb k (n + r .blocks) (omega (arith, before-least rs (n + r .blocks))))
+          ∙ rest least most
 
-  past-2 : 2 ≤ k
-  past-2 = omega arith
-
-  pub placed-4 : k < firstBlock h 5 → Placed h k 4
-  unfolding kinds kindAt
-  placed-4 a = record { kind-is = rw (le-ltb k 1 past-1, le-ltb k 2 past-2, le-ltb k 3 low, lt-ltb k (3 + h .rules) a) refl; kind-least = omega arith; kind-most = omega arith; begun = low }
-
-  pub placed-5 : firstBlock h 5 ≤ k → k < firstBlock h 6 → Placed h k 5
-  unfolding kinds kindAt
-  placed-5 a b = record { kind-is = rw (le-ltb k 1 past-1, le-ltb k 2 past-2, le-ltb k 3 low, le-ltb k (3 + h .rules) a, lt-ltb k (3 + h .rules + 1) b) refl; kind-least = omega arith; kind-most = omega arith; begun = a }
-
-  pub placed-6 : firstBlock h 6 ≤ k → k < blockTotal h → Placed h k 6
-  unfolding kinds kindAt blockTotal
-  placed-6 a b =
-      let c : 3 + h .rules ≤ k = omega arith in
-      let d : k < 3 + h .rules + 1 + (h .entries + 30) / 31 = omega arith in
-      record { kind-is = rw (le-ltb k 1 past-1, le-ltb k 2 past-2, le-ltb k 3 low, le-ltb k (3 + h .rules) c, le-ltb k (3 + h .rules + 1) a, lt-ltb k (3 + h .rules + 1 + (h .entries + 30) / 31) d) refl; kind-least = omega arith; kind-most = omega arith; begun = a }
+pub placed : (h : Header) (k kind : ℕ) → IsKind kind → firstBlock h kind ≤ k → k < firstBlock h kind + rowOf kind (kinds h) .blocks → Placed h k kind
+unfolding kindAt
+placed h k kind is least most = record { kind-is = sym (kind-among kind k (kinds h) 0 least most); is-kind = is; begun = least }
 
 -- the three parts of a block's layout, in the order of the tests
 module _ (h : Header) (k : ℕ) (b : List ℕ) where

@@ -21,7 +21,10 @@ pub fn entry_count(image: &[u8], h: Header, x: usize) -> usize
     requires { ⌜ x < h .lexicons ⌝ }
     ensures { λ r. ⌜ (r ≡ entryCount (now (image .entry)) x) × (r < 65536) ⌝ }
 {
-    image::number_at(image, 512 * kinds::first_block(h, 5) + (4 + kinds::LEXICON_WIDTH * x))
+    image::number_at(
+        image,
+        512 * kinds::first_block(h, 5) + (4 + kinds::LEXICON_WIDTH * x),
+    )
 }
 
 // The first entry of lexicon x: all the entries of those before it, added up.

@@ -10,7 +10,7 @@ use lib.Seq.{getD-take, getD-drop, getD-append-add}
 use lib.Dec.{T, leb, ltb, eqb}
 use borrow.Author.Tests.{lt-ltb, le-leb}
 use Rattle.model.specs.Lists.{below, given, flatMap, isZero, byte, number, numberBytes}
-use Rattle.model.specs.Blocks.{Header, header, kinds, recordStart}
+use Rattle.model.specs.Blocks.{Header, header}
 use Rattle.model.specs.RuleTables.{pairs, boundaryPair, table, columnCount, stateCount, rowsAt, isFinal, nextState, isTable, columnsOf}
 use Rattle.model.specs.Lexicon.{firstEntry}
 use Rattle.model.specs.GrammarOf.{grammarOf}
@@ -21,7 +21,6 @@ use Rattle.model.proofs.Parts.{length-parts, part-at}
 use Rattle.model.proofs.Sealing.{number-back}
 use Rattle.tables.proofs.Laws.{length-columnsOf, right-table, right-column, row-before, next-most}
 use Rattle.image.specs.Laid.{Laid}
-use Rattle.image.proofs.Records.{record-inside, record-byte}
 use Rattle.image.specs.Accepted.{Accepted}
 use Rattle.image.specs.Index.{only, indexRow, columnRow, candidates, candidateRow, ruleRows, lexiconRow, indexOf}
 
@@ -201,15 +200,6 @@ module _ {image : List ℕ} (ok : Accepted image (header image)) where
 
 -- the rules of an accepted image
 module _ {image : List ℕ} (ok : Accepted image (header image)) where
-  -- a byte of rule r's table, in the image
-  pub table-inside : (r : ℕ) → r < header image .rules → (i : ℕ) → i < 506 → recordStart (header image) 4 r + i < length image
-  unfolding kinds
-  table-inside r h i k = record-inside (ok .laid) 4 r i h k
-
-  pub table-byte : (r i : ℕ) → i < 506 → byte (table image r) i ≡ byte image (recordStart (header image) 4 r + i)
-  unfolding kinds
-  table-byte r i k = record-byte (ok .laid) 4 r i k
-
   pub table-ok : (r : ℕ) → r < header image .rules → T (isTable (table image r) (header image .letters))
   table-ok r h = right-table image (of-true (rightTables image) (ok .tables-right)) r h
 

@@ -19,16 +19,16 @@ use Rattle.model.proofs.Lists.{length-map-below, getD-map-below, every-in, ever
 use Rattle.image.specs.Accepted.{Accepted}
 use Rattle.image.specs.Index.{indexOf}
 use Rattle.rules.specs.Live.{Live, StepOf, stepOf, begunOf, aliveOf, finishOf, endsFinal}
-use Rattle.tables.proofs.Laws.{columns-most, states-least, states-most}
-use Rattle.rules.proofs.Laws.{grammar-rules, grammar-pairs, table-inside, table-byte, table-ok, next-byte, next-within, column-byte, grammar-final}
+use Rattle.tables.proofs.Laws.{table-inside, table-byte, columns-most, states-least, states-most}
+use Rattle.rules.proofs.Laws.{grammar-rules, grammar-pairs, table-ok, next-byte, next-within, column-byte, grammar-final}
 
 module _ {image : List ℕ} (ok : Accepted image (header image)) (r : ℕ) (rule : r < header image .rules) (at : ℕ) (begins : at ≡ recordStart (header image) 4 r) where
   -- a byte of the rule's table, which begins there
   there : (i : ℕ) → i < 506 → byte (table image r) i ≡ byte image (at + i)
-  there i h = table-byte ok r i h ∙ ap (λ (n : ℕ). byte image (n + i)) (sym begins)
+  there i h = table-byte image (header image) (ok .laid) r i h ∙ ap (λ (n : ℕ). byte image (n + i)) (sym begins)
 
   pub inside : (i : ℕ) → i < 506 → at + i < length image
-  inside i h = omega (arith, table-inside ok r rule i h)
+  inside i h = omega (arith, table-inside image (header image) (ok .laid) r i rule h)
 
   first : byte (table image r) 0 ≡ byte image at
   first = there 0 (omega arith) ∙ ap (byte image) (omega arith)

@@ -15,7 +15,7 @@ use Rattle.model.specs.Refusals.{rightTables, rightColumns}
 use Rattle.model.proofs.Booleans.{out5, true-of}
 use Rattle.model.proofs.Lists.{every-at, below-has}
 use Rattle.image.specs.Laid.{Laid}
-use Rattle.image.proofs.Records.{record-inside, record-part, record-length}
+use Rattle.image.proofs.Records.{record-inside, record-part, record-length, record-byte}
 use Rattle.letters.proofs.Laws.{laid-here, laid-pairs}
 use Rattle.tables.specs.Sides.{Paired}
 use Rattle.tables.specs.Breadths.{Columned, columnsBy}
@@ -25,10 +25,14 @@ use Rattle.tables.proofs.Bounds.{counts, sides, marks, nexts, rest, tab
 use Rattle.tables.proofs.Breadths.{length-columns}
 
 module _ (image : List ℕ) (h : Header) (laid : Laid image h) where
-  -- the table of a rule is a record of kind 4
-  pub table-start : (r : ℕ) → r < h .rules → recordStart h 4 r + 506 ≤ length image
+  -- the table of a rule, a record of kind 4, as it stands in the image
+  pub table-inside : (r i : ℕ) → r < h .rules → i < 506 → recordStart h 4 r + i < length image
   unfolding kinds
-  table-start r k = omega (arith, record-inside laid 4 r 505 k (omega arith))
+  table-inside r i k l = record-inside laid 4 r i k l
+
+  pub table-byte : (r i : ℕ) → i < 506 → byte (table image r) i ≡ byte image (recordStart h 4 r + i)
+  unfolding kinds
+  table-byte r i l = record-byte laid 4 r i l
 
   pub table-part : (r : ℕ) → table image r ≡ take 506 (drop (recordStart h 4 r) image)
   unfolding kinds

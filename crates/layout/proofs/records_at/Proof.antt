@@ -3,7 +3,7 @@ use borrow.Author.Needs.{needs}
 use native.Mathlib.Omega.{arith}
 use native.Mathlib.Nat.{mul-le-mul, div-le-self}
 use mathlib.Core.Path.{_≡_, sym, ap, _∙_}
-use Prim.Native.Nat.{ℕ, _+_, _*_, _-_, _≤_, _<_, min}
+use Prim.Native.Nat.{ℕ, _*_, _-_, _≤_, min}
 use Rattle.model.specs.Blocks.{Header, recordWidth, perBlock, inAll, firstBlock, recordsAt}
 use Rattle.image.specs.Header.{headerOf}
 use Rattle.layout.proofs.records_at.Statement.{statement}

@@ -7,7 +7,7 @@ use lib.ListN.{length, take, drop}
 use Rattle.model.specs.Blocks.{kinds}
 use Rattle.model.specs.RuleTables.{table}
 use Rattle.image.specs.Header.{headerOf}
-use Rattle.tables.proofs.Laws.{table-start, table-part, table-length}
+use Rattle.tables.proofs.Laws.{table-inside, table-part, table-length}
 use Rattle.tables.proofs.table_at.Statement.{statement}
 use Rattle.tables.proofs.table_at.Tie as tie
 
@@ -27,7 +27,7 @@ part-result-start c = search needs
 part-result-end : tie.Need-part-result-end
 part-result-end c =
     let s = c .before .before in
-    omega (arith, table-start (s .args .image .now) (headerOf (s .args .h)) (s .pre .0) (s .args .r) (s .pre .1), c .record-start .ensures .0)
+    omega (arith, table-inside (s .args .image .now) (headerOf (s .args .h)) (s .pre .0) (s .args .r) 505 (s .pre .1) (omega arith), c .record-start .ensures .0)
 
 returns : tie.Need-returns
 returns c =

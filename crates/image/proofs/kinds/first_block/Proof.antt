@@ -20,7 +20,7 @@ array-read-result c = search needs
 
 returns : tie.Need-returns
 unfolding kinds
-returns c = let s = c .before in by-kind (firstBlock (headerOf (s .args .h))) 0 (s .args .kind) (s .pre .1 .0) (s .pre .1 .1)
+returns c = let s = c .before in by-kind (firstBlock (headerOf (s .args .h))) 0 (s .args .kind) (s .pre .1)
 
 pub first-block-spec : {M : Type 1} → statement M
 first-block-spec =

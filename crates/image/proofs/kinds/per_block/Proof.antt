@@ -14,7 +14,7 @@ array-read-result c = search needs
 
 returns : tie.Need-returns
 unfolding kinds
-returns c = by-kind (perBlock (headerOf (c .args .h))) 0 (c .args .kind) (c .pre .0) (c .pre .1)
+returns c = by-kind (perBlock (headerOf (c .args .h))) 0 (c .args .kind) (c .pre)
 
 pub per-block-spec : {M : Type 1} → statement M
 per-block-spec = tie.close (tie.spec mul-result array-read-result returns)
