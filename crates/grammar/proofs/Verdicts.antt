@@ -7,14 +7,14 @@ use lib.ListN.{length, take, drop, length-take, length-drop}
 use lib.Dec.{T, ltb}
 use borrow.Author.Tests.{lt-ltb, le-ltb, ltb-true, ltb-false}
 use native.Mathlib.Omega.{arith}
-use Rattle.model.specs.Blocks.{Header, header, blockTotal}
+use Rattle.model.specs.Blocks.{Header, header, kinds, blockTotal}
 use Rattle.model.specs.Refusals.{Verdict, accepted, refused, unless, firstFailing, rightLength, rightChecks, rightLayout, rightLetters, rightPairs, rightTables, rightColumns, rightEntries, rightForms, formatTests, imageTests, imageVerdict, viewTests}
 use Rattle.model.specs.Lexicon.{entry, formLength}
 use Rattle.model.specs.Beside as beside
 use Rattle.model.specs.Beside.{formStart, viewAfter, formReplyAfter, viewed, formReply}
 use Rattle.model.proofs.Booleans.{of-true}
 use Rattle.model.proofs.Tests.{clash, tests-refused, tests-accepted}
-use Rattle.image.specs.Laid.{Laid}
+use Rattle.image.specs.Laid.{Limited, Laid}
 use Rattle.image.specs.Accepted.{Accepted}
 use Rattle.lexicon.proofs.Laws as entries
 use Rattle.layout.proofs.Laid.{laid}
@@ -94,7 +94,7 @@ accepted-image image e =
     record { laid = laid image (t1 .0) (t3 .0); pairs-right = t5 .0; tables-right = t6 .0; columns-right = t7 .0; entries-right = t8 .0 }
 
 pub laid-some : (image : List ℕ) (h : Header) → Laid image h → 512 ≤ length image
-unfolding blockTotal
+unfolding kinds blockTotal
 laid-some image h l = omega (arith, l .whole)
 
 -- the entry view and its companion, by the verdict and by whether the entry is there
@@ -149,8 +149,8 @@ module _ (image : List ℕ) (e : ℕ) where
 -- what a companion that tells a length has shown
 pub record Viewed (image : List ℕ) (e n : ℕ) : Type 0 where
   pub some : 512 ≤ length image
-  pub entry-few : e < 2800
-  pub rules-few : header image .rules ≤ 32
+  pub limits : Limited (header image)
+  pub entry-there : e < header image .entries
   pub inside : formStart image e + n ≤ length image
   pub few : n ≤ 12
 
@@ -169,7 +169,7 @@ module _ (image : List ℕ) (e n : ℕ) where
       let g = form-there image e (t .0) inside in
       let m : formLength (entry image e) ≡ n = cc in
       let short = entries.form-short image h (a .laid) (of-true (rightEntries image) (a .entries-right)) e inside in
-      record { some = laid-some image h (a .laid); entry-few = omega (arith, a .laid .limits .entries-most); rules-few = a .laid .limits .rules-most; inside = omega (arith, entries.form-inside image h (a .laid) e inside short); few = omega (arith, short, m) }
+      record { some = laid-some image h (a .laid); limits = a .laid .limits; entry-there = inside; inside = omega (arith, entries.form-inside image h (a .laid) e inside short); few = omega (arith, short, m) }
 
 -- the view and its companion agree: the letters of the length told, and none after a refusal
 pub record Agree (reply : beside.FormReply) (letters : List ℕ) : Type 0 where

@@ -1,9 +1,14 @@
-// The constant table of kinds: how wide a record is, and how many records a block holds at the most. Every layer reads it.
+// The table of kinds: how wide a record is and how many of them a block holds, and by the counts of an image how many there are and where they begin. Every
+// layer reads it.
+use crate::Header;
 ghost use mathlib.Core.Path.{_≡_};
 ghost use Prim.Native.Nat.{_<_};
-ghost use Rattle.model.specs.Blocks.{recordWidth};
-ghost use Rattle.image.specs.Kinds.{perBlock};
+ghost use Rattle.model.specs.Blocks.{inAll, recordWidth, perBlock, firstBlock, recordStart};
+ghost use Rattle.image.specs.Header.{headerOf};
+ghost use Rattle.image.specs.Laid.{Limited};
+ghost use Rattle.image.specs.Kinds.{IsKind};
 
+// Of form 1, by kind.
 const WIDTH: [usize; 7] = [0, 12, 2, 2, 506, 2, 16];
 
 const PER_BLOCK: [usize; 7] = [0, 42, 253, 253, 1, 253, 31];
@@ -13,22 +18,61 @@ pub const LETTER_WIDTH: usize = WIDTH[2];
 
 pub const PAIR_WIDTH: usize = WIDTH[3];
 
+pub const TABLE_WIDTH: usize = WIDTH[4];
+
 pub const LEXICON_WIDTH: usize = WIDTH[5];
 
 pub const ENTRY_WIDTH: usize = WIDTH[6];
 
 pub const ENTRIES_PER_BLOCK: usize = PER_BLOCK[6];
 
-pub fn width(kind: usize) -> usize
-    requires { ⌜ kind < 7 ⌝ }
-    ensures { λ r. ⌜ r ≡ recordWidth kind ⌝ }
+// The first letter and the first pair: no count moves their blocks.
+pub const LETTERS_START: usize = 512 + 4;
+
+pub const PAIRS_START: usize = 2 * 512 + 4;
+
+pub fn width(h: Header, kind: usize) -> usize
+    requires { ⌜ IsKind kind ⌝ }
+    ensures { λ r. ⌜ r ≡ recordWidth (headerOf h) kind ⌝ }
 {
     WIDTH[kind]
 }
 
-pub fn per_block(kind: usize) -> usize
-    requires { ⌜ kind < 7 ⌝ }
-    ensures { λ r. ⌜ r ≡ perBlock kind ⌝ }
+pub fn per_block(h: Header, kind: usize) -> usize
+    requires { ⌜ IsKind kind ⌝ }
+    ensures { λ r. ⌜ r ≡ perBlock (headerOf h) kind ⌝ }
 {
     PER_BLOCK[kind]
+}
+
+// How many records of a kind an image has.
+pub fn in_all(h: Header, kind: usize) -> usize
+    requires { ⌜ IsKind kind ⌝ }
+    ensures { λ r. ⌜ r ≡ inAll (headerOf h) kind ⌝ }
+{
+    let counts = [0, 1, h.letters, h.pairs, h.rules, h.lexicons, h.entries];
+    counts[kind]
+}
+
+// The first block of a kind.
+pub fn first_block(h: Header, kind: usize) -> usize
+    requires { ⌜ Limited (headerOf h) ⌝ }
+    requires { ⌜ IsKind kind ⌝ }
+    ensures { λ r. ⌜ r ≡ firstBlock (headerOf h) kind ⌝ }
+{
+    let lexicons = 3 + h.rules;
+    let entries = lexicons + 1;
+    let blocks = [0, 0, 1, 2, 3, lexicons, entries];
+    blocks[kind]
+}
+
+// Where record i of a kind begins. With the kind a constant, so is all that the table says of it.
+pub fn record_start(h: Header, kind: usize, i: usize) -> usize
+    requires { ⌜ Limited (headerOf h) ⌝ }
+    requires { ⌜ IsKind kind ⌝ }
+    requires { ⌜ i < inAll (headerOf h) kind ⌝ }
+    ensures { λ r. ⌜ (r ≡ recordStart (headerOf h) kind i) × (r < 65536) ⌝ }
+{
+    let most = per_block(h, kind);
+    512 * (first_block(h, kind) + i / most) + (4 + width(h, kind) * (i % most))
 }

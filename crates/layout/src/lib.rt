@@ -5,11 +5,11 @@ ghost use Prim.Native.Nat.{_+_, _*_, _<_, _≤_};
 ghost use lib.ListN.{length};
 ghost use lib.Dec.{eqb};
 ghost use Rattle.model.specs.Lists.{below, every};
-ghost use Rattle.model.specs.Blocks.{block, blockCount, blockNumber, blockCheck, checkOf, kindAt, recordsAt, laidOut, withinLimits, blockTotal};
+ghost use Rattle.model.specs.Blocks.{block, blockCount, blockNumber, blockCheck, checkOf, perBlock, recordsAt, laidOut, withinLimits, blockTotal};
 ghost use Rattle.model.specs.Refusals.{rightLength, rightChecks, rightLayout};
 ghost use Rattle.image.specs.Header.{headerOf};
 ghost use Rattle.image.specs.Laid.{Limited};
-ghost use Rattle.layout.specs.Kinds.{inAll, firstBlock};
+ghost use Rattle.layout.specs.Placed.{Placed};
 use image::Header;
 use image::kinds;
 
@@ -75,47 +75,30 @@ fn within_limits(h: Header) -> bool
 // The kind of block k.
 fn kind_at(h: Header, k: usize) -> usize
     requires { ⌜ Limited (headerOf h) ⌝ }
-    ensures { λ r. ⌜ (r ≡ kindAt (headerOf h) k) × (r < 7) ⌝ }
+    requires { ⌜ k < blockTotal (headerOf h) ⌝ }
+    ensures { λ r. ⌜ Placed (headerOf h) k r ⌝ }
 {
     if k < 3 {
         return k + 1;
     }
-    if k < 3 + h.rules {
+    if k < kinds::first_block(h, 5) {
         return 4;
     }
-    if k == 3 + h.rules {
+    if k < kinds::first_block(h, 6) {
         return 5;
     }
     6
 }
 
-// How many records of a kind an image has.
-fn in_all(h: Header, kind: usize) -> usize
-    requires { ⌜ kind < 7 ⌝ }
-    ensures { λ r. ⌜ r ≡ inAll (headerOf h) kind ⌝ }
-{
-    let counts = [0, 1, h.letters, h.pairs, h.rules, h.lexicons, h.entries];
-    counts[kind]
-}
-
-// The first block of a kind.
-fn first_block(h: Header, kind: usize) -> usize
-    requires { ⌜ Limited (headerOf h) × (kind < 7) ⌝ }
-    ensures { λ r. ⌜ r ≡ firstBlock (headerOf h) kind ⌝ }
-{
-    let blocks = [0, 0, 1, 2, 3, 3 + h.rules, 4 + h.rules];
-    blocks[kind]
-}
-
 // How many records block k holds: those of its kind that the blocks before it have left, as many as a block holds.
-fn records_at(h: Header, k: usize) -> usize
-    requires { ⌜ Limited (headerOf h) × (k < 128) ⌝ }
-    ensures { λ r. ⌜ (r ≡ recordsAt (headerOf h) k) × (r ≤ 253) ⌝ }
+fn records_at(h: Header, kind: usize, k: usize) -> usize
+    requires { ⌜ Limited (headerOf h) ⌝ }
+    requires { ⌜ Placed (headerOf h) k kind × (k < 128) ⌝ }
+    ensures { λ r. ⌜ (r ≡ recordsAt (headerOf h) k) × (r ≤ perBlock (headerOf h) kind) ⌝ }
 {
-    let kind = kind_at(h, k);
-    let most = kinds::per_block(kind);
-    let all = in_all(h, kind);
-    let before = most * (k - first_block(h, kind));
+    let most = kinds::per_block(h, kind);
+    let all = kinds::in_all(h, kind);
+    let before = most * (k - kinds::first_block(h, kind));
     if all < before {
         return 0;
     }
@@ -125,22 +108,26 @@ fn records_at(h: Header, k: usize) -> usize
 
 // Block k's kind, its record count, and 0 in every unused byte.
 fn laid_out(block: &[u8], h: Header, k: usize) -> bool
-    requires { ⌜ (length (now block) ≡ 512) × (Limited (headerOf h) × (k < 128)) ⌝ }
+    requires { ⌜ length (now block) ≡ 512 ⌝ }
+    requires { ⌜ Limited (headerOf h) ⌝ }
+    requires { ⌜ k < blockTotal (headerOf h) ⌝ }
     ensures { λ r. ⌜ r ≡ laidOut (headerOf h) k (now (block .entry)) ⌝ }
 {
     let kind = kind_at(h, k);
     if image::byte_at(block, 2) != kind {
         return false;
     }
-    let records = records_at(h, k);
+    let records = records_at(h, kind, k);
     if image::byte_at(block, 3) != records {
         return false;
     }
-    image::is_blank(block, 4 + kinds::width(kind) * records, 510)
+    image::is_blank(block, 4 + kinds::width(h, kind) * records, 510)
 }
 
 fn all_laid_out(image: &[u8], h: Header) -> bool
-    requires { ⌜ (rightLength (now image) ≡ true) × Limited (headerOf h) ⌝ }
+    requires { ⌜ rightLength (now image) ≡ true ⌝ }
+    requires { ⌜ Limited (headerOf h) ⌝ }
+    requires { ⌜ blockCount (now image) ≡ blockTotal (headerOf h) ⌝ }
     ensures { λ r. ⌜ r ≡ every (λ k. laidOut (headerOf h) k (block (now (image .entry)) k)) (below (blockCount (now (image .entry)))) ⌝ }
 {
     let total = image.len() / 512;
@@ -161,7 +148,8 @@ fn block_total(h: Header) -> usize
     requires { ⌜ Limited (headerOf h) ⌝ }
     ensures { λ r. ⌜ r ≡ blockTotal (headerOf h) ⌝ }
 {
-    4 + h.rules + (h.entries + (kinds::ENTRIES_PER_BLOCK - 1)) / kinds::ENTRIES_PER_BLOCK
+    kinds::first_block(h, 6)
+        + (h.entries + (kinds::ENTRIES_PER_BLOCK - 1)) / kinds::ENTRIES_PER_BLOCK
 }
 
 // Test 3.

@@ -1,7 +1,7 @@
 -- Laws of letters and pairs: how many there are, which bytes of the image they are, and what test 5 says of a pair's sides.
 use Prim.Native.Nat.{ℕ, _+_, _*_, _<_, _≤_}
 use mathlib.Core.Bool.{Bool, true, false, _&&_, _||_, not}
-use mathlib.Core.Path.{_≡_, refl, ap, _∙_}
+use mathlib.Core.Path.{_≡_, refl, sym, ap, ap₂, _∙_}
 use mathlib.Core.Logic.{_⊎_, inl, inr}
 use mathlib.Core.List.{List}
 use lib.ListN.{length, getD}
@@ -9,13 +9,13 @@ use lib.Dec.{T}
 use native.Mathlib.Omega.{arith}
 use borrow.Author.Tests.{eqb-true}
 use Rattle.model.specs.Lists.{byte, number, every, distinct, within, isZero}
-use Rattle.model.specs.Blocks.{Header, header, block, blockTotal}
-use Rattle.model.specs.RuleTables.{Sides, codePoints, pairs, boundaryPair, isPair, sameSides}
+use Rattle.model.specs.Blocks.{Header, header, kinds, recordWidth, firstBlock, recordStart, recordAt}
+use Rattle.model.specs.RuleTables.{Pair, codePoints, pair, pairs, boundaryPair, isPair, samePair}
 use Rattle.model.specs.Refusals.{rightPairs}
 use Rattle.model.proofs.Booleans.{and-out, and-in, out3, within-out, eq→eqb, not-both}
 use Rattle.model.proofs.Lists.{length-map-below, getD-map-below}
-use Rattle.model.proofs.Blocks.{block-byte, block-number}
 use Rattle.image.specs.Laid.{Laid}
+use Rattle.image.proofs.Records.{record-inside, record-byte, record-first}
 use Rattle.model.proofs.Rest.{every-getD}
 
 -- an image that is laid out by a header is laid out by its own
@@ -30,52 +30,73 @@ module _ {image : List ℕ} {h : Header} (l : Laid image h) where
   pub laid-pairs : h .pairs ≡ header image .pairs
   laid-pairs = ap (λ (k : Header). k .pairs) (l .header-is)
 
--- five blocks at least
-pub laid-length : {image : List ℕ} {h : Header} → Laid image h → 2560 ≤ length image
-unfolding blockTotal
-laid-length l = omega (arith, l .whole, l .limits .entries-least)
-
 -- pair p
-abbrev pub pairAt : List ℕ → ℕ → Sides
+abbrev pub pairAt : List ℕ → ℕ → Pair
 pairAt image p = getD (pairs image) p boundaryPair
-
--- a pair is its two sides
-pub sides-are : (p : Sides) {a b : ℕ} → a ≡ p .lexical → b ≡ p .surface → _≡_ {A = Sides} (record { lexical = a; surface = b }) p
-sides-are p e f i = record { lexical = e i; surface = f i }
 
 module _ (image : List ℕ) where
   pub length-codePoints : length (codePoints image) ≡ header image .letters
   unfolding codePoints
-  length-codePoints = length-map-below (λ i. number (block image 1) (4 + 2 * i)) (header image .letters)
+  length-codePoints = length-map-below (λ i. number (recordAt image 2 i) 0) (header image .letters)
 
   pub length-pairs : length (pairs image) ≡ header image .pairs
   unfolding pairs
-  length-pairs = length-map-below {B = Sides} (λ p. record { lexical = byte (block image 2) (4 + 2 * p); surface = byte (block image 2) (5 + 2 * p) }) (header image .pairs)
+  length-pairs = length-map-below (pair image) (header image .pairs)
 
-  -- code point i stands at byte 516 + 2 * i
-  pub codePoint-at : (i : ℕ) → i < header image .letters → header image .letters ≤ 120 → getD (codePoints image) i 0 ≡ number image (516 + 2 * i)
-  unfolding codePoints
-  codePoint-at i h k =
-      getD-map-below (λ i. number (block image 1) (4 + 2 * i)) (header image .letters) i 0 h
-      ∙ block-number image 1 (4 + 2 * i) (omega arith)
-      ∙ ap (number image) (omega arith)
-
-  -- pair p stands at bytes 1028 + 2 * p and 1029 + 2 * p
-  pub pair-at : (p : ℕ) → p < header image .pairs → header image .pairs ≤ 250
-      → _≡_ {A = Sides} (pairAt image p) (record { lexical = byte image (1028 + 2 * p); surface = byte image (1029 + 2 * p) })
+  -- pair p is record p of kind 3
+  pub pair-at : (p : ℕ) → p < header image .pairs → pairAt image p ≡ pair image p
   unfolding pairs
-  pair-at p h k =
-      let a : byte (block image 2) (4 + 2 * p) ≡ byte image (1028 + 2 * p) = block-byte image 2 (4 + 2 * p) (omega arith) ∙ ap (byte image) (omega arith) in
-      let b : byte (block image 2) (5 + 2 * p) ≡ byte image (1029 + 2 * p) = block-byte image 2 (5 + 2 * p) (omega arith) ∙ ap (byte image) (omega arith) in
-      getD-map-below {B = Sides} (λ p. record { lexical = byte (block image 2) (4 + 2 * p); surface = byte (block image 2) (5 + 2 * p) }) (header image .pairs) p boundaryPair h
-      ∙ (λ i. record { lexical = a i; surface = b i })
+  pair-at p h = getD-map-below (pair image) (header image .pairs) p boundaryPair h
+
+-- letters and pairs as bytes of an image that is laid out: each kind has one block
+module _ {image : List ℕ} (laid : Laid image (header image)) where
+  abbrev start : ℕ → ℕ → ℕ
+  start = recordStart (header image)
+
+  pub letter-start : (i : ℕ) → i < header image .letters → start 2 i ≡ 512 * firstBlock (header image) 2 + (4 + recordWidth (header image) 2 * i)
+  unfolding kinds
+  letter-start i h = record-first (header image) 2 i (omega (arith, laid .limits .letters-most))
+
+  pub letter-inside : (i : ℕ) → i < header image .letters → start 2 i + 1 < length image
+  unfolding kinds
+  letter-inside i h = record-inside laid 2 i 1 h (omega arith)
+
+  -- code point i is the number where its record begins
+  pub codePoint-at : (i at : ℕ) → i < header image .letters → at ≡ start 2 i → number image at ≡ getD (codePoints image) i 0
+  unfolding kinds codePoints
+  codePoint-at i at h e =
+      ap (number image) e
+      ∙ sym
+      (getD-map-below (λ i. number (recordAt image 2 i) 0) (header image .letters) i 0 h
+      ∙ ap₂ (λ (x y : ℕ). x + 256 * y) (record-byte laid 2 i 0 (omega arith) ∙ ap (byte image) (omega arith)) (record-byte laid 2 i 1 (omega arith)))
+
+  pub pair-start : (p : ℕ) → p < header image .pairs → start 3 p ≡ 512 * firstBlock (header image) 3 + (4 + recordWidth (header image) 3 * p)
+  unfolding kinds
+  pair-start p h = record-first (header image) 3 p (omega (arith, laid .limits .pairs-most))
+
+  pub pair-inside : (p : ℕ) → p < header image .pairs → start 3 p + 1 < length image
+  unfolding kinds
+  pair-inside p h = record-inside laid 3 p 1 h (omega arith)
+
+  -- the sides of pair p are the bytes of its record
+  pub lexical-byte : (p at : ℕ) → p < header image .pairs → at ≡ start 3 p → byte image at ≡ pairAt image p .lexical
+  unfolding kinds
+  lexical-byte p at h e = ap (byte image) (omega arith) ∙ sym (ap (λ (q : Pair). q .lexical) (pair-at image p h) ∙ record-byte laid 3 p 0 (omega arith))
+
+  pub surface-byte : (p at : ℕ) → p < header image .pairs → at ≡ start 3 p + 1 → byte image at ≡ pairAt image p .surface
+  unfolding kinds
+  surface-byte p at h e = ap (byte image) e ∙ sym (ap (λ (q : Pair). q .surface) (pair-at image p h) ∙ record-byte laid 3 p 1 (omega arith))
+
+-- a pair is its two sides
+pub sides-are : (p : Pair) {a b : ℕ} → a ≡ p .lexical → b ≡ p .surface → _≡_ {A = Pair} (record { lexical = a; surface = b }) p
+sides-are p e f i = record { lexical = e i; surface = f i }
 
 -- a side: the null, or a letter from 2 on
 abbrev pub IsSide : ℕ → ℕ → Type 0
 IsSide letters n = (n ≡ 0) ⊎ ((2 ≤ n) × (n ≤ letters))
 
 -- "A pair has sides 0 or 2-L, not both 0."
-pub record IsPair (letters : ℕ) (p : Sides) : Type 0 where
+pub record IsPair (letters : ℕ) (p : Pair) : Type 0 where
   pub lexical-is : IsSide letters (p .lexical)
   pub surface-is : IsSide letters (p .surface)
   pub not-null : p .lexical ≡ 0 → p .surface ≡ 0 → ⊥
@@ -87,7 +108,7 @@ side-out letters n = go (isZero n) refl
     go true e t = inl (eqb-true n 0 e)
     go false e t = inr (within-out 2 letters n t)
 
-pub is-pair-out : (letters : ℕ) (p : Sides) → T (isPair letters p) → IsPair letters p
+pub is-pair-out : (letters : ℕ) (p : Pair) → T (isPair letters p) → IsPair letters p
 unfolding isPair
 is-pair-out letters p t =
     let a = isZero (p .lexical) in
@@ -104,5 +125,5 @@ pub right-pair : (image : List ℕ) → T (rightPairs image) → (p : ℕ) → p
 unfolding rightPairs
 right-pair image t p h =
     let letters = header image .letters in
-    let u = and-out (every (isPair letters) (pairs image)) (distinct sameSides (pairs image)) t in
+    let u = and-out (every (isPair letters) (pairs image)) (distinct samePair (pairs image)) t in
     is-pair-out letters (pairAt image p) (every-getD (isPair letters) (pairs image) p boundaryPair (omega (arith, length-pairs image)) (u .0))

@@ -13,7 +13,7 @@ use lib.Dec.{T, leb, ltb, eqb, eqb→eq}
 use borrow.Author.Tests.{lt-ltb, le-ltb, le-leb, lt-leb, eq-eqb, ne-eqb}
 use Rattle.model.specs.Lists.{below, every, any, distinct, within, isZero, byte}
 use Rattle.model.specs.Blocks.{header}
-use Rattle.model.specs.RuleTables.{Sides, pairs, boundaryPair, isPair, sameSides}
+use Rattle.model.specs.RuleTables.{Pair, pairs, boundaryPair, isPair, samePair}
 use Rattle.model.specs.Refusals.{isLexical, rightPairs}
 use Rattle.model.proofs.Booleans.{and-out, left-false, right-false, true-of, of-true, within-in, within-above}
 use Rattle.model.proofs.Lists.{every-at, any-from, any-more, map-same, length-map-below, getD-map-below}
@@ -103,7 +103,7 @@ module _ (image : List ℕ) where
 
   before-more : (p a : ℕ) → p < header image .pairs → lexicalBefore (p + 1) a ≡ (lexicalBefore p a || eqb (pairAt image p .lexical) a)
   before-more p a h =
-      ap (λ (l : List Sides). any (λ q. eqb (q .lexical) a) l) (ap (λ (n : ℕ). take n (pairs image)) (add-one p) ∙ take-suc (pairs image) p boundaryPair (omega (arith, length-pairs image)))
+      ap (λ (l : List Pair). any (λ q. eqb (q .lexical) a) l) (ap (λ (n : ℕ). take n (pairs image)) (add-one p) ∙ take-suc (pairs image) p boundaryPair (omega (arith, length-pairs image)))
       ∙ any-more (λ q. eqb (q .lexical) a) (take p (pairs image)) (pairAt image p)
 
   pub sides-start : replicate 256 0 ≡ marksOf (lexicalBefore 0)
@@ -138,7 +138,7 @@ module _ (image : List ℕ) where
   right-lexical right a t =
       let letters = header image .letters in
       let u = any-from (λ q. eqb (q .lexical) a) (pairs image) t in
-      let each = and-out (every (isPair letters) (pairs image)) (distinct sameSides (pairs image)) right .0 in
+      let each = and-out (every (isPair letters) (pairs image)) (distinct samePair (pairs image)) right .0 in
       subst (IsSide letters) (eqb→eq (u .0 .lexical) a (u .2)) (is-pair-out letters (u .0) (every-at (isPair letters) (pairs image) (u .1) each) .lexical-is)
 
   -- of pairs that passed test 5, a lexical side that is no null is a letter

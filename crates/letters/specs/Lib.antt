@@ -1,2 +1,2 @@
-pub mod Sides
+pub mod Pairs
 pub mod Marks

@@ -6,11 +6,11 @@ ghost use lib.ListN.{length, getD, take, drop};
 ghost use lib.Dec.{eqb};
 ghost use Rattle.model.specs.Lists.{byte, every, any, distinct, within, isZero};
 ghost use Rattle.model.specs.Blocks.{header};
-ghost use Rattle.model.specs.RuleTables.{codePoints, isCodePoint, pairs, boundaryPair, isPair, sameSides};
+ghost use Rattle.model.specs.RuleTables.{codePoints, isCodePoint, pairs, boundaryPair, isPair, samePair};
 ghost use Rattle.model.specs.Refusals.{rightLetters, rightPairs};
 ghost use Rattle.image.specs.Header.{headerOf};
 ghost use Rattle.image.specs.Laid.{Laid};
-ghost use Rattle.letters.specs.Sides.{pairOf};
+ghost use Rattle.letters.specs.Pairs.{pairOf};
 use image::Header;
 use image::kinds;
 
@@ -21,6 +21,12 @@ pub struct Lexical(pub u8);
 
 // A letter of the surface level: with the same number as a lexical letter, it is still another.
 pub struct Surface(pub u8);
+
+// A pair: on each level a letter or the null.
+pub struct Pair {
+    pub lexical: Lexical,
+    pub surface: Surface,
+}
 
 // A byte of an image or of a word as a letter of its level.
 pub fn lexical_at(bytes: &[u8], at: usize) -> Lexical
@@ -42,7 +48,7 @@ fn code_point(image: &[u8], i: usize) -> usize
     requires { ⌜ Laid (now image) (header (now image)) × (i < header (now image) .letters) ⌝ }
     ensures { λ r. ⌜ r ≡ getD (codePoints (now (image .entry))) i 0 ⌝ }
 {
-    image::number_at(image, 516 + kinds::LETTER_WIDTH * i)
+    image::number_at(image, kinds::LETTERS_START + kinds::LETTER_WIDTH * i)
 }
 
 fn is_code_point(n: usize) -> bool
@@ -134,12 +140,17 @@ pub fn are_letters(bytes: &[u8], from: usize, end: usize, letters: usize) -> boo
     true
 }
 
+// Where pair 0 has its sides.
+pub const LEXICAL_SIDES: usize = kinds::PAIRS_START;
+
+pub const SURFACE_SIDES: usize = kinds::PAIRS_START + 1;
+
 // The lexical side of pair p.
 pub fn lexical_side(image: &[u8], p: usize) -> Lexical
     requires { ⌜ Laid (now image) (header (now image)) × (p < header (now image) .pairs) ⌝ }
     ensures { λ r. ⌜ r .0 ≡ getD (pairs (now (image .entry))) p boundaryPair .lexical ⌝ }
 {
-    lexical_at(image, 1028 + kinds::PAIR_WIDTH * p)
+    lexical_at(image, LEXICAL_SIDES + kinds::PAIR_WIDTH * p)
 }
 
 // The surface side of pair p.
@@ -147,7 +158,18 @@ pub fn surface_side(image: &[u8], p: usize) -> Surface
     requires { ⌜ Laid (now image) (header (now image)) × (p < header (now image) .pairs) ⌝ }
     ensures { λ r. ⌜ r .0 ≡ getD (pairs (now (image .entry))) p boundaryPair .surface ⌝ }
 {
-    surface_at(image, 1029 + kinds::PAIR_WIDTH * p)
+    surface_at(image, SURFACE_SIDES + kinds::PAIR_WIDTH * p)
+}
+
+// Pair p.
+pub fn pair_at(image: &[u8], p: usize) -> Pair
+    requires { ⌜ Laid (now image) (header (now image)) × (p < header (now image) .pairs) ⌝ }
+    ensures { λ r. ⌜ pairOf r ≡ getD (pairs (now (image .entry))) p boundaryPair ⌝ }
+{
+    Pair {
+        lexical: lexical_side(image, p),
+        surface: surface_side(image, p),
+    }
 }
 
 // Letters are compared within a level only.
@@ -176,19 +198,19 @@ fn is_side(side: u8, letters: usize) -> bool
     side as usize <= letters
 }
 
-fn is_pair(lexical: Lexical, surface: Surface, letters: usize) -> bool
-    ensures { λ r. ⌜ r ≡ isPair letters (pairOf lexical surface) ⌝ }
+fn is_pair(pair: Pair, letters: usize) -> bool
+    ensures { λ r. ⌜ r ≡ isPair letters (pairOf pair) ⌝ }
 {
-    if !is_side(lexical.0, letters) {
+    if !is_side(pair.lexical.0, letters) {
         return false;
     }
-    if !is_side(surface.0, letters) {
+    if !is_side(pair.surface.0, letters) {
         return false;
     }
-    if lexical.0 != 0 {
+    if pair.lexical.0 != 0 {
         return true;
     }
-    surface.0 != 0
+    pair.surface.0 != 0
 }
 
 fn each_pair(image: &[u8], h: Header) -> bool
@@ -199,7 +221,7 @@ fn each_pair(image: &[u8], h: Header) -> bool
     let count = h.pairs;
     let mut p: usize = 0;
     while p < count {
-        if !is_pair(lexical_side(image, p), surface_side(image, p), letters) {
+        if !is_pair(pair_at(image, p), letters) {
             return false;
         }
         p += 1;
@@ -210,7 +232,7 @@ fn each_pair(image: &[u8], h: Header) -> bool
 // Both sides are the same, each within its level.
 fn same_pair(image: &[u8], p: usize, q: usize) -> bool
     requires { ⌜ Laid (now image) (header (now image)) × ((p < header (now image) .pairs) × (q < header (now image) .pairs)) ⌝ }
-    ensures { λ r. ⌜ r ≡ sameSides (getD (pairs (now (image .entry))) p boundaryPair) (getD (pairs (now (image .entry))) q boundaryPair) ⌝ }
+    ensures { λ r. ⌜ r ≡ samePair (getD (pairs (now (image .entry))) p boundaryPair) (getD (pairs (now (image .entry))) q boundaryPair) ⌝ }
 {
     if !same_lexical(lexical_side(image, p), lexical_side(image, q)) {
         return false;
@@ -221,7 +243,7 @@ fn same_pair(image: &[u8], p: usize, q: usize) -> bool
 // No pair after pair p has its two sides.
 fn pair_alone(image: &[u8], h: Header, p: usize) -> bool
     requires { ⌜ Laid (now image) (headerOf h) × (p < h .pairs) ⌝ }
-    ensures { λ r. ⌜ r ≡ not (any (sameSides (getD (pairs (now (image .entry))) p boundaryPair)) (drop (p + 1) (pairs (now (image .entry))))) ⌝ }
+    ensures { λ r. ⌜ r ≡ not (any (samePair (getD (pairs (now (image .entry))) p boundaryPair)) (drop (p + 1) (pairs (now (image .entry))))) ⌝ }
 {
     let count = h.pairs;
     let mut q: usize = p + 1;
@@ -236,7 +258,7 @@ fn pair_alone(image: &[u8], h: Header, p: usize) -> bool
 
 fn pairs_differ(image: &[u8], h: Header) -> bool
     requires { ⌜ Laid (now image) (headerOf h) ⌝ }
-    ensures { λ r. ⌜ r ≡ distinct sameSides (pairs (now (image .entry))) ⌝ }
+    ensures { λ r. ⌜ r ≡ distinct samePair (pairs (now (image .entry))) ⌝ }
 {
     let count = h.pairs;
     let mut p: usize = 0;

@@ -1,4 +1,5 @@
 // Marked letters: a table of 256 bytes, 1 at each letter that is marked, so that a letter is asked for by one look.
+use crate::LEXICAL_SIDES;
 use crate::lexical_at;
 use image::Header;
 use image::kinds;
@@ -33,7 +34,7 @@ pub fn lexical_marks(image: &[u8], h: Header) -> [u8; 256]
     let mut marks = [0u8; 256];
     let mut p: usize = 0;
     while p < count {
-        let a = lexical_at(image, 1028 + kinds::PAIR_WIDTH * p);
+        let a = lexical_at(image, LEXICAL_SIDES + kinds::PAIR_WIDTH * p);
         marks[a.0 as usize] = 1;
         p += 1;
     }

@@ -1,11 +1,11 @@
 -- Entries as bytes of the image, what test 8 leaves for those that follow, and how the lexicons tile the entries.
-use Prim.Native.Nat.{ℕ, zero, suc, _+_, _*_, _/_, _%_, _<_, _≤_}
+use Prim.Native.Nat.{ℕ, zero, suc, _+_, _*_, _<_, _≤_}
 use native.Mathlib.Nat.{add-assoc}
 use native.Mathlib.Numerals.{add-one}
 use native.Mathlib.Omega.{arith}
-use native.Mathlib.Decide.{decLt}
+use native.Mathlib.Decide.{decLt, decLe}
 use mathlib.Core.Bool.{Bool, true, false, _&&_, _||_}
-use mathlib.Core.Path.{_≡_, refl, sym, ap, _∙_, subst}
+use mathlib.Core.Path.{_≡_, refl, sym, ap, ap₂, _∙_, subst}
 use mathlib.Core.Logic.{_⊎_, inl, inr}
 use mathlib.Core.List.{List, [], _∷_, _++_, map, List·Memᴰ}
 use lib.ListN.{length, take, drop, length-take, length-drop}
@@ -13,109 +13,106 @@ use lib.Seq.{drop-drop, take-take, getD-take, getD-drop}
 use lib.Dec.{T, leb, ltb, eqb, leb→le, le→leb, ltb→lt, lt→ltb, eqb→eq}
 use borrow.Author.Tests.{le-leb, lt-leb}
 use Rattle.model.specs.Lists.{below, every, sum, within, isZero, byte, number}
-use Rattle.model.specs.Blocks.{Header, header, block, blockTotal, lexiconBlock, entryBlock}
+use Rattle.model.specs.Blocks.{Header, kinds, recordWidth, firstBlock, recordStart}
 use Rattle.model.specs.Lexicon.{entryCount, firstEntry, inLexicon, entry, formLength, formOf, continuation, isEntryOf, isEntry}
 use Rattle.model.specs.Refusals.{rightEntries}
 use Rattle.model.specs.Beside.{formStart}
 use Rattle.model.proofs.Booleans.{and-out, and-in, out4, within-out}
 use Rattle.model.proofs.Lists.{below-has, drop-take, every-at, map-below}
 use Rattle.model.proofs.Rest.{every-getD}
-use Rattle.model.proofs.Blocks.{block-number}
 use Rattle.image.specs.Laid.{Laid}
+use Rattle.image.proofs.Records.{record-inside, record-part, record-byte, record-first}
 
--- where the bytes of entry e begin
-abbrev pub entryStart : Header → ℕ → ℕ
-entryStart h e = 512 * (entryBlock h + e / 31) + (4 + 16 * (e % 31))
+-- an entry's length, letters and continuation are its first 14 bytes
+pub entry-wide : (h : Header) → 14 ≤ recordWidth h 6
+unfolding kinds
+entry-wide h = omega arith
 
--- a part of a block is a part of the image
-pub block-part : (image : List ℕ) (k i n : ℕ) → i + n ≤ 512 → take n (drop i (block image k)) ≡ take n (drop (512 * k + i) image)
-unfolding block
-block-part image k i n h =
-    sym (drop-take i n (take 512 (drop (512 * k) image)))
-    ∙ ap (drop i) (take-take (i + n) 512 (drop (512 * k) image) h)
-    ∙ drop-take i n (drop (512 * k) image)
-    ∙ ap (take n) (drop-drop i (512 * k) image)
+-- a beginning of the bytes from 1 on, of a list and of one that is cut after it
+form-cut : (l : List ℕ) (width n : ℕ) → 1 + n ≤ width → take n (drop 1 (take width l)) ≡ take n (drop 1 l)
+form-cut l width n h = sym (drop-take 1 n (take width l)) ∙ ap (drop 1) (take-take (1 + n) width l h) ∙ drop-take 1 n l
 
-pub entry-part : (image : List ℕ) (e : ℕ) → entry image e ≡ take 16 (drop (entryStart (header image) e) image)
-unfolding entry
-entry-part image e = block-part image (entryBlock (header image) + e / 31) (4 + 16 * (e % 31)) 16 (omega arith)
+-- what is asked of an entry is asked of those bytes
+module _ (may : ℕ → Bool) (lexicons : ℕ) where
+  pub entry-long : (l : List ℕ) → 12 < byte l 0 → isEntryOf l may lexicons ≡ false
+  unfolding isEntryOf
+  entry-long l h = rw (lt-leb (formLength l) 12 h) refl
 
--- the 16 bytes from `at` on, taken for an entry
-module _ (image : List ℕ) (at : ℕ) where
-  pub byte-there : (i : ℕ) → i < 16 → byte (take 16 (drop at image)) i ≡ byte image (at + i)
-  byte-there i h = getD-take 16 (drop at image) i 0 h ∙ getD-drop at image i 0
+  pub entry-cut : (l : List ℕ) (width : ℕ) → 14 ≤ width → isEntryOf (take width l) may lexicons ≡ isEntryOf l may lexicons
+  unfolding isEntryOf formOf
+  entry-cut l width wide = go (decLe (byte l 0) 12)
+    where
+      same : byte (take width l) 0 ≡ byte l 0
+      same = getD-take width l 0 0 (omega arith)
 
-  length-there : formLength (take 16 (drop at image)) ≡ byte image at
-  length-there = byte-there 0 (omega arith) ∙ ap (byte image) (omega arith)
+      go : Dec (byte l 0 ≤ 12) → isEntryOf (take width l) may lexicons ≡ isEntryOf l may lexicons
+      go (yes h) =
+          let n = byte l 0 in
+          let form = form-cut l width n (omega arith) in
+          rw (same, form, take-take 13 width l (omega arith), getD-take width l 13 0 (omega arith)) refl
+      go (no h) = entry-long (take width l) (omega (arith, same)) ∙ sym (entry-long l (omega arith))
 
-  pub form-there : (n : ℕ) → n ≤ 12 → take n (drop 1 (take 16 (drop at image))) ≡ take n (drop (at + 1) image)
-  form-there n h =
-      ap (take n) (drop-take 1 15 (drop at image) ∙ ap (take 15) (drop-drop 1 at image))
-      ∙ take-take n 15 (drop (at + 1) image) (omega arith)
-
-  form-between : (n : ℕ) → n ≤ 12 → take n (drop 1 (take 16 (drop at image))) ≡ drop (at + 1) (take (at + (1 + n)) image)
-  form-between n h = form-there n h ∙ sym (drop-take (at + 1) n image) ∙ ap (λ (k : ℕ). drop (at + 1) (take k image)) (add-assoc at 1 n)
-
-  rest-there : (n : ℕ) → drop (1 + n) (take 13 (take 16 (drop at image))) ≡ drop (at + (1 + n)) (take (at + 13) image)
-  rest-there n =
-      ap (drop (1 + n)) (take-take 13 16 (drop at image) (omega arith) ∙ sym (drop-take at 13 image))
-      ∙ drop-drop (1 + n) at (take (at + 13) image)
-
-  module _ (may : ℕ → Bool) (lexicons : ℕ) where
-    pub entry-long : 12 < byte image at → isEntryOf (take 16 (drop at image)) may lexicons ≡ false
-    unfolding isEntryOf
-    entry-long h = rw (lt-leb (formLength (take 16 (drop at image))) 12 (omega (arith, length-there))) refl
-
-    -- by the form length n and the continuation m that were read
+  -- by the form length n and the continuation m that were read, of the bytes from `at` on
+  module _ (image : List ℕ) (at : ℕ) where
     pub entry-there : (n m : ℕ) → n ≡ byte image at → m ≡ byte image (at + 13) → n ≤ 12
-        → isEntryOf (take 16 (drop at image)) may lexicons
+        → isEntryOf (drop at image) may lexicons
         ≡ (every may (drop (at + 1) (take (at + (1 + n)) image))
         && every isZero (drop (at + (1 + n)) (take (at + 13) image))
         && (ltb m lexicons || eqb m 255))
     unfolding isEntryOf formOf
     entry-there n m e q h =
-        rw (length-there ∙ sym e, form-between n h, rest-there n, byte-there 13 (omega arith) ∙ sym q, le-leb n 12 h) refl
+        let length-is : formLength (drop at image) ≡ n = length-there ∙ sym e in
+        rw (length-is, form-between n, rest-there n, getD-drop at image 13 0 ∙ sym q, le-leb n 12 h) refl
+      where
+        form-between : (n : ℕ) → take n (drop 1 (drop at image)) ≡ drop (at + 1) (take (at + (1 + n)) image)
+        form-between n = ap (take n) (drop-drop 1 at image) ∙ sym (drop-take (at + 1) n image) ∙ ap (λ (k : ℕ). drop (at + 1) (take k image)) (add-assoc at 1 n)
+
+        rest-there : (n : ℕ) → drop (1 + n) (take 13 (drop at image)) ≡ drop (at + (1 + n)) (take (at + 13) image)
+        rest-there n = ap (drop (1 + n)) (sym (drop-take at 13 image)) ∙ drop-drop (1 + n) at (take (at + 13) image)
+
+        length-there : formLength (drop at image) ≡ byte image at
+        length-there = getD-drop at image 0 0 ∙ ap (byte image) (omega arith)
 
 -- an image that passed tests 1 and 3
 module _ (image : List ℕ) (h : Header) (laid : Laid image h) where
-  -- a lexicon's entry count is a number of the image
-  pub count-number : (x : ℕ) → x < h .lexicons → entryCount image x ≡ number image (512 * lexiconBlock h + (4 + 2 * x))
-  unfolding entryCount
-  count-number x k =
-      block-number image (lexiconBlock (header image)) (4 + 2 * x) (omega (arith, laid .limits .lexicons-most))
-      ∙ ap (λ (g : Header). number image (512 * lexiconBlock g + (4 + 2 * x))) (sym (laid .header-is))
+  -- a lexicon's entry count is the number where its record begins; its kind has one block
+  pub count-start : (x : ℕ) → x < h .lexicons → recordStart h 5 x ≡ 512 * firstBlock h 5 + (4 + recordWidth h 5 * x)
+  unfolding kinds
+  count-start x k = record-first h 5 x (omega (arith, laid .limits .lexicons-most))
 
-  pub count-inside : (x : ℕ) → x < h .lexicons → 512 * lexiconBlock h + (4 + 2 * x) + 1 < length image
-  unfolding blockTotal
-  count-inside x k = omega (arith, laid .whole, laid .limits .lexicons-most)
+  pub count-inside : (x : ℕ) → x < h .lexicons → recordStart h 5 x + 1 < length image
+  unfolding kinds
+  count-inside x k = record-inside laid 5 x 1 k (omega arith)
 
-  -- an entry as it stands in the image
-  pub entry-at : (e : ℕ) → entry image e ≡ take 16 (drop (entryStart h e) image)
-  entry-at e = entry-part image e ∙ ap (λ (g : Header). take 16 (drop (entryStart g e) image)) (sym (laid .header-is))
+  pub count-number : (x at : ℕ) → at ≡ recordStart h 5 x → number image at ≡ entryCount image x
+  unfolding kinds entryCount
+  count-number x at e =
+      ap (number image) e
+      ∙ sym (ap₂ (λ (m n : ℕ). m + 256 * n) (record-byte laid 5 x 0 (omega arith) ∙ ap (byte image) (omega arith)) (record-byte laid 5 x 1 (omega arith)))
 
-  pub entry-byte : (e i : ℕ) → i < 16 → byte (entry image e) i ≡ byte image (entryStart h e + i)
-  entry-byte e i k = ap (λ (l : List ℕ). byte l i) (entry-at e) ∙ byte-there image (entryStart h e) i k
+  -- those 14 bytes of an entry are bytes of the image
+  pub entry-inside : (e j : ℕ) → e < h .entries → j < 14 → recordStart h 6 e + j < length image
+  unfolding kinds
+  entry-inside e j l k = record-inside laid 6 e j l (omega arith)
 
-  pub entry-inside : (e i : ℕ) → e < h .entries → i < 16 → entryStart h e + i < length image
-  unfolding blockTotal
-  entry-inside e i k l = omega (arith, laid .whole)
+  pub entry-byte : (e j : ℕ) → j < 14 → byte (entry image e) j ≡ byte image (recordStart h 6 e + j)
+  entry-byte e j k = record-byte laid 6 e j (omega (arith, entry-wide h))
 
   -- an entry's form as it stands in the image
-  form-start : (e : ℕ) → entryStart (header image) e + 1 ≡ formStart image e
+  form-start : (e : ℕ) → recordStart h 6 e + 1 ≡ formStart image e
   unfolding formStart
-  form-start e = omega arith
+  form-start e = ap (λ (g : Header). recordStart g 6 e + 1) (laid .header-is)
 
   pub form-part : (e : ℕ) → formLength (entry image e) ≤ 12 → formOf (entry image e) ≡ take (formLength (entry image e)) (drop (formStart image e) image)
   unfolding formOf
   form-part e k =
-      ap (λ (l : List ℕ). take (formLength (entry image e)) (drop 1 l)) (entry-part image e)
-      ∙ form-there image (entryStart (header image) e) (formLength (entry image e)) k
-      ∙ ap (λ (n : ℕ). take (formLength (entry image e)) (drop n image)) (form-start e)
+      let n = formLength (entry image e) in
+      ap (λ (l : List ℕ). take n (drop 1 l)) (record-part laid 6 e)
+      ∙ form-cut (drop (recordStart h 6 e) image) (recordWidth h 6) n (omega (arith, entry-wide h))
+      ∙ ap (take n) (drop-drop 1 (recordStart h 6 e) image ∙ ap (λ (m : ℕ). drop m image) (form-start e))
 
   pub form-inside : (e : ℕ) → e < h .entries → formLength (entry image e) ≤ 12 → formStart image e + formLength (entry image e) ≤ length image
-  form-inside e l k =
-      let s : entryStart h e ≡ entryStart (header image) e = ap (λ (g : Header). entryStart g e) (laid .header-is) in
-      omega (arith, entry-inside e 13 l (omega arith), form-start e)
+  form-inside e l k = omega (arith, entry-inside e 13 l (omega arith), form-start e)
 
   pub form-size : (e : ℕ) → e < h .entries → formLength (entry image e) ≤ 12 → length (formOf (entry image e)) ≡ formLength (entry image e)
   form-size e l k =

@@ -4,14 +4,14 @@ use image::kinds;
 use letters::marks;
 ghost use mathlib.Core.Path.{_≡_};
 ghost use mathlib.Core.Bool.{_&&_, _||_};
-ghost use Prim.Native.Nat.{_+_, _*_, _/_, _%_, _<_, _≤_};
-ghost use lib.ListN.{length, take, drop};
+ghost use Prim.Native.Nat.{_+_, _*_, _<_, _≤_};
+ghost use lib.ListN.{length, drop};
 ghost use lib.Dec.{T, ltb, eqb};
-ghost use Rattle.model.specs.Blocks.{entryBlock};
+ghost use Rattle.model.specs.Blocks.{recordStart};
 ghost use Rattle.model.specs.Lexicon.{entryCount, firstEntry, entry, formLength, continuation, isEntryOf};
 ghost use Rattle.model.specs.Refusals.{rightPairs, rightEntries, rightForms};
 ghost use Rattle.image.specs.Header.{headerOf};
-ghost use Rattle.image.specs.Laid.{Laid};
+ghost use Rattle.image.specs.Laid.{Limited, Laid};
 ghost use Rattle.letters.specs.Marks.{isMarked};
 ghost use Rattle.lexicon.specs.Entries.{areEntriesOf, isLexiconOf};
 
@@ -21,7 +21,10 @@ pub fn entry_count(image: &[u8], h: Header, x: usize) -> usize
     requires { ⌜ x < h .lexicons ⌝ }
     ensures { λ r. ⌜ (r ≡ entryCount (now (image .entry)) x) × (r < 65536) ⌝ }
 {
-    image::number_at(image, 512 * (3 + h.rules) + (4 + kinds::LEXICON_WIDTH * x))
+    image::number_at(
+        image,
+        512 * kinds::first_block(h, 5) + (4 + kinds::LEXICON_WIDTH * x),
+    )
 }
 
 // The first entry of lexicon x: all the entries of those before it, added up.
@@ -39,13 +42,13 @@ pub fn first_entry(image: &[u8], h: Header, x: usize) -> usize
     sum
 }
 
-// Where the 16 bytes of entry e begin in the image.
+// Where entry e begins in the image.
 pub fn entry_start(h: Header, e: usize) -> usize
-    requires { ⌜ (e < 2800) × (h .rules ≤ 32) ⌝ }
-    ensures { λ r. ⌜ r ≡ 512 * (entryBlock (headerOf h) + e / 31) + (4 + 16 * (e % 31)) ⌝ }
+    requires { ⌜ Limited (headerOf h) ⌝ }
+    requires { ⌜ e < h .entries ⌝ }
+    ensures { λ r. ⌜ (r ≡ recordStart (headerOf h) 6 e) × (r < 65536) ⌝ }
 {
-    512 * (4 + h.rules + e / kinds::ENTRIES_PER_BLOCK)
-        + (4 + kinds::ENTRY_WIDTH * (e % kinds::ENTRIES_PER_BLOCK))
+    kinds::record_start(h, 6, e)
 }
 
 // How many letters the form of entry e has.
@@ -76,10 +79,10 @@ fn is_continuation(continuation: usize, lexicons: usize) -> bool
     continuation == 255
 }
 
-// Whether the 16 bytes from `at` on are laid out as an entry whose letters are all marked.
+// Whether the bytes from `at` on are laid out as an entry whose letters are all marked.
 fn is_entry(image: &[u8], at: usize, marked: &[u8; 256], lexicons: usize) -> bool
-    requires { ⌜ at + 16 ≤ length (now image) ⌝ }
-    ensures { λ r. ⌜ r ≡ isEntryOf (take 16 (drop at (now (image .entry)))) (isMarked (now (marked .entry))) lexicons ⌝ }
+    requires { ⌜ at + 13 < length (now image) ⌝ }
+    ensures { λ r. ⌜ r ≡ isEntryOf (drop at (now (image .entry))) (isMarked (now (marked .entry))) lexicons ⌝ }
 {
     let form_length = image::byte_at(image, at);
     if form_length > 12 {

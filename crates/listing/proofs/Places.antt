@@ -1,5 +1,5 @@
 -- What opening an entry, and ending the path, do to a place, as the model's tree has it.
-use Prim.Native.Nat.{ℕ, suc, _+_, _*_, _-_, _/_, _%_, _<_, _≤_}
+use Prim.Native.Nat.{ℕ, suc, _+_, _-_, _<_, _≤_}
 use native.Mathlib.Omega.{arith}
 use mathlib.Core.Bool.{true, false}
 use mathlib.Core.Path.{_≡_, refl, sym, ap, ap₂, _∙_, subst}
@@ -9,7 +9,7 @@ use lib.ListN.{take, drop}
 use lib.Dec.{T, ltb, eqb, ltb→lt}
 use borrow.Author.Tests.{ne-eqb, lt-ltb, le-ltb}
 use Rattle.model.specs.Lists.{every, within}
-use Rattle.model.specs.Blocks.{Header, header, entryBlock}
+use Rattle.model.specs.Blocks.{Header, header, recordStart}
 use Rattle.model.specs.Lexicon.{entry, formLength, formOf, continuation}
 use Rattle.model.specs.GrammarOf.{grammarOf}
 use Rattle.model.specs.Query.{Query}
@@ -50,13 +50,13 @@ module _ (image : List ℕ) (h : Header) (a : Accepted image h) (e : ℕ) (insid
   unfolding stopsAfter
   stop-is = rw (lt-ltb e ended few) refl
 
-  module _ (at len : ℕ) (place : Place) (e1 : at ≡ 512 * (entryBlock h + e / 31) + (4 + 16 * (e % 31))) (e2 : len ≡ formLength (entry image e)) where
+  module _ (at len : ℕ) (place : Place) (e1 : at ≡ recordStart h 6 e) (e2 : len ≡ formLength (entry image e)) where
     short : formLength (entry image e) ≤ 12
     short = entries.form-short image h (a .laid) right e inside
 
     start-is : at + 1 ≡ formStart image e
     unfolding formStart
-    start-is = let f = ap (λ (g : Header). 512 * (entryBlock g + e / 31) + (5 + 16 * (e % 31))) (a .laid .header-is) in omega arith
+    start-is = ap (λ (n : ℕ). n + 1) (e1 ∙ ap (λ (g : Header). recordStart g 6 e) (a .laid .header-is))
 
     rest-is : restOf image (entered at len place) ≡ formOf (entry image e)
     rest-is =

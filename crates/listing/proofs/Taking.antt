@@ -10,7 +10,7 @@ use lib.Seq.{drop-cons}
 use lib.Dec.{T, leb, ltb, eqb}
 use borrow.Author.Tests.{lt-ltb}
 use Rattle.model.specs.Lists.{every, within}
-use Rattle.model.specs.Blocks.{Header, header, blockTotal}
+use Rattle.model.specs.Blocks.{Header, header, kinds, blockTotal}
 use Rattle.model.specs.GrammarOf.{grammarOf}
 use Rattle.model.specs.Query.{Pattern, Query}
 use Rattle.model.specs.Tree.{spells, left, lettersAnd, nullsAnd, isNil, mayAt, goAt, complete}
@@ -29,7 +29,7 @@ module _ (image : List ℕ) (h : Header) (a : Accepted image h) where
   side-there p k = subst (λ (g : Header). Laid image g × (p < g .pairs)) (a .laid .header-is) (a .laid, k)
 
   pub image-short : length image < 65536
-  unfolding blockTotal
+  unfolding kinds blockTotal
   image-short = omega (arith, a .laid .whole, a .laid .limits .rules-most, a .laid .limits .entries-most)
 
 -- a letter taken off the front of a part of the image

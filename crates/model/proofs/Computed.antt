@@ -1,7 +1,7 @@
 -- All definitions unfold at once: what the trials compute with.
-use Rattle.model.specs.Blocks.{block, weightedSum, checkOf, numbered, sealedBlock, sealedImage, header, recordWidth, kindAt, blockTotal, recordsAt, withinLimits, laidOut}
+use Rattle.model.specs.Blocks.{block, weightedSum, checkOf, numbered, sealedBlock, sealedImage, header, kinds, recordStart, blockTotal, kindAt, recordsAt, withinLimits, laidOut, recordAt}
 use Rattle.model.specs.RuleTables.{codePoints, pairs, pairsAndBoundary, isCodePoint, isPair, column, isFinal, nextState, isTable, matches, takesColumn, columnFor, columnsOf, fed, accepts}
-use Rattle.model.specs.Lexicon.{entryCount, firstEntry, inLexicon, entry, formOf, isEntryOf, isEntry, linked}
+use Rattle.model.specs.Lexicon.{entryCount, firstEntry, inLexicon, formOf, isEntryOf, isEntry, linked}
 use Rattle.model.specs.GrammarOf.{grammarOf}
 use Rattle.model.specs.Readings.{passes, isPath, isReading, isReadingOf, upTo, beyond, stepList, endingList}
 use Rattle.model.specs.Query.{answers, entryNumbers, queryOf}
@@ -15,5 +15,5 @@ use Rattle.model.specs.Lines.{linesFrom, linesOf, fieldsFrom, fieldsOf, 
 use Rattle.model.specs.Samples.{plainBlock, entryBytes, imageOf, luzImage, tcWith, tcImage, frontWith, frontImage, deadImage, slipImage}
 
 unfoldable pub computed : Unit {0}
-unfolding block weightedSum checkOf numbered sealedBlock sealedImage header recordWidth kindAt blockTotal recordsAt withinLimits laidOut codePoints pairs pairsAndBoundary isCodePoint isPair column isFinal nextState isTable matches takesColumn columnFor columnsOf fed accepts entryCount firstEntry inLexicon entry formOf isEntryOf isEntry linked grammarOf passes isPath isReading isReadingOf upTo beyond stepList endingList answers entryNumbers queryOf walk stepAll alive begun finish countAt mayAt goAt complete start readingAt readings rightLength rightChecks rightLayout rightLetters rightPairs rightTables rightColumns rightEntries isLexical rightForms formatTests imageTests imageVerdict wordTests pathTests pairingTests ownTests requestTests judgeTests viewTests rowNumbers rowBytes rowAt filled replyTo replyNumber sealingReply afterSealing requestVerdict allReadings listingReply listingRows afterListing judged formStart viewed formReply linesFrom linesOf fieldsFrom fieldsOf valueFrom isNumber lineOf digits spaced printedReply printedRow printedLine printed plainBlock entryBytes imageOf luzImage tcWith tcImage frontWith frontImage deadImage slipImage
+unfolding block weightedSum checkOf numbered sealedBlock sealedImage header kinds recordStart blockTotal kindAt recordsAt withinLimits laidOut recordAt codePoints pairs pairsAndBoundary isCodePoint isPair column isFinal nextState isTable matches takesColumn columnFor columnsOf fed accepts entryCount firstEntry inLexicon formOf isEntryOf isEntry linked grammarOf passes isPath isReading isReadingOf upTo beyond stepList endingList answers entryNumbers queryOf walk stepAll alive begun finish countAt mayAt goAt complete start readingAt readings rightLength rightChecks rightLayout rightLetters rightPairs rightTables rightColumns rightEntries isLexical rightForms formatTests imageTests imageVerdict wordTests pathTests pairingTests ownTests requestTests judgeTests viewTests rowNumbers rowBytes rowAt filled replyTo replyNumber sealingReply afterSealing requestVerdict allReadings listingReply listingRows afterListing judged formStart viewed formReply linesFrom linesOf fieldsFrom fieldsOf valueFrom isNumber lineOf digits spaced printedReply printedRow printedLine printed plainBlock entryBytes imageOf luzImage tcWith tcImage frontWith frontImage deadImage slipImage
 computed = tt

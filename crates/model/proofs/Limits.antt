@@ -5,8 +5,8 @@ use mathlib.Core.Path.{_≡_, refl}
 use mathlib.Core.List.{List, [], _∷_, _++_, map}
 use lib.ListN.{length, take, drop, replicate, set}
 use Rattle.model.specs.Lists.{below, joined, flatMap, numberBytes}
-use Rattle.model.specs.Blocks.{Header, checkOf, header, laidOut, withinLimits, blockTotal, kindAt, recordsAt, sealedImage}
-use Rattle.model.specs.RuleTables.{Sides, codePoints, isCodePoint, pairs, isPair, table, column, isTable, nextState, isFinal, pairsAndBoundary, breadth, columnsOf}
+use Rattle.model.specs.Blocks.{Header, checkOf, header, laidOut, withinLimits, inAll, recordWidth, perBlock, firstBlock, recordStart, blockTotal, kindAt, recordsAt, sealedImage}
+use Rattle.model.specs.RuleTables.{Pair, Sides, codePoints, isCodePoint, pairs, isPair, table, column, isTable, nextState, isFinal, pairsAndBoundary, breadth, columnsOf}
 use Rattle.model.specs.Lexicon.{entryCount, firstEntry, entry, formOf, continuation, gloss, isEntry, pathLength}
 use Rattle.model.specs.Readings.{wordLength, pairingLength}
 use Rattle.model.specs.Refusals.{rightLength}
@@ -63,6 +63,29 @@ full-last-block : map (recordsAt (headed 9 8 2 3 62)) (6 ∷ 7 ∷ []) ≡ 31 �
 unfolding computed
 full-last-block = refl
 
+-- of kinds 1 to 6, and of 7, which there is not: the width of a record, how many a block holds, the first block, and how many there are
+widths : map (recordWidth (headed 9 8 2 3 40)) (below 8) ≡ 0 ∷ 12 ∷ 2 ∷ 2 ∷ 506 ∷ 2 ∷ 16 ∷ 0 ∷ []
+unfolding computed
+widths = refl
+
+records-a-block : map (perBlock (headed 9 8 2 3 40)) (1 ∷ 2 ∷ 3 ∷ 4 ∷ 5 ∷ 6 ∷ []) ≡ 42 ∷ 253 ∷ 253 ∷ 1 ∷ 253 ∷ 31 ∷ []
+unfolding computed
+records-a-block = refl
+
+first-blocks : map (firstBlock (headed 9 8 2 3 40)) (1 ∷ 2 ∷ 3 ∷ 4 ∷ 5 ∷ 6 ∷ []) ≡ 0 ∷ 1 ∷ 2 ∷ 3 ∷ 5 ∷ 6 ∷ []
+unfolding computed
+first-blocks = refl
+
+records-in-all : map (inAll (headed 9 8 2 3 40)) (below 8) ≡ 0 ∷ 1 ∷ 9 ∷ 8 ∷ 2 ∷ 3 ∷ 40 ∷ 0 ∷ []
+unfolding computed
+records-in-all = refl
+
+-- the last record of each kind, and of entries the last of a block and the first of the next
+record-starts : let start = recordStart (headed 9 8 2 3 40) in start 1 0 ∷ start 2 8 ∷ start 3 7 ∷ start 4 1 ∷ start 5 2 ∷ start 6 30 ∷ start 6 31 ∷ start 6 39 ∷ []
+    ≡ 4 ∷ 532 ∷ 1042 ∷ 2052 ∷ 2568 ∷ 3556 ∷ 3588 ∷ 3716 ∷ []
+unfolding computed
+record-starts = refl
+
 -- a block whose first n bytes of records are not 0
 abbrev used : ℕ → ℕ → ℕ → List ℕ
 used kind records n = plainBlock kind records (replicate n 1)
@@ -93,21 +116,21 @@ luz-code-points : codePoints luzImage ≡ 35 ∷ 43 ∷ 99 ∷ 101 ∷ 108 ∷ 1
 unfolding computed
 luz-code-points = refl
 
-abbrev sides : ℕ → ℕ → Sides
-sides a b = record { lexical = a; surface = b }
+abbrev pair : ℕ → ℕ → Pair
+pair a b = record { lexical = a; surface = b }
 
-luz-pairs : pairs luzImage ≡ sides 2 0 ∷ sides 3 3 ∷ sides 4 4 ∷ sides 5 5 ∷ sides 6 6 ∷ sides 7 7 ∷ sides 9 3 ∷ sides 9 8 ∷ []
+luz-pairs : pairs luzImage ≡ pair 2 0 ∷ pair 3 3 ∷ pair 4 4 ∷ pair 5 5 ∷ pair 6 6 ∷ pair 7 7 ∷ pair 9 3 ∷ pair 9 8 ∷ []
 unfolding computed
 luz-pairs = refl
 
-pair-sides : map (isPair 9) (sides 0 0 ∷ sides 0 2 ∷ sides 2 0 ∷ sides 9 9 ∷ sides 0 1 ∷ sides 1 0 ∷ sides 1 1 ∷ sides 10 2 ∷ sides 2 10 ∷ [])
+pair-sides : map (isPair 9) (pair 0 0 ∷ pair 0 2 ∷ pair 2 0 ∷ pair 9 9 ∷ pair 0 1 ∷ pair 1 0 ∷ pair 1 1 ∷ pair 10 2 ∷ pair 2 10 ∷ [])
     ≡ false ∷ true ∷ true ∷ true ∷ false ∷ false ∷ false ∷ false ∷ false ∷ []
 unfolding computed
 pair-sides = refl
 
 -- a table with c columns and s states, its column sides a, marks m, next states n, and the bytes after them
 abbrev tableOf : ℕ → ℕ → ℕ → ℕ → ℕ → List ℕ → List ℕ
-tableOf c s a m n rest = plainBlock 4 1 (c ∷ s ∷ (replicate (2 * c) a ++ replicate s m ++ replicate (c * s) n ++ rest))
+tableOf c s a m n rest = take 506 ((c ∷ s ∷ (replicate (2 * c) a ++ replicate s m ++ replicate (c * s) n ++ rest)) ++ replicate 506 0)
 
 table-sizes : map (λ t. isTable t 9) (tableOf 1 1 255 1 1 [] ∷ tableOf 16 24 255 1 24 [] ∷ tableOf 0 1 255 1 1 [] ∷ tableOf 1 0 255 1 0 [] ∷ tableOf 17 24 255 1 24 [] ∷ tableOf 16 25 255 1 24 [] ∷ [])
     ≡ true ∷ true ∷ false ∷ false ∷ false ∷ false ∷ []
@@ -120,9 +143,12 @@ unfolding computed
 table-entries = refl
 
 -- each byte of a table is looked at: one bad byte among good ones
-table-bytes : map (λ i. isTable (set (tableOf 2 2 9 1 2 []) i 77) 9) (6 ∷ 9 ∷ 10 ∷ 11 ∷ 12 ∷ 15 ∷ 16 ∷ 509 ∷ 510 ∷ []) ≡ false ∷ false ∷ false ∷ false ∷ false ∷ false ∷ false ∷ false ∷ true ∷ []
+table-bytes : map (λ i. isTable (set (tableOf 2 2 9 1 2 []) i 77) 9) (2 ∷ 5 ∷ 6 ∷ 7 ∷ 8 ∷ 11 ∷ 12 ∷ 505 ∷ []) ≡ replicate 8 false
 unfolding computed
 table-bytes = refl
+
+abbrev sides : ℕ → ℕ → Sides
+sides a b = record { lexical = a; surface = b }
 
 luz-columns : map (column (table luzImage 0)) (below 5) ≡ sides 9 3 ∷ sides 9 8 ∷ sides 2 0 ∷ sides 4 4 ∷ sides 255 255 ∷ []
 unfolding computed

@@ -1,6 +1,6 @@
 -- An entry that can never be spelled: accepted images are fewer by just those that have one, every call but sealing refuses them with 14, and no reading's
 -- path ever held such an entry, so that no row is lost with it.
-use Prim.Native.Nat.{ℕ, zero, suc, _+_, _*_, _<_}
+use Prim.Native.Nat.{ℕ, zero, suc, _<_}
 use native.Mathlib.Omega.{arith}
 use mathlib.Core.Bool.{Bool, true, false}
 use mathlib.Core.Path.{_≡_, refl, sym, ap, _∙_, subst}
@@ -8,9 +8,9 @@ use mathlib.Core.Logic.{_↔_}
 use mathlib.Core.List.{List, [], _∷_, _++_, map, List·Memᴰ, List·Memᴰ·head, List·Memᴰ·tail, Memᴰ·map, Memᴰ·append-left, Memᴰ·append-right}
 use lib.ListN.{getD}
 use lib.Dec.{T, ltb, eqb, eqb→eq, ltb→lt}
-use Rattle.model.specs.Lists.{below, every, joined, within, byte, sameList}
-use Rattle.model.specs.Blocks.{header, block}
-use Rattle.model.specs.RuleTables.{Sides, pairs, boundaryPair}
+use Rattle.model.specs.Lists.{below, every, joined, within, sameList}
+use Rattle.model.specs.Blocks.{header}
+use Rattle.model.specs.RuleTables.{Pair, pair, pairs, boundaryPair}
 use Rattle.model.specs.Lexicon.{entry, formOf}
 use Rattle.model.specs.Grammar.{Grammar}
 use Rattle.model.specs.GrammarOf.{grammarOf}
@@ -25,22 +25,19 @@ use Rattle.model.proofs.Tests.{clash, tests-append, tests-refused, test
 use Rattle.model.proofs.Listing.{listing}
 
 module _ (image : List ℕ) where
-  abbrev sides : ℕ → Sides
-  sides p = record { lexical = byte (block image 2) (4 + 2 * p); surface = byte (block image 2) (5 + 2 * p) }
-
   -- a letter by the numbers of the pairs
   lexical-from : (a : ℕ) → T (isLexical image a) → (p : ℕ) × (p < header image .pairs) × (getD (pairs image) p boundaryPair .lexical ≡ a)
   unfolding isLexical pairs
   lexical-from a t =
       let u = any-from (λ p. eqb (p .lexical) a) (pairs image) t in
-      let v = map-from sides (below (header image .pairs)) (u .1) in
+      let v = map-from (pair image) (below (header image .pairs)) (u .1) in
       let l = below-from (header image .pairs) (v .0) (v .1) in
-      (v .0, l, ap (λ (s : Sides). s .lexical) (getD-map-below sides (header image .pairs) (v .0) boundaryPair l ∙ sym (v .2)) ∙ eqb→eq (u .0 .lexical) a (u .2))
+      (v .0, l, ap (λ (s : Pair). s .lexical) (getD-map-below (pair image) (header image .pairs) (v .0) boundaryPair l ∙ sym (v .2)) ∙ eqb→eq (u .0 .lexical) a (u .2))
 
   lexical-has : (a p : ℕ) → p < header image .pairs → getD (pairs image) p boundaryPair .lexical ≡ a → T (isLexical image a)
   unfolding isLexical pairs
   lexical-has a p l e =
-      any-has (λ p. eqb (p .lexical) a) (pairs image) (member-at (pairs image) p boundaryPair (omega (arith, length-map-below sides (header image .pairs))))
+      any-has (λ p. eqb (p .lexical) a) (pairs image) (member-at (pairs image) p boundaryPair (omega (arith, length-map-below (pair image) (header image .pairs))))
       (eq→eqb (getD (pairs image) p boundaryPair .lexical) a e)
 
   -- test 14 in words

@@ -1,9 +1,9 @@
 -- Document 01, "Beside the listings": the judge, the entry view and its companion. (The reply's number in C is in Rows, the line program in Lines.)
-use Prim.Native.Nat.{ℕ, _+_, _*_, _/_, _%_}
+use Prim.Native.Nat.{ℕ, _+_}
 use mathlib.Core.Bool.{Bool, true, false}
 use mathlib.Core.List.{List, []}
 use lib.ListN.{take, drop}
-use Rattle.model.specs.Blocks.{header, entryBlock}
+use Rattle.model.specs.Blocks.{header, recordStart}
 use Rattle.model.specs.Lexicon.{entry, formLength}
 use Rattle.model.specs.GrammarOf.{grammarOf}
 use Rattle.model.specs.Readings.{Reading, isReading}
@@ -30,7 +30,7 @@ pub data FormReply : Type 0 where
 
 -- where the letters of an entry's form stand in the image
 unfoldable pub formStart : List ℕ → ℕ → ℕ
-formStart image e = 512 * (entryBlock (header image) + e / 31) + (5 + 16 * (e % 31))
+formStart image e = recordStart (header image) 6 e + 1
 
 abbrev pub viewAfter : Verdict → List ℕ → List ℕ
 viewAfter Verdict.accepted form = form

@@ -1,10 +1,10 @@
--- Document 01, "Blocks": blocks and their fields, the check, sealing, and which block holds what.
+-- Document 01, "Blocks": blocks and their fields, the check, sealing, and the table of kinds, which says where each record stands.
 use Prim.Native.Nat.{ℕ, zero, suc, _+_, _*_, _-_, _/_, _%_, min}
 use mathlib.Core.Bool.{Bool, _&&_, cond}
-use mathlib.Core.List.{List, [], _∷_, _++_}
-use lib.ListN.{length, getD, take, drop}
+use mathlib.Core.List.{List, [], _∷_, _++_, map}
+use lib.ListN.{length, take, drop}
 use lib.Dec.{ltb, eqb}
-use Rattle.model.specs.Lists.{below, every, part, flatMap, within, isZero, byte, number, numberBytes}
+use Rattle.model.specs.Lists.{below, every, sum, part, flatMap, within, isZero, byte, number, numberBytes}
 
 -- "An image is 1 to 128 blocks of 512 bytes."
 abbrev pub blockCount : List ℕ → ℕ
@@ -59,28 +59,77 @@ header image =
     let b = block image 0 in
     record { form = number b 4; letters = number b 6; pairs = number b 8; rules = number b 10; lexicons = number b 12; entries = number b 14 }
 
--- the table's "record width", by kind
-unfoldable pub recordWidth : ℕ → ℕ
-recordWidth kind = getD (0 ∷ 12 ∷ 2 ∷ 2 ∷ 506 ∷ 2 ∷ 16 ∷ []) kind 0
+-- the table of kinds, a row for each: "blocks", "record width", and how many records of it there are in all
+pub record Kind : Type 0 where
+  pub kind : ℕ
+  pub blocks : ℕ
+  pub width : ℕ
+  pub inAll : ℕ
+
+abbrev row : ℕ → ℕ → ℕ → ℕ → Kind
+row kind blocks width inAll = record { kind = kind; blocks = blocks; width = width; inAll = inAll }
+
+-- "bytes 4-509 records": how many of a width a block holds
+abbrev pub fitting : ℕ → ℕ
+fitting width = 506 / width
+
+-- "rounded up": the blocks that so many records of a width fill
+abbrev pub filling : ℕ → ℕ → ℕ
+filling width n = (n + (fitting width - 1)) / fitting width
+
+-- the rows "in this order", which is that of the blocks; the header decides, so that a form or a count can
+unfoldable pub kinds : Header → List Kind
+kinds h =
+    row 1 1 12 1
+    ∷ row 2 1 2 (h .letters)
+    ∷ row 3 1 2 (h .pairs)
+    ∷ row 4 (h .rules) 506 (h .rules)
+    ∷ row 5 1 2 (h .lexicons)
+    ∷ row 6 (filling 16 (h .entries)) 16 (h .entries)
+    ∷ []
+
+-- the row of a kind; nothing, where there is none
+abbrev pub rowOf : ℕ → List Kind → Kind
+rowOf kind [] = row 0 0 0 0
+rowOf kind (r ∷ rs) = cond (eqb (r .kind) kind) r (rowOf kind rs)
+
+-- the blocks before those of a kind, where n stand before the first row's
+abbrev pub blocksBefore : ℕ → ℕ → List Kind → ℕ
+blocksBefore kind n [] = n
+blocksBefore kind n (r ∷ rs) = cond (eqb (r .kind) kind) n (blocksBefore kind (n + r .blocks) rs)
+
+-- the kind of block k, where n blocks stand before the first row's
+abbrev pub kindFrom : ℕ → ℕ → List Kind → ℕ
+kindFrom k n [] = 0
+kindFrom k n (r ∷ rs) = cond (ltb k (n + r .blocks)) (r .kind) (kindFrom k (n + r .blocks) rs)
 
 module _ (h : Header) where
-  -- the blocks before those of kind 5 and of kind 6
-  abbrev pub lexiconBlock : ℕ
-  lexiconBlock = 3 + h .rules
+  -- by kind: how many records there are, how wide each is, how many a block holds, and its first block
+  abbrev pub inAll : ℕ → ℕ
+  inAll kind = rowOf kind (kinds h) .inAll
 
-  abbrev pub entryBlock : ℕ
-  entryBlock = 4 + h .rules
+  abbrev pub recordWidth : ℕ → ℕ
+  recordWidth kind = rowOf kind (kinds h) .width
 
-  -- the table's "blocks, in this order": one, one, one, R, one, "E/31 rounded up"
-  unfoldable pub kindAt : ℕ → ℕ
-  kindAt k = cond (ltb k 3) (suc k) (cond (ltb k lexiconBlock) 4 (cond (eqb k lexiconBlock) 5 6))
+  abbrev pub perBlock : ℕ → ℕ
+  perBlock kind = fitting (recordWidth kind)
+
+  abbrev pub firstBlock : ℕ → ℕ
+  firstBlock kind = blocksBefore kind 0 (kinds h)
+
+  -- where record i of a kind begins: in which block, and after how many records of it
+  unfoldable pub recordStart : ℕ → ℕ → ℕ
+  recordStart kind i = 512 * (firstBlock kind + i / perBlock kind) + (4 + recordWidth kind * (i % perBlock kind))
 
   unfoldable pub blockTotal : ℕ
-  blockTotal = entryBlock + (h .entries + 30) / 31
+  blockTotal = sum (map (λ r. r .blocks) (kinds h))
 
-  -- "Kind 4 counts one record a block; kind 6 has 31, the last block the rest."
+  unfoldable pub kindAt : ℕ → ℕ
+  kindAt k = kindFrom k 0 (kinds h)
+
+  -- "Kind 4 counts one record a block; kind 6 has 31, the last block the rest.": those that the blocks before have left, as many as a block holds
   unfoldable pub recordsAt : ℕ → ℕ
-  recordsAt k = getD (0 ∷ 1 ∷ h .letters ∷ h .pairs ∷ 1 ∷ h .lexicons ∷ min 31 (h .entries - 31 * (k - entryBlock)) ∷ []) (kindAt k) 0
+  recordsAt k = let kind = kindAt k in min (perBlock kind) (inAll kind - perBlock kind * (k - firstBlock kind))
 
   -- "Limits: letters L 2-120, pairs P 1-250, rules R 0-32, lexicons X 1-64, entries E 1-2,800."
   unfoldable pub withinLimits : Bool
@@ -92,3 +141,7 @@ module _ (h : Header) where
       eqb (blockKind b) (kindAt k)
       && eqb (recordCount b) (recordsAt k)
       && every isZero (drop (4 + recordWidth (kindAt k) * recordsAt k) (take 510 b))
+
+-- the bytes of record i of a kind
+unfoldable pub recordAt : List ℕ → ℕ → ℕ → List ℕ
+recordAt image kind i = let h = header image in take (recordWidth h kind) (drop (recordStart h kind i) image)

@@ -6,7 +6,7 @@ use lib.ListN.{length, getD}
 use lib.Dec.{eqb}
 use Rattle.model.specs.Lists.{below}
 use Rattle.model.specs.Blocks.{header}
-use Rattle.model.specs.RuleTables.{Sides, pairs, boundaryPair, table, columnsOf, nextState, isFinal}
+use Rattle.model.specs.RuleTables.{pairs, boundaryPair, table, columnsOf, nextState, isFinal}
 use Rattle.model.specs.Lexicon.{inLexicon, entry, formOf, continuation}
 use Rattle.model.specs.Grammar.{Grammar}
 

@@ -1,16 +1,16 @@
 -- Document 01, "Lexicon": entries of an image, the entries of a lexicon, and paths.
-use Prim.Native.Nat.{ℕ, _+_, _*_, _/_, _%_}
+use Prim.Native.Nat.{ℕ, _+_}
 use mathlib.Core.Bool.{Bool, _&&_, _||_, not}
 use mathlib.Core.List.{List, [], _∷_, map}
 use lib.ListN.{length, take, drop}
 use lib.Dec.{leb, ltb, eqb}
 use Rattle.model.specs.Lists.{below, every, sum, within, isZero, byte, number}
-use Rattle.model.specs.Blocks.{block, header, lexiconBlock, entryBlock}
+use Rattle.model.specs.Blocks.{recordAt}
 
 module _ (image : List ℕ) where
   -- "entry count of lexicon 0, 1, .. X-1"
   unfoldable pub entryCount : ℕ → ℕ
-  entryCount x = number (block image (lexiconBlock (header image))) (4 + 2 * x)
+  entryCount x = number (recordAt image 5 x) 0
 
   -- "Entries are numbered from 0 through the lexicons in order.": the first of lexicon x
   unfoldable pub firstEntry : ℕ → ℕ
@@ -19,9 +19,8 @@ module _ (image : List ℕ) where
   unfoldable pub inLexicon : ℕ → ℕ → Bool
   inLexicon x e = leb (firstEntry x) e && ltb e (firstEntry x + entryCount x)
 
-  -- entry e, 16 bytes, 31 to a block
-  unfoldable pub entry : ℕ → List ℕ
-  entry e = take 16 (drop (4 + 16 * (e % 31)) (block image (entryBlock (header image) + e / 31)))
+  abbrev pub entry : ℕ → List ℕ
+  entry e = recordAt image 6 e
 
 -- "An entry is form length (0-12), 12 letter bytes (2-L, the rest 0), continuation lexicon (below X, or 255 for end), a two-byte gloss number."
 module _ (entry : List ℕ) where

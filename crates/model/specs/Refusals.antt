@@ -7,7 +7,7 @@ use lib.ListN.{length}
 use lib.Dec.{ltb, eqb}
 use Rattle.model.specs.Lists.{below, every, any, distinct, sum, within}
 use Rattle.model.specs.Blocks.{block, blockCount, blockNumber, blockCheck, checkOf, header, withinLimits, blockTotal, laidOut}
-use Rattle.model.specs.RuleTables.{codePoints, isCodePoint, pairs, isPair, sameSides, table, isTable, columnCount, columnsOf}
+use Rattle.model.specs.RuleTables.{codePoints, isCodePoint, pairs, isPair, samePair, table, isTable, columnCount, columnsOf}
 use Rattle.model.specs.Lexicon.{entryCount, entry, formOf, isEntry, pathLength}
 use Rattle.model.specs.GrammarOf.{grammarOf}
 use Rattle.model.specs.Readings.{isLinked, wordLength, pairingLength}
@@ -50,7 +50,7 @@ module _ (image : List ℕ) where
 
   -- 5, "a pair breaks its rule or is repeated"
   unfoldable pub rightPairs : Bool
-  rightPairs = every (isPair (header image .letters)) (pairs image) && distinct sameSides (pairs image)
+  rightPairs = every (isPair (header image .letters)) (pairs image) && distinct samePair (pairs image)
 
   -- 6, "C, S, a column side, mark or next state out of range, or a byte after a table's last row not 0"
   unfoldable pub rightTables : Bool

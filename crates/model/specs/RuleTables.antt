@@ -5,31 +5,39 @@ use mathlib.Core.List.{List, [], _∷_, _++_, map}
 use lib.ListN.{getD, take, drop}
 use lib.Dec.{leb, ltb, eqb}
 use Rattle.model.specs.Lists.{below, every, count, first, distinct, within, isZero, byte, number}
-use Rattle.model.specs.Blocks.{block, header}
+use Rattle.model.specs.Blocks.{header, recordAt}
 
--- the two sides of a pair, or of a column: "The two levels have their own letters"
+-- a pair: "The two levels have their own letters"
+pub record Pair : Type 0 where
+  pub lexical : ℕ
+  pub surface : ℕ
+
+abbrev pub samePair : Pair → Pair → Bool
+samePair p q = eqb (p .lexical) (q .lexical) && eqb (p .surface) (q .surface)
+
+-- what a column says of a pair, side by side
 pub record Sides : Type 0 where
   pub lexical : ℕ
   pub surface : ℕ
 
-abbrev pub sameSides : Sides → Sides → Bool
-sameSides p q = eqb (p .lexical) (q .lexical) && eqb (p .surface) (q .surface)
-
 module _ (image : List ℕ) where
   -- "code point of letter 1, 2, .. L"
   unfoldable pub codePoints : List ℕ
-  codePoints = let b = block image 1 in map (λ i. number b (4 + 2 * i)) (below (header image .letters))
+  codePoints = map (λ i. number (recordAt image 2 i) 0) (below (header image .letters))
 
   -- "lexical, surface: pair 0, 1, .. P-1"
-  unfoldable pub pairs : List Sides
-  pairs = let b = block image 2 in map (λ p. record { lexical = byte b (4 + 2 * p); surface = byte b (5 + 2 * p) }) (below (header image .pairs))
+  abbrev pub pair : ℕ → Pair
+  pair p = let r = recordAt image 3 p in record { lexical = byte r 0; surface = byte r 1 }
+
+  unfoldable pub pairs : List Pair
+  pairs = map pair (below (header image .pairs))
 
 -- "Letter 0 is the null, letter 1 the word boundary, which only pairs with itself and isn't listed."
-abbrev pub boundaryPair : Sides
+abbrev pub boundaryPair : Pair
 boundaryPair = record { lexical = 1; surface = 1 }
 
 -- "the P pairs and the boundary pair together": the boundary pair has number P
-unfoldable pub pairsAndBoundary : List ℕ → List Sides
+unfoldable pub pairsAndBoundary : List ℕ → List Pair
 pairsAndBoundary image = pairs image ++ (boundaryPair ∷ [])
 
 -- a code point that 4 lets pass: not 0, and not "55296-57343"
@@ -37,29 +45,29 @@ unfoldable pub isCodePoint : ℕ → Bool
 isCodePoint n = not (isZero n) && not (within 55296 57343 n)
 
 -- "A pair has sides 0 or 2-L, not both 0."
-unfoldable pub isPair : ℕ → Sides → Bool
+unfoldable pub isPair : ℕ → Pair → Bool
 isPair letters p =
     (isZero (p .lexical) || within 2 letters (p .lexical))
     && (isZero (p .surface) || within 2 letters (p .surface))
     && not (isZero (p .lexical) && isZero (p .surface))
 
--- "A table: column count C (1-16), state count S (1-24), C columns .., S final marks .., then S rows of C next states", from byte 4 of its block on
+-- "A table: column count C (1-16), state count S (1-24), C columns .., S final marks .., then S rows of C next states"
 abbrev pub table : List ℕ → ℕ → List ℕ
-table image r = block image (3 + r)
+table image r = recordAt image 4 r
 
 module _ (t : List ℕ) where
   abbrev pub columnCount : ℕ
-  columnCount = byte t 4
+  columnCount = byte t 0
 
   abbrev pub stateCount : ℕ
-  stateCount = byte t 5
+  stateCount = byte t 1
 
   unfoldable pub column : ℕ → Sides
-  column c = record { lexical = byte t (6 + 2 * c); surface = byte t (7 + 2 * c) }
+  column c = record { lexical = byte t (2 + 2 * c); surface = byte t (3 + 2 * c) }
 
   -- where the marks, the rows and the unused bytes begin
   abbrev pub marksAt : ℕ
-  marksAt = 6 + 2 * columnCount
+  marksAt = 2 + 2 * columnCount
 
   abbrev pub rowsAt : ℕ
   rowsAt = marksAt + stateCount
@@ -81,31 +89,31 @@ module _ (t : List ℕ) where
   isTable letters =
       within 1 16 columnCount
       && within 1 24 stateCount
-      && every (λ b. leb b letters || eqb b 255) (take (2 * columnCount) (drop 6 t))
+      && every (λ b. leb b letters || eqb b 255) (take (2 * columnCount) (drop 2 t))
       && every (λ b. leb b 1) (take stateCount (drop marksAt t))
       && every (λ b. leb b stateCount) (take (columnCount * stateCount) (drop rowsAt t))
-      && every isZero (drop tableEnd (take 510 t))
+      && every isZero (drop tableEnd t)
 
 -- "255 for any, which matches the null and the boundary too"
 abbrev pub matchesSide : ℕ → ℕ → Bool
 matchesSide side letter = eqb side 255 || eqb side letter
 
-unfoldable pub matches : Sides → Sides → Bool
+unfoldable pub matches : Sides → Pair → Bool
 matches c p = matchesSide (c .lexical) (p .lexical) && matchesSide (c .surface) (p .surface)
 
 -- how many of the pairs a column matches
-abbrev pub breadth : List Sides → Sides → ℕ
+abbrev pub breadth : List Pair → Sides → ℕ
 breadth ps c = count (matches c) ps
 
-module _ (ps : List Sides) (t : List ℕ) where
+module _ (ps : List Pair) (t : List ℕ) where
   -- "Of the matching columns a pair takes the one that matches fewest of the P pairs and the boundary pair together."
-  unfoldable pub takesColumn : Sides → ℕ → Bool
+  unfoldable pub takesColumn : Pair → ℕ → Bool
   takesColumn p c =
       matches (column t c) p
       && every (λ d. eqb d c || not (matches (column t d) p) || ltb (breadth ps (column t c)) (breadth ps (column t d))) (below (columnCount t))
 
   -- the column that a pair takes; C where it takes none
-  unfoldable pub columnFor : Sides → ℕ
+  unfoldable pub columnFor : Pair → ℕ
   columnFor p = first (takesColumn p) (below (columnCount t)) (columnCount t)
 
 -- the columns that rule r takes for pair 0, 1, .. P-1 and the boundary pair

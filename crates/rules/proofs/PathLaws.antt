@@ -10,7 +10,7 @@ use lib.Seq.{getD-append-add}
 use lib.Dec.{T, leb, ltb, eqb, ltb→lt}
 use borrow.Author.Tests.{lt-ltb, le-ltb, le-leb, lt-leb, eq-eqb, ne-eqb}
 use Rattle.model.specs.Lists.{every, joined, within, byte, number}
-use Rattle.model.specs.Blocks.{Header, header}
+use Rattle.model.specs.Blocks.{Header, header, recordStart}
 use Rattle.model.specs.Lexicon.{entryCount, firstEntry, inLexicon, entry, formLength, formOf, continuation, linked, pathLength}
 use Rattle.model.specs.Refusals.{rightEntries}
 use Rattle.model.specs.GrammarOf.{grammarOf}
@@ -23,7 +23,7 @@ use Rattle.model.proofs.Rest.{drop-step, every-getD}
 use Rattle.image.specs.Laid.{Laid}
 use Rattle.image.specs.Accepted.{Accepted}
 use Rattle.model.proofs.Booleans.{within-below, within-above, within-true}
-use Rattle.lexicon.proofs.Laws.{entryStart, entry-inside, form-size, form-byte, form-short, form-letters}
+use Rattle.lexicon.proofs.Laws.{entry-inside, form-size, form-byte, form-short, form-letters}
 use Rattle.rules.specs.Paths.{Entered, formsOf}
 
 -- the count of entries that a header tells is the image's
@@ -167,13 +167,13 @@ module _ {image : List ℕ} {h : Header} (ok : Accepted image h) where
     short : formLength (entry image e) ≤ 12
     short = form-short image h (ok .laid) (of-true (rightEntries image) (ok .entries-right)) e l
 
-    pub letter-inside : entryStart h e + (1 + t) < length image
+    pub letter-inside : recordStart h 6 e + (1 + t) < length image
     letter-inside = entry-inside image h (ok .laid) e (1 + t) l (omega (arith, short))
 
-    pub letter-byte : byte image (entryStart h e + (1 + t)) ≡ getD (formOf (entry image e)) t 0
+    pub letter-byte : byte image (recordStart h 6 e + (1 + t)) ≡ getD (formOf (entry image e)) t 0
     unfolding formStart
     letter-byte =
-        let s : entryStart h e ≡ entryStart (header image) e = ap (λ (g : Header). entryStart g e) (ok .laid .header-is) in
+        let s : recordStart h 6 e ≡ recordStart (header image) 6 e = ap (λ (g : Header). recordStart g 6 e) (ok .laid .header-is) in
         sym (form-byte image h (ok .laid) e t short k ∙ ap (byte image) (omega arith))
 
   -- no letter of a form is the null

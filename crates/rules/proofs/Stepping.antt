@@ -10,73 +10,78 @@ use lib.Seq.{getD-take, getD-set-same, getD-set-other, ext-getD}
 use lib.Dec.{T, eqb}
 use borrow.Author.Tests.{ne-eqb}
 use Rattle.model.specs.Lists.{below, every, isZero, byte}
-use Rattle.model.specs.Blocks.{header}
+use Rattle.model.specs.Blocks.{header, recordStart}
 use Rattle.model.specs.RuleTables.{table, columnCount, stateCount, rowsAt, isFinal, columnsOf}
 use Rattle.model.specs.GrammarOf.{grammarOf}
 use Rattle.model.specs.Tree.{stepAll, alive, begun, finish}
 use Rattle.model.proofs.Booleans.{of-true, true-of}
 use Rattle.model.proofs.Lists.{length-map-below, getD-map-below, every-in, every-same, every-fails, below-from}
-use Rattle.model.proofs.Blocks.{block-byte}
 use Rattle.image.specs.Accepted.{Accepted}
 use Rattle.image.specs.Index.{indexOf}
 use Rattle.rules.specs.Live.{Live, StepOf, stepOf, begunOf, aliveOf, finishOf, endsFinal}
-use Rattle.tables.proofs.Laws.{columns-most, states-least, states-most}
+use Rattle.tables.proofs.Laws.{table-inside, table-byte, columns-most, states-least, states-most}
 use Rattle.index.proofs.Laws.{column-byte}
-use Rattle.rules.proofs.Tables.{grammar-rules, grammar-pairs, table-inside, table-ok, next-byte, next-within, grammar-final}
+use Rattle.rules.proofs.Tables.{grammar-rules, grammar-pairs, table-ok, next-byte, next-within, grammar-final}
 
-module _ {image : List ℕ} (ok : Accepted image (header image)) (r : ℕ) (rule : r < header image .rules) where
-  -- a byte of rule r's table, in the image
-  there : (i : ℕ) → i < 512 → byte (table image r) i ≡ byte image (512 * (3 + r) + i)
-  there i h = block-byte image (3 + r) i h
+module _ {image : List ℕ} (ok : Accepted image (header image)) (r : ℕ) (rule : r < header image .rules) (at : ℕ) (begins : at ≡ recordStart (header image) 4 r) where
+  -- a byte of the rule's table, which begins there
+  there : (i : ℕ) → i < 506 → byte (table image r) i ≡ byte image (at + i)
+  there i h = table-byte image (header image) (ok .laid) r i h ∙ ap (λ (n : ℕ). byte image (n + i)) (sym begins)
+
+  pub inside : (i : ℕ) → i < 506 → at + i < length image
+  inside i h = omega (arith, table-inside image (header image) (ok .laid) r i rule h)
+
+  first : byte (table image r) 0 ≡ byte image at
+  first = there 0 (omega arith) ∙ ap (byte image) (omega arith)
 
   -- the next state, by what is read before it
   module _ (index : List ℕ) (whole : index ≡ indexOf image) (s p column columns states : ℕ) (pair : p ≤ header image .pairs) (least : 1 ≤ s) (most : s ≤ stateCount (table image r))
-      (e : column ≡ byte index (256 * r + p)) (f : columns ≡ byte image (512 * (3 + r) + 4)) (g : states ≡ byte image (512 * (3 + r) + 5)) where
+      (e : column ≡ byte index (256 * r + p)) (f : columns ≡ byte image at) (g : states ≡ byte image (at + 1)) where
     abbrev place : ℕ
-    place = 512 * (3 + r) + (6 + 2 * columns + states) + (columns * (s - 1) + column)
+    place = at + (2 + 2 * columns + states) + (columns * (s - 1) + column)
 
     offset : ℕ
     offset = rowsAt (table image r) + (columnCount (table image r) * (s - 1) + getD (columnsOf image r) p 0)
 
-    place-is : place ≡ 512 * (3 + r) + offset
+    place-is : place ≡ at + offset
     unfolding offset
     place-is =
         let a : column ≡ getD (columnsOf image r) p 0 = e ∙ ap (λ (l : List ℕ). byte l (256 * r + p)) whole ∙ column-byte ok r p rule pair in
-        let b : columns ≡ columnCount (table image r) = f ∙ sym (there 4 (omega arith)) in
-        let c : states ≡ stateCount (table image r) = g ∙ sym (there 5 (omega arith)) in
+        let b : columns ≡ columnCount (table image r) = f ∙ sym first in
+        let c : states ≡ stateCount (table image r) = g ∙ sym (there 1 (omega arith)) in
         let m : columns * (s - 1) ≡ columnCount (table image r) * (s - 1) = ap (λ (n : ℕ). n * (s - 1)) b in
         omega arith
 
-    offset-most : offset < 510
+    offset-most : offset < 506
     unfolding offset
     offset-most = next-byte ok r s p rule pair least most .0
 
     pub place-inside : place < length image
-    place-inside = omega (arith, place-is, table-inside ok r rule offset (omega (arith, offset-most)))
+    place-inside = omega (arith, place-is, inside offset offset-most)
 
     pub next-read : byte image place ≡ grammarOf image .next r s p
     unfolding offset
-    next-read = ap (byte image) place-is ∙ sym (next-byte ok r s p rule pair least most .1 ∙ there offset (omega (arith, offset-most)))
+    next-read = ap (byte image) place-is ∙ sym (next-byte ok r s p rule pair least most .1 ∙ there offset offset-most)
 
   -- the final mark of state `last`, by the number of columns
-  module _ (last columns : ℕ) (few : last ≤ stateCount (table image r)) (f : columns ≡ byte image (512 * (3 + r) + 4)) where
+  module _ (last columns : ℕ) (few : last ≤ stateCount (table image r)) (f : columns ≡ byte image at) where
     columns-are : columns ≡ columnCount (table image r)
-    columns-are = f ∙ sym (there 4 (omega arith))
+    columns-are = f ∙ sym first
 
-    mark-offset : 6 + 2 * columns + (last - 1) < 512
+    mark-offset : 2 + 2 * columns + (last - 1) < 506
     mark-offset = let right = table-ok ok r rule in omega (arith, columns-are, columns-most _ _ right, states-most _ _ right)
 
-    pub mark-inside : 512 * (3 + r) + (6 + 2 * columns) + (last - 1) < length image
-    mark-inside = omega (arith, table-inside ok r rule (6 + 2 * columns + (last - 1)) mark-offset)
+    pub mark-inside : at + (2 + 2 * columns) + (last - 1) < length image
+    mark-inside = omega (arith, inside (2 + 2 * columns + (last - 1)) mark-offset)
 
-    pub final-read : (last ≡ 0 → ⊥) → eqb (byte image (512 * (3 + r) + (6 + 2 * columns) + (last - 1))) 1 ≡ grammarOf image .final r last
+    pub final-read : (last ≡ 0 → ⊥) → eqb (byte image (at + (2 + 2 * columns) + (last - 1))) 1 ≡ grammarOf image .final r last
     unfolding isFinal
     final-read some = go last refl
       where
-        go : (n : ℕ) → n ≡ last → eqb (byte image (512 * (3 + r) + (6 + 2 * columns) + (last - 1))) 1 ≡ grammarOf image .final r last
+        go : (n : ℕ) → n ≡ last → eqb (byte image (at + (2 + 2 * columns) + (last - 1))) 1 ≡ grammarOf image .final r last
         go zero e = absurd (some (sym e))
         go (suc n) e =
-            ap (λ (b : ℕ). eqb b 1) (ap (byte image) (omega arith) ∙ sym (there (6 + 2 * columns + (last - 1)) mark-offset) ∙ ap (byte (table image r)) (omega (arith, columns-are)))
+            ap (λ (b : ℕ). eqb b 1) (ap (byte image) (omega arith) ∙ sym (there (2 + 2 * columns + (last - 1)) mark-offset) ∙ ap (byte (table image r)) (omega (arith, columns-are)))
             ∙ sym (grammar-final ok r (suc n) rule)
             ∙ ap (grammarOf image .final r) e
 

@@ -6,7 +6,7 @@ use mathlib.Core.List.{List, []}
 use lib.ListN.{length, getD}
 use lib.Dec.{T}
 use Rattle.model.specs.Lists.{byte}
-use Rattle.model.specs.Blocks.{Header, header, blockTotal}
+use Rattle.model.specs.Blocks.{Header, header}
 use Rattle.model.specs.RuleTables.{table, columnCount, stateCount, rowsAt, isFinal, nextState, isTable, columnsOf}
 use Rattle.model.specs.GrammarOf.{grammarOf}
 use Rattle.model.specs.Refusals.{rightTables, rightColumns}
@@ -31,10 +31,6 @@ module _ (image : List ℕ) where
 
 -- the rules of an accepted image
 module _ {image : List ℕ} (ok : Accepted image (header image)) where
-  pub table-inside : (r : ℕ) → r < header image .rules → (i : ℕ) → i < 512 → 512 * (3 + r) + i < length image
-  unfolding blockTotal
-  table-inside r h i k = omega (arith, ok .laid .whole)
-
   pub table-ok : (r : ℕ) → r < header image .rules → T (isTable (table image r) (header image .letters))
   table-ok r h = right-table image (of-true (rightTables image) (ok .tables-right)) r h
 
@@ -49,7 +45,7 @@ module _ {image : List ℕ} (ok : Accepted image (header image)) where
 
   -- where rule r, in state s, finds its next state by a column
   pub next-byte : (r s p : ℕ) → r < header image .rules → p ≤ header image .pairs → 1 ≤ s → s ≤ stateCount (table image r)
-      → (rowsAt (table image r) + (columnCount (table image r) * (s - 1) + getD (columnsOf image r) p 0) < 510)
+      → (rowsAt (table image r) + (columnCount (table image r) * (s - 1) + getD (columnsOf image r) p 0) < 506)
       × (grammarOf image .next r s p ≡ byte (table image r) (rowsAt (table image r) + (columnCount (table image r) * (s - 1) + getD (columnsOf image r) p 0)))
       × (grammarOf image .next r s p ≤ stateCount (table image r))
   unfolding nextState

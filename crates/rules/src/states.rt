@@ -9,20 +9,21 @@ ghost use Rattle.image.specs.Accepted.{Accepted};
 ghost use Rattle.image.specs.Index.{indexOf};
 ghost use Rattle.rules.specs.Live.{Live, StepOf, BegunOf, finishOf, endsFinal};
 use image::Header;
+use image::kinds;
 
 // The state that rule r goes to from state s by pair p. The index has the column.
-fn next_state(image: &[u8], index: &[u8], r: usize, s: u8, p: usize) -> u8
-    requires { ⌜ Accepted (now image) (header (now image)) ⌝ }
+fn next_state(image: &[u8], index: &[u8], h: Header, r: usize, s: u8, p: usize) -> u8
+    requires { ⌜ Accepted (now image) (headerOf h) ⌝ }
     requires { ⌜ now index ≡ indexOf (now image) ⌝ }
     requires { ⌜ (r < header (now image) .rules) × (p ≤ header (now image) .pairs) ⌝ }
     requires { ⌜ (1 ≤ s) × (s ≤ stateCount (table (now image) r)) ⌝ }
     ensures { λ n. ⌜ (n ≡ grammarOf (now (image .entry)) .next r s p) × (n ≤ stateCount (table (now (image .entry)) r)) ⌝ }
 {
     let column = image::byte_at(index, 256 * r + p);
-    let at = 512 * (3 + r);
-    let columns = image::byte_at(image, at + 4);
-    let states = image::byte_at(image, at + 5);
-    let rows = at + (6 + 2 * columns + states);
+    let at = kinds::record_start(h, 4, r);
+    let columns = image::byte_at(image, at);
+    let states = image::byte_at(image, at + 1);
+    let rows = at + (2 + 2 * columns + states);
     let place = rows + (columns * (s as usize - 1) + column);
     image[place]
 }
@@ -45,7 +46,7 @@ pub fn step_all(image: &[u8], index: &[u8], h: Header, states: [u8; 32], p: usiz
     let mut after = states;
     let mut r: usize = 0;
     while r < rules {
-        let s = next_state(image, index, r, after[r], p);
+        let s = next_state(image, index, h, r, after[r], p);
         if s == 0 {
             return Stepped {
                 alive: false,
@@ -62,20 +63,20 @@ pub fn step_all(image: &[u8], index: &[u8], h: Header, states: [u8; 32], p: usiz
 }
 
 // Whether rule r, in state s, comes by pair p to a final state.
-fn ends_final(image: &[u8], index: &[u8], r: usize, s: u8, p: usize) -> bool
-    requires { ⌜ Accepted (now image) (header (now image)) ⌝ }
+fn ends_final(image: &[u8], index: &[u8], h: Header, r: usize, s: u8, p: usize) -> bool
+    requires { ⌜ Accepted (now image) (headerOf h) ⌝ }
     requires { ⌜ now index ≡ indexOf (now image) ⌝ }
     requires { ⌜ (r < header (now image) .rules) × (p ≤ header (now image) .pairs) ⌝ }
     requires { ⌜ (1 ≤ s) × (s ≤ stateCount (table (now image) r)) ⌝ }
     ensures { λ b. ⌜ b ≡ endsFinal (grammarOf (now (image .entry))) r s p ⌝ }
 {
-    let last = next_state(image, index, r, s, p);
+    let last = next_state(image, index, h, r, s, p);
     if last == 0 {
         return false;
     }
-    let at = 512 * (3 + r);
-    let columns = image::byte_at(image, at + 4);
-    let marks = at + (6 + 2 * columns);
+    let at = kinds::record_start(h, 4, r);
+    let columns = image::byte_at(image, at);
+    let marks = at + (2 + 2 * columns);
     image::byte_at(image, marks + (last as usize - 1)) == 1
 }
 
@@ -90,7 +91,7 @@ pub fn finish_all(image: &[u8], index: &[u8], h: Header, states: [u8; 32]) -> bo
     let boundary = h.pairs;
     let mut rule: usize = 0;
     while rule < rules {
-        if !ends_final(image, index, rule, states[rule], boundary) {
+        if !ends_final(image, index, h, rule, states[rule], boundary) {
             return false;
         }
         rule += 1;

@@ -10,7 +10,7 @@ use lib.Seq.{take-nil, getD-set-same, getD-set-other}
 use lib.Dec.{T, leb, ltb, eqb}
 use borrow.Author.Tests.{eqb-true, ne-eqb}
 use Rattle.model.specs.Lists.{given, any, every, within, flatMap, isZero, byte}
-use Rattle.model.specs.Blocks.{Header}
+use Rattle.model.specs.Blocks.{Header, recordStart}
 use Rattle.model.specs.Lexicon.{entry, formOf, formLength, continuation, isEntryOf, isEntry}
 use Rattle.model.specs.Refusals.{rightEntries}
 use Rattle.model.specs.Grammar.{Grammar}
@@ -23,7 +23,6 @@ use Rattle.model.proofs.Rest.{any-on, any-found, any-done}
 use Rattle.image.specs.Accepted.{Accepted}
 use Rattle.image.specs.Index.{candidates}
 use Rattle.lexicon.proofs.Laws as entries
-use Rattle.lexicon.proofs.Laws.{entryStart}
 use Rattle.rows.specs.declared.Trail.{Trail}
 use Rattle.rows.specs.Trail.{readingOf}
 use Rattle.listing.specs.declared.place.Place.{Place}
@@ -51,10 +50,10 @@ module _ (image : List ℕ) (h : Header) (ok : Accepted image h) (e : ℕ) (insi
   right : T (rightEntries image)
   right = of-true (rightEntries image) (ok .entries-right)
 
-  pub first-inside : entryStart h e + 1 < length image
+  pub first-inside : recordStart h 6 e + 1 < length image
   first-inside = entries.entry-inside image h (ok .laid) e 1 inside (omega arith)
 
-  pub first-is : byte image (entryStart h e + 1) ≡ headOf (grammarOf image .form e)
+  pub first-is : byte image (recordStart h 6 e + 1) ≡ headOf (grammarOf image .form e)
   unfolding grammarOf formOf isEntryOf isEntry
   first-is =
       let l = entry image e in

@@ -1,11 +1,12 @@
 -- A table by its counts and its four ranges of bytes: the first that is out of bounds decides.
 use Prim.Native.Nat.{ℕ, _+_, _*_, _<_, _≤_}
 use native.Mathlib.Nat.{mul-le-mul}
+use native.Mathlib.Omega.{arith}
 use mathlib.Core.Bool.{Bool, true, false, _&&_, _||_, not}
 use mathlib.Core.Path.{_≡_, refl, sym, ap, _∙_}
 use mathlib.Core.List.{List}
-use lib.ListN.{take, drop}
-use lib.Seq.{slice}
+use lib.ListN.{length, take, drop}
+use lib.Seq.{slice, take-all}
 use lib.Dec.{leb, eqb}
 use borrow.Author.Tests.{le-leb, lt-leb}
 use Rattle.model.specs.Lists.{every, within, isZero}
@@ -57,7 +58,7 @@ module _ (t : List ℕ) (letters : ℕ) where
   counts = rightCounts (columnCount t) (stateCount t)
 
   abbrev pub sides : Bool
-  sides = every (λ b. leb b letters || eqb b 255) (take (2 * columnCount t) (drop 6 t))
+  sides = every (λ b. leb b letters || eqb b 255) (take (2 * columnCount t) (drop 2 t))
 
   abbrev pub marks : Bool
   marks = every (λ b. leb b 1) (take (stateCount t) (drop (marksAt t) t))
@@ -66,7 +67,7 @@ module _ (t : List ℕ) (letters : ℕ) where
   nexts = every (λ b. leb b (stateCount t)) (take (columnCount t * stateCount t) (drop (rowsAt t) t))
 
   abbrev pub rest : Bool
-  rest = every isZero (drop (tableEnd t) (take 510 t))
+  rest = every isZero (drop (tableEnd t) t)
 
   pub table-is : isTable t letters ≡ (counts && sides && marks && nexts && rest)
   unfolding isTable
@@ -77,50 +78,50 @@ module _ (t : List ℕ) (letters : ℕ) where
     counts-are : rightCounts c s ≡ counts
     counts-are = rw (C, S)
 
-    sides-are : every (allowed true letters) (slice 6 (6 + 2 * c) t) ≡ sides
+    sides-are : every (allowed true letters) (slice 2 (2 + 2 * c) t) ≡ sides
     unfolding allowed
-    sides-are = rw C (ap (every (λ b. leb b letters || eqb b 255)) (drop-take 6 (2 * columnCount t) t))
+    sides-are = rw C (ap (every (λ b. leb b letters || eqb b 255)) (drop-take 2 (2 * columnCount t) t))
 
-    marks-are : every (allowed false 1) (slice (6 + 2 * c) (6 + 2 * c + s) t) ≡ marks
+    marks-are : every (allowed false 1) (slice (2 + 2 * c) (2 + 2 * c + s) t) ≡ marks
     unfolding allowed
     marks-are = rw (C, S) (ap (every (λ b. leb b 1)) (drop-take (marksAt t) (stateCount t) t))
 
-    nexts-are : every (allowed false s) (slice (6 + 2 * c + s) (6 + 2 * c + s + c * s) t) ≡ nexts
+    nexts-are : every (allowed false s) (slice (2 + 2 * c + s) (2 + 2 * c + s + c * s) t) ≡ nexts
     unfolding allowed
     nexts-are = rw (C, S) (ap (every (λ b. leb b (stateCount t))) (drop-take (rowsAt t) (columnCount t * stateCount t) t))
 
-    rest-is : every isZero (slice (6 + 2 * c + s + c * s) 510 t) ≡ rest
-    rest-is = rw (C, S) refl
+    rest-is : length t ≡ 506 → every isZero (slice (2 + 2 * c + s + c * s) 506 t) ≡ rest
+    rest-is long = rw (C, S) (ap (λ (l : List ℕ). every isZero (drop (tableEnd t) l)) (take-all 506 t (omega arith)))
 
     -- a callee's answer that fails
     pub counts-fail : (r : Bool) → r ≡ rightCounts c s → not r ≡ true → isTable t letters ≡ false
     counts-fail r q k = table-is ∙ first-fails counts sides marks nexts rest (fails r (q ∙ counts-are) k)
 
-    pub sides-fail : (r : Bool) → r ≡ every (allowed true letters) (slice 6 (6 + 2 * c) t) → not r ≡ true → isTable t letters ≡ false
+    pub sides-fail : (r : Bool) → r ≡ every (allowed true letters) (slice 2 (2 + 2 * c) t) → not r ≡ true → isTable t letters ≡ false
     sides-fail r q k = table-is ∙ second-fails counts sides marks nexts rest (fails r (q ∙ sides-are) k)
 
-    pub marks-fail : (r : Bool) → r ≡ every (allowed false 1) (slice (6 + 2 * c) (6 + 2 * c + s) t) → not r ≡ true → isTable t letters ≡ false
+    pub marks-fail : (r : Bool) → r ≡ every (allowed false 1) (slice (2 + 2 * c) (2 + 2 * c + s) t) → not r ≡ true → isTable t letters ≡ false
     marks-fail r q k = table-is ∙ third-fails counts sides marks nexts rest (fails r (q ∙ marks-are) k)
 
-    pub nexts-fail : (r : Bool) → r ≡ every (allowed false s) (slice (6 + 2 * c + s) (6 + 2 * c + s + c * s) t) → not r ≡ true → isTable t letters ≡ false
+    pub nexts-fail : (r : Bool) → r ≡ every (allowed false s) (slice (2 + 2 * c + s) (2 + 2 * c + s + c * s) t) → not r ≡ true → isTable t letters ≡ false
     nexts-fail r q k = table-is ∙ fourth-fails counts sides marks nexts rest (fails r (q ∙ nexts-are) k)
 
     -- and those that pass
     pub counts-pass : (r : Bool) → r ≡ rightCounts c s → not r ≡ false → counts ≡ true
     counts-pass r q k = passes r (q ∙ counts-are) k
 
-    pub sides-pass : (r : Bool) → r ≡ every (allowed true letters) (slice 6 (6 + 2 * c) t) → not r ≡ false → sides ≡ true
+    pub sides-pass : (r : Bool) → r ≡ every (allowed true letters) (slice 2 (2 + 2 * c) t) → not r ≡ false → sides ≡ true
     sides-pass r q k = passes r (q ∙ sides-are) k
 
-    pub marks-pass : (r : Bool) → r ≡ every (allowed false 1) (slice (6 + 2 * c) (6 + 2 * c + s) t) → not r ≡ false → marks ≡ true
+    pub marks-pass : (r : Bool) → r ≡ every (allowed false 1) (slice (2 + 2 * c) (2 + 2 * c + s) t) → not r ≡ false → marks ≡ true
     marks-pass r q k = passes r (q ∙ marks-are) k
 
-    pub nexts-pass : (r : Bool) → r ≡ every (allowed false s) (slice (6 + 2 * c + s) (6 + 2 * c + s + c * s) t) → not r ≡ false → nexts ≡ true
+    pub nexts-pass : (r : Bool) → r ≡ every (allowed false s) (slice (2 + 2 * c + s) (2 + 2 * c + s + c * s) t) → not r ≡ false → nexts ≡ true
     nexts-pass r q k = passes r (q ∙ nexts-are) k
 
-    pub rest-decides : counts ≡ true → sides ≡ true → marks ≡ true → nexts ≡ true
-        → (r : Bool) → r ≡ every isZero (slice (6 + 2 * c + s + c * s) 510 t) → r ≡ isTable t letters
-    rest-decides p q u v r e = e ∙ rest-is ∙ sym (table-is ∙ last-decides counts sides marks nexts rest p q u v)
+    pub rest-decides : length t ≡ 506 → counts ≡ true → sides ≡ true → marks ≡ true → nexts ≡ true
+        → (r : Bool) → r ≡ every isZero (slice (2 + 2 * c + s + c * s) 506 t) → r ≡ isTable t letters
+    rest-decides long p q u v r e = e ∙ rest-is long ∙ sym (table-is ∙ last-decides counts sides marks nexts rest p q u v)
 
 -- counts in range keep the table before the check
 pub counts-bound : (c s : ℕ) → rightCounts c s ≡ true → (1 ≤ c) × (c ≤ 16) × (1 ≤ s) × (s ≤ 24) × (c * s ≤ 384)

@@ -9,7 +9,7 @@ use lib.ListN.{length, getD, set, length-map, List·getD-map}
 use lib.Seq.{getD-set-same, getD-set-other}
 use borrow.Author.Count.{below-more}
 use Rattle.model.specs.Blocks.{header}
-use Rattle.model.specs.RuleTables.{Sides, boundaryPair, pairsAndBoundary, column, columnCount, matches, breadth, takesColumn, columnFor}
+use Rattle.model.specs.RuleTables.{Pair, Sides, boundaryPair, pairsAndBoundary, column, columnCount, matches, breadth, takesColumn, columnFor}
 use Rattle.tables.specs.Sides.{pairNumber, Paired}
 use Rattle.tables.specs.Breadths.{Broad, columnsBy}
 use Rattle.tables.proofs.Lists.{count-length}
@@ -27,7 +27,7 @@ module _ (image t : List ℕ) where
 pub breadth-most : (image : List ℕ) (pairs : ℕ) → Paired image pairs → (c : Sides) → breadth (pairsAndBoundary image) c < 252
 breadth-most image pairs p c = let q = p .count in let m = p .most in omega (arith, count-length (matches c) (pairsAndBoundary image), length-pairsAndBoundary image)
 
-module _ (ps : List Sides) (t : List ℕ) (p : Sides) where
+module _ (ps : List Pair) (t : List ℕ) (p : Pair) where
   abbrev pub matching : ℕ → Bool
   matching c = matches (column t c) p
 

@@ -5,16 +5,18 @@ use native.Mathlib.Omega.{arith}
 use mathlib.Core.Bool.{Bool}
 use mathlib.Core.Path.{_≡_, refl, sym, ap, subst, _∙_}
 use mathlib.Core.List.{List, _++_}
-use lib.ListN.{length, getD, take, drop, length-take, length-drop}
+use lib.ListN.{length, getD, take, drop}
 use lib.Seq.{getD-take, getD-drop}
 use lib.Dec.{T, leb, ltb, leb→le, le→leb, ltb→lt}
 use Rattle.model.specs.Lists.{below, every, byte}
-use Rattle.model.specs.Blocks.{Header, header, block, blockTotal}
+use Rattle.model.specs.Blocks.{Header, header, kinds, recordStart}
 use Rattle.model.specs.RuleTables.{table, columnCount, stateCount, marksAt, rowsAt, isTable, nextState, columnsOf}
 use Rattle.model.specs.Refusals.{rightTables, rightColumns}
 use Rattle.model.proofs.Booleans.{out5, true-of}
 use Rattle.model.proofs.Lists.{every-at, below-has}
 use Rattle.image.specs.Laid.{Laid}
+use Rattle.image.proofs.Records.{record-inside, record-part, record-length, record-byte}
+use Rattle.letters.proofs.Laws.{laid-here, laid-pairs}
 use Rattle.tables.specs.Sides.{Paired}
 use Rattle.tables.specs.Breadths.{Columned, columnsBy}
 use Rattle.model.proofs.Rest.{every-getD}
@@ -22,20 +24,26 @@ use Rattle.tables.proofs.Lists.{every-getD-any}
 use Rattle.tables.proofs.Bounds.{counts, sides, marks, nexts, rest, table-is, counts-bound}
 use Rattle.tables.proofs.Breadths.{length-columns}
 
--- a block that is there is whole
-pub length-block : (image : List ℕ) (k : ℕ) → 512 * k + 512 ≤ length image → length (block image k) ≡ 512
-unfolding block
-length-block image k h = omega (arith, length-take 512 (drop (512 * k) image), length-drop (512 * k) image)
-
 module _ (image : List ℕ) (h : Header) (laid : Laid image h) where
-  -- the block of a rule's table is there, and that of the pairs
-  pub table-fits : (r : ℕ) → r < h .rules → 512 * (4 + r) ≤ length image
-  unfolding blockTotal
-  table-fits r k = omega (arith, laid .whole)
+  -- the table of a rule, a record of kind 4, as it stands in the image
+  pub table-inside : (r i : ℕ) → r < h .rules → i < 506 → recordStart h 4 r + i < length image
+  unfolding kinds
+  table-inside r i k l = record-inside laid 4 r i k l
+
+  pub table-byte : (r i : ℕ) → i < 506 → byte (table image r) i ≡ byte image (recordStart h 4 r + i)
+  unfolding kinds
+  table-byte r i l = record-byte laid 4 r i l
+
+  pub table-part : (r : ℕ) → table image r ≡ take 506 (drop (recordStart h 4 r) image)
+  unfolding kinds
+  table-part r = record-part laid 4 r
+
+  pub table-length : (r : ℕ) → r < h .rules → length (table image r) ≡ 506
+  unfolding kinds
+  table-length r k = record-length laid 4 r k
 
   pub laid-paired : Paired image (h .pairs)
-  unfolding blockTotal
-  laid-paired = record { count = ap (λ (k : Header). k .pairs) (laid .header-is); most = omega arith; long = omega (arith, laid .whole) }
+  laid-paired = record { count = laid-pairs laid; most = laid .limits .pairs-most; laid = laid-here laid }
 
   -- test 6 by the counts that were read
   pub tables-read : every (λ r. isTable (table image r) (h .letters)) (below (h .rules)) ≡ rightTables image
@@ -71,11 +79,11 @@ module _ (t : List ℕ) (letters : ℕ) (right : T (isTable t letters)) where
   in-rows : (s c : ℕ) → s < stateCount t → c < columnCount t → columnCount t * s + c < columnCount t * stateCount t
   in-rows s c h k = omega (arith, mul-le-mul {n₁ = columnCount t} {m₁ = suc s} {n₂ = columnCount t} {m₂ = stateCount t} (le-refl (columnCount t)) h, mul-suc (columnCount t) s)
 
-  -- what is read of a table stands before its block's check: the mark of state s + 1, and the next states of its row
-  pub mark-before : (s : ℕ) → s < stateCount t → marksAt t + s < 510
+  -- what is read of a table stands in its record: the mark of state s + 1, and the next states of its row
+  pub mark-before : (s : ℕ) → s < stateCount t → marksAt t + s < 506
   mark-before s h = let b = bounds in omega arith
 
-  pub row-before : (s c : ℕ) → s < stateCount t → c < columnCount t → rowsAt t + columnCount t * s + c < 510
+  pub row-before : (s c : ℕ) → s < stateCount t → c < columnCount t → rowsAt t + columnCount t * s + c < 506
   row-before s c h k = let b = bounds in omega (arith, in-rows s c h k)
 
   -- a next state is a state, or 0
@@ -122,7 +130,7 @@ module _ (image : List ℕ) where
 
 -- a table that was read of an image that passes test 6
 pub read-columned : (image : List ℕ) (h : Header) → Laid image h → T (rightTables image) → (r : ℕ) → r < h .rules
-    → (t : List ℕ) → t ≡ table image r → length t ≡ 512 → (c : ℕ) → c ≡ columnCount t → Columned t c
+    → (t : List ℕ) → t ≡ table image r → length t ≡ 506 → (c : ℕ) → c ≡ columnCount t → Columned t c
 read-columned image h laid right r k t e l c q =
     let i : r < header image .rules = subst (λ (x : Header). r < x .rules) (laid .header-is) k in
     let m : columnCount t ≤ 16 = subst (λ (x : List ℕ). columnCount x ≤ 16) (sym e) (columns-most (table image r) (header image .letters) (right-table image right r i)) in

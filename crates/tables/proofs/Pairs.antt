@@ -1,8 +1,8 @@
--- Where a table's columns and an image's pairs stand, and how many pairs there are.
-use Prim.Native.Nat.{ℕ, zero, suc, _+_, _*_, _<_, _≤_}
+-- Where a table's columns stand, and the pairs with the boundary pair after them.
+use Prim.Native.Nat.{ℕ, zero, suc, _+_, _*_}
 use native.Mathlib.Omega.{arith}
 use mathlib.Core.Bool.{Bool, true, _||_}
-use mathlib.Core.Path.{_≡_, refl, sym, ap, _∙_}
+use mathlib.Core.Path.{_≡_, refl, ap, _∙_}
 use mathlib.Core.List.{List, [], _∷_, _++_}
 use lib.ListN.{length, getD, length-append}
 use lib.Seq.{getD-at}
@@ -10,8 +10,8 @@ use lib.Dec.{eqb}
 use borrow.Author.Tests.{eq-eqb, ne-eqb}
 use Rattle.model.specs.Lists.{byte}
 use Rattle.model.specs.Blocks.{header}
-use Rattle.model.specs.RuleTables.{Sides, column, pairs, boundaryPair, pairsAndBoundary, matchesSide}
-use Rattle.letters.proofs.Laws.{length-pairs, pair-at}
+use Rattle.model.specs.RuleTables.{Pair, Sides, column, pairs, boundaryPair, pairsAndBoundary, matchesSide}
+use Rattle.letters.proofs.Laws.{length-pairs}
 use Rattle.tables.specs.Sides.{sidesFrom, pairNumber}
 
 pub any-side : (side letter : ℕ) → side ≡ 255 → matchesSide side letter ≡ true
@@ -23,9 +23,9 @@ own-side side letter f = ap (λ (x : Bool). x || eqb side letter) (ne-eqb side 2
 abbrev sidesWith : ℕ → ℕ → Sides
 sidesWith x y = record { lexical = x; surface = y }
 
-pub column-from : (t : List ℕ) (c : ℕ) → sidesFrom t (6 + 2 * c) ≡ column t c
+pub column-from : (t : List ℕ) (c : ℕ) → sidesFrom t (2 + 2 * c) ≡ column t c
 unfolding column
-column-from t c = let e : 6 + 2 * c + 1 ≡ 7 + 2 * c = omega arith in ap (λ (n : ℕ). sidesWith (byte t (6 + 2 * c)) (byte t n)) e
+column-from t c = let e : 2 + 2 * c + 1 ≡ 3 + 2 * c = omega arith in ap (λ (n : ℕ). sidesWith (byte t (2 + 2 * c)) (byte t n)) e
 
 module _ (image : List ℕ) where
   pub length-pairsAndBoundary : length (pairsAndBoundary image) ≡ header image .pairs + 1
@@ -37,17 +37,11 @@ module _ (image : List ℕ) where
   unfolding pairsAndBoundary
   pair-listed p = go (pairs image) p
     where
-      go : (l : List Sides) (i : ℕ) → getD (l ++ (boundaryPair ∷ [])) i boundaryPair ≡ getD l i boundaryPair
+      go : (l : List Pair) (i : ℕ) → getD (l ++ (boundaryPair ∷ [])) i boundaryPair ≡ getD l i boundaryPair
       go [] zero = refl
       go [] (suc i) = refl
       go (x ∷ l) zero = refl
       go (x ∷ l) (suc i) = go l i
-
-  listed : (p : ℕ) → p < header image .pairs → header image .pairs ≤ 250 → getD (pairs image) p boundaryPair ≡ sidesFrom image (1028 + 2 * p)
-  listed p h k = let e : 1029 + 2 * p ≡ 1028 + 2 * p + 1 = omega arith in pair-at image p h k ∙ ap (λ (n : ℕ). sidesWith (byte image (1028 + 2 * p)) (byte image n)) e
-
-  pub pair-from : (p : ℕ) → p < header image .pairs → header image .pairs ≤ 250 → sidesFrom image (1028 + 2 * p) ≡ pairNumber image p
-  pair-from p h k = sym (pair-listed p ∙ listed p h k)
 
   pub boundary-last : pairNumber image (header image .pairs) ≡ boundaryPair
   unfolding pairsAndBoundary

@@ -7,7 +7,7 @@ use mathlib.Core.Logic.{_⊎_, inl, inr, ⊎-elim}
 use mathlib.Core.List.{List, [], _∷_}
 use lib.Dec.{T, ltb, eqb, ltb→lt, eqb→eq}
 use Rattle.model.specs.Lists.{below, every, first}
-use Rattle.model.specs.RuleTables.{Sides, matches, breadth, column, columnCount, takesColumn, columnFor}
+use Rattle.model.specs.RuleTables.{Pair, matches, breadth, column, columnCount, takesColumn, columnFor}
 use Rattle.model.proofs.Booleans.{and-out, not-both, true-of, of-true}
 use Rattle.model.proofs.Lists.{every-at, below-has}
 
@@ -24,7 +24,7 @@ first-passes f (x ∷ xs) d = go (f x) refl (first-passes f xs d)
     go true e r = inr (of-true (f x) e)
     go false e r = r
 
-module _ (ps : List Sides) (t : List ℕ) (p : Sides) where
+module _ (ps : List Pair) (t : List ℕ) (p : Pair) where
   -- one of two columns that a pair takes is no broader than the other
   narrower : (c d : ℕ) → d < columnCount t → T (takesColumn ps t p c) → T (takesColumn ps t p d) → (d ≡ c) ⊎ (breadth ps (column t c) < breadth ps (column t d))
   unfolding takesColumn

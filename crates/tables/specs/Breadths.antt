@@ -9,7 +9,7 @@ use Rattle.model.specs.RuleTables.{pairsAndBoundary, columnCount, column, bread
 pub record Columned (t : List ℕ) (columns : ℕ) : Type 0 where
   pub count : columns ≡ columnCount t
   pub most : columns ≤ 16
-  pub long : 510 ≤ length t
+  pub long : length t ≡ 506
 
 -- the breadth of each column
 pub record Broad (image t : List ℕ) (columns : ℕ) (breadths : List ℕ) : Type 0 where

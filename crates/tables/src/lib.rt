@@ -3,6 +3,7 @@ mod columns;
 mod range;
 pub mod sides;
 
+use image::kinds;
 ghost use mathlib.Core.Path.{_≡_};
 ghost use mathlib.Core.List.{_++_};
 ghost use Prim.Native.Nat.{_*_, _+_, _<_, _≤_};
@@ -16,16 +17,16 @@ ghost use Rattle.image.specs.Laid.{Laid};
 
 // What test 6 asks of one table.
 fn is_table(t: &[u8], letters: usize) -> bool
-    requires { ⌜ 510 ≤ length (now t) ⌝ }
+    requires { ⌜ length (now t) ≡ 506 ⌝ }
     ensures { λ r. ⌜ r ≡ isTable (now (t .entry)) letters ⌝ }
 {
-    let columns = image::byte_at(t, 4);
-    let states = image::byte_at(t, 5);
+    let columns = image::byte_at(t, 0);
+    let states = image::byte_at(t, 1);
     if !range::right_counts(columns, states) {
         return false;
     }
-    let marks = 6 + 2 * columns;
-    if !range::all_allowed(t, 6, marks, letters, true) {
+    let marks = 2 + 2 * columns;
+    if !range::all_allowed(t, 2, marks, letters, true) {
         return false;
     }
     let rows = marks + states;
@@ -36,16 +37,17 @@ fn is_table(t: &[u8], letters: usize) -> bool
     if !range::all_allowed(t, rows, end, states, false) {
         return false;
     }
-    image::is_blank(t, end, 510)
+    image::is_blank(t, end, kinds::TABLE_WIDTH)
 }
 
-// The block of the table of rule r.
-pub fn table_at(image: &[u8], r: usize) -> &[u8]
-    requires { ⌜ 512 * (4 + r) ≤ length (now image) ⌝ }
-    ensures { λ t. ⌜ (now t ≡ table (now (image .entry)) r) × (length (now t) ≡ 512) ⌝ }
+// The table of rule r.
+pub fn table_at(image: &[u8], h: image::Header, r: usize) -> &[u8]
+    requires { ⌜ Laid (now image) (headerOf h) ⌝ }
+    requires { ⌜ r < headerOf h .rules ⌝ }
+    ensures { λ t. ⌜ (now t ≡ table (now (image .entry)) r) × (length (now t) ≡ 506) ⌝ }
 {
-    let from = 512 * (3 + r);
-    let to = from + 512;
+    let from = kinds::record_start(h, 4, r);
+    let to = from + kinds::TABLE_WIDTH;
     &image[from..to]
 }
 
@@ -58,7 +60,7 @@ pub fn right_tables(image: &[u8], h: image::Header) -> bool
     let rules = h.rules;
     let mut r = 0;
     while r < rules {
-        if !is_table(table_at(image, r), letters) {
+        if !is_table(table_at(image, h, r), letters) {
             return false;
         }
         r += 1;
@@ -77,8 +79,8 @@ pub fn choose_columns(image: &[u8], h: image::Header, r: usize, out: &mut [u8]) 
     ensures { λ ok. ⌜ ok ≡ every (λ c. ltb c (columnCount (table (now (image .entry)) r))) (columnsOf (now (image .entry)) r) ⌝ }
 {
     let pairs = h.pairs;
-    let t = table_at(image, r);
-    let columns = image::byte_at(t, 4);
+    let t = table_at(image, h, r);
+    let columns = image::byte_at(t, 0);
     let breadths = columns::breadths_of(image, pairs, t, columns);
     columns::take_columns(image, pairs, t, columns, &breadths, out)
 }

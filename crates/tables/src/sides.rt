@@ -1,13 +1,15 @@
-// The two sides of a pair and of a column. A letter of one level is never compared with a letter of the other.
-use image::kinds;
+// The two sides of a column, and which pairs they match. A letter of one level is never compared with a letter of the other.
 use letters::Lexical;
+use letters::Pair;
 use letters::Surface;
 ghost use mathlib.Core.Path.{_≡_};
 ghost use Prim.Native.Nat.{_+_, _<_, _≤_};
 ghost use lib.ListN.{length};
 ghost use Rattle.model.specs.RuleTables.{matchesSide, matches, column};
+ghost use Rattle.letters.specs.Pairs.{pairOf};
 ghost use Rattle.tables.specs.Sides.{sidesOf, sidesFrom, pairNumber, Paired};
 
+// What a column says of a pair: on each level its letter, or 255 for any.
 pub struct Sides {
     pub lexical: Lexical,
     pub surface: Surface,
@@ -35,8 +37,8 @@ fn side_matches(side: u8, letter: u8) -> bool
 }
 
 // A column matches a pair on both levels.
-pub fn column_matches(column: Sides, pair: Sides) -> bool
-    ensures { λ r. ⌜ r ≡ matches (sidesOf column) (sidesOf pair) ⌝ }
+pub fn column_matches(column: Sides, pair: Pair) -> bool
+    ensures { λ r. ⌜ r ≡ matches (sidesOf column) (pairOf pair) ⌝ }
 {
     if !side_matches(column.lexical.0, pair.lexical.0) {
         return false;
@@ -46,22 +48,22 @@ pub fn column_matches(column: Sides, pair: Sides) -> bool
 
 // Column c of a table.
 pub fn column_at(t: &[u8], c: usize) -> Sides
-    requires { ⌜ (c < 16) × (510 ≤ length (now t)) ⌝ }
+    requires { ⌜ (c < 16) × (length (now t) ≡ 506) ⌝ }
     ensures { λ r. ⌜ sidesOf r ≡ column (now (t .entry)) c ⌝ }
 {
-    sides_at(t, 6 + 2 * c)
+    sides_at(t, 2 + 2 * c)
 }
 
 // Pair p, where the boundary pair has number P.
-pub fn pair_at(image: &[u8], pairs: usize, p: usize) -> Sides
+pub fn pair_at(image: &[u8], pairs: usize, p: usize) -> Pair
     requires { ⌜ Paired (now image) pairs ⌝ }
     requires { ⌜ p ≤ pairs ⌝ }
-    ensures { λ r. ⌜ sidesOf r ≡ pairNumber (now (image .entry)) p ⌝ }
+    ensures { λ r. ⌜ pairOf r ≡ pairNumber (now (image .entry)) p ⌝ }
 {
     if p < pairs {
-        return sides_at(image, 1028 + kinds::PAIR_WIDTH * p);
+        return letters::pair_at(image, p);
     }
-    Sides {
+    Pair {
         lexical: Lexical(1),
         surface: Surface(1),
     }

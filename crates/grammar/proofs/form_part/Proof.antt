@@ -1,10 +1,11 @@
 -- `form_part` meets its contract: the letters stand where the entry does, a byte on.
 use borrow.Author.Needs.{needs}
 use native.Mathlib.Omega.{arith}
-use mathlib.Core.Path.{_≡_, ap, ap₂, _∙_}
-use Prim.Native.Nat.{ℕ, _+_, _-_, _*_, _/_, _%_, _<_, _≤_}
+use mathlib.Core.Path.{_≡_, sym, ap, ap₂, _∙_, subst}
+use Prim.Native.Nat.{ℕ, _+_, _-_}
 use lib.ListN.{length, take, drop}
-use Rattle.model.specs.Blocks.{Header}
+use Rattle.model.specs.Blocks.{Header, recordStart}
+use Rattle.image.specs.Laid.{Limited}
 use Rattle.model.specs.Beside.{formStart}
 use Rattle.grammar.proofs.Verdicts.{Viewed, viewed-there, view-letters}
 use Rattle.grammar.proofs.form_part.Statement.{statement}
@@ -18,13 +19,13 @@ starts : (c : tie.After-entry-start) → c .entry-start .result + 1 ≡ formStar
 unfolding formStart
 starts c =
     let e = c .before .before .before .args .e in
-    omega (arith, c .entry-start .ensures, ap (λ (h : Header). h .rules) (c .before .read-header .ensures))
+    ap (λ (n : ℕ). n + 1) (c .entry-start .ensures .0 ∙ ap (λ (h : Header). recordStart h 6 e) (c .before .read-header .ensures))
 
 read-header-requires : tie.Need-read-header-requires
 read-header-requires c κs = there (c .before) .some
 
 entry-start-requires : tie.Need-entry-start-requires
-entry-start-requires c κs = let v = there (c .before .before) in (omega (arith, v .entry-few), omega (arith, v .rules-few, ap (λ (h : Header). h .rules) (c .read-header .ensures)))
+entry-start-requires c κs = let v = there (c .before .before) in (subst Limited (sym (c .read-header .ensures)) (v .limits), omega (arith, v .entry-there, ap (λ (h : Header). h .entries) (c .read-header .ensures)))
 
 add-from : tie.Need-add-from
 add-from c = search needs

@@ -10,7 +10,7 @@ use lib.ListN.{length, take, drop, length-take, length-drop}
 use Rattle.model.specs.Lists.{below, every}
 use Rattle.model.specs.Blocks.{Header, block, laidOut}
 use Rattle.model.proofs.Lists.{every-more, every-fails}
-use Rattle.model.proofs.Sealing.{right-blocks, right-few}
+use Rattle.model.proofs.Sealing.{right-blocks}
 use Rattle.image.specs.Header.{headerOf}
 use Rattle.layout.proofs.all_laid_out.Statement.{statement}
 use Rattle.layout.proofs.all_laid_out.Tie as tie
@@ -56,8 +56,7 @@ laid-out-requires c κs =
     let start = at .before .before in
     let image = start .args .image .now in
     let whole = right-blocks image (start .pre .0) in
-    let few = right-few image (start .pre .0) in
-    (omega (arith, length-take (512 * at .loop .k + 512 - 512 * at .loop .k) (drop (512 * at .loop .k) image), length-drop (512 * at .loop .k) image), (start .pre .1, omega arith))
+    (omega (arith, length-take (512 * at .loop .k + 512 - 512 * at .loop .k) (drop (512 * at .loop .k) image), length-drop (512 * at .loop .k) image), (start .pre .1 .0, omega (arith, start .pre .1 .1)))
 
 returns : tie.Need-returns Inv-loop μ-loop
 returns c =

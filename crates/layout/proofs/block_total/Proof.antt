@@ -1,25 +1,27 @@
--- `block_total` meets its contract.
+-- `block_total` meets its contract: the entries stand last.
 use borrow.Author.Needs.{needs}
-use mathlib.Core.Path.{refl}
-use Rattle.model.specs.Blocks.{blockTotal}
+use native.Mathlib.Omega.{arith}
+use Rattle.model.specs.Blocks.{kinds, blockTotal}
 use Rattle.layout.proofs.block_total.Statement.{statement}
 use Rattle.layout.proofs.block_total.Tie as tie
 
-add-result : tie.Need-add-result
-add-result c = search needs
+first-block-requires : tie.Need-first-block-requires
+first-block-requires c κs = search needs
 
 sub-result : tie.Need-sub-result
 sub-result c = search needs
 
-add-result-2 : tie.Need-add-result-2
-add-result-2 c = search needs
+add-result : tie.Need-add-result
+add-result c = search needs
 
-add-result-3 : tie.Need-add-result-3
-add-result-3 c = search needs
+add-result-2 : tie.Need-add-result-2
+unfolding kinds
+add-result-2 c = omega (arith, c .before .first-block .ensures)
 
 returns : tie.Need-returns
-unfolding blockTotal
-returns c = refl
+unfolding kinds blockTotal
+returns c = omega (arith, c .before .first-block .ensures)
 
 pub block-total-spec : {M : Type 1} → statement M
-block-total-spec = tie.close (tie.spec add-result sub-result add-result-2 add-result-3 returns)
+block-total-spec =
+    tie.close (tie.spec first-block-requires sub-result add-result add-result-2 returns)

@@ -1,25 +1,30 @@
 -- `laid_out` meets its contract.
 use borrow.Author.Needs.{needs}
 use native.Mathlib.Omega.{arith}
-use native.Mathlib.Nat.{mul-le-mul}
+use native.Mathlib.Nat.{le-refl, mul-le-mul, mul-div-le}
 use mathlib.Core.Path.{_≡_, sym, ap, ap₂, _∙_}
 use Prim.Native.Nat.{ℕ, _+_, _*_, _≤_}
 use lib.ListN.{take, drop}
 use Rattle.model.specs.Lists.{every, isZero, byte}
-use Rattle.model.specs.Blocks.{kindAt, recordWidth}
+use Rattle.model.specs.Blocks.{fitting, kindAt, recordWidth}
 use Rattle.image.specs.Header.{headerOf}
-use Rattle.layout.proofs.Placing.{laid-kind, laid-count, laid-rest, width-most}
+use Rattle.image.proofs.Records.{total-most}
+use Rattle.layout.proofs.Placing.{laid-kind, laid-count, laid-rest}
 use Rattle.layout.proofs.laid_out.Statement.{statement}
 use Rattle.layout.proofs.laid_out.Tie as tie
 
 -- past the first test, the kind is right
 kind : (c : tie.Else1) → byte (c .before .before .before .before .args .block .now) 2 ≡ kindAt (headerOf (c .before .before .before .before .args .h)) (c .before .before .before .before .args .k)
-kind c = sym (c .before .byte-at .ensures .0) ∙ c .if1 .left ∙ c .before .before .kind-at .ensures .0
+kind c = sym (c .before .byte-at .ensures .0) ∙ c .if1 .left ∙ c .before .before .kind-at .ensures .kind-is
 
-small : (c : tie.After-width) → c .width .result * c .before .before .before .records-at .result ≤ 506 * 253
+-- the records end before the check
+small : (c : tie.After-width) → c .width .result * c .before .before .before .records-at .result ≤ 506
 small c =
     let n = c .before .before .before .records-at in
-    mul-le-mul {n₁ = c .width .result} {m₁ = n .result} {n₂ = 506} {m₂ = 253} (omega (arith, c .width .ensures, width-most (c .before .before .before .before .before .before .kind-at .result))) (n .ensures .1)
+    let one = c .before .before .before .before in
+    let w = recordWidth (headerOf (one .before .before .before .before .args .h)) (one .before .before .kind-at .result) in
+    let e : c .width .result * n .result ≡ w * n .result = ap (λ (x : ℕ). x * n .result) (c .width .ensures) in
+    omega (arith, e, mul-le-mul {n₁ = w} {m₁ = n .result} {n₂ = w} {m₂ = fitting w} (le-refl w) (n .ensures .1), mul-div-le 506 w)
 
 kind-at-requires : tie.Need-kind-at-requires
 kind-at-requires c κs = search needs
@@ -30,10 +35,12 @@ byte-at-requires c κs = search needs
 returns : tie.Need-returns
 returns c =
     let start = c .before .before .before .before in
-    sym (laid-kind (headerOf (start .args .h)) (start .args .k) (start .args .block .now) (λ e. c .if1 .taken (c .before .byte-at .ensures .0 ∙ e ∙ sym (c .before .before .kind-at .ensures .0))))
+    sym (laid-kind (headerOf (start .args .h)) (start .args .k) (start .args .block .now) (λ e. c .if1 .taken (c .before .byte-at .ensures .0 ∙ e ∙ sym (c .before .before .kind-at .ensures .kind-is))))
 
 records-at-requires : tie.Need-records-at-requires
-records-at-requires c κs = search needs
+records-at-requires c κs =
+    let s = c .before .before .before .before in
+    (s .pre .1 .0, (c .before .before .kind-at .ensures, omega (arith, s .pre .1 .1, total-most (headerOf (s .args .h)) (s .pre .1 .0))))
 
 byte-at-requires-2 : tie.Need-byte-at-requires-2
 byte-at-requires-2 c κs = search needs
@@ -67,7 +74,7 @@ returns-3 c =
     let n = two .before .before .records-at in
     c .is-blank .ensures
     ∙ ap (λ (w : ℕ). every isZero (drop (4 + w * n .result) (take 510 b))) (width .ensures)
-    ∙ ap₂ (λ (x y : ℕ). every isZero (drop (4 + recordWidth x * y) (take 510 b))) (k .ensures .0) (n .ensures .0)
+    ∙ ap₂ (λ (x y : ℕ). every isZero (drop (4 + recordWidth (headerOf (start .args .h)) x * y) (take 510 b))) (k .ensures .kind-is) (n .ensures .0)
     ∙ sym (laid-rest (headerOf (start .args .h)) (start .args .k) b (kind one) (sym (two .before .byte-at2 .ensures .0) ∙ two .if2 .left ∙ n .ensures .0))
 
 pub laid-out-spec : {M : Type 1} → statement M

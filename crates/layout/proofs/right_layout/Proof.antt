@@ -42,7 +42,7 @@ returns-3 c =
     sym (layout-total (header .before .before .args .image .now) (headerOf (header .read-header .result)) (header .read-header .ensures) (one .if1 .left) (in-limits two) (λ e. c .if3 .taken (e ∙ sym (c .before .block-total .ensures))))
 
 all-laid-out-requires : tie.Need-all-laid-out-requires
-all-laid-out-requires c κs = (c .before .before .before .before .before .before .before .before .pre, limited (headerOf (c .before .before .before .before .before .before .read-header .result)) (in-limits (c .before .before)))
+all-laid-out-requires c κs = (c .before .before .before .before .before .before .before .before .pre, (limited (headerOf (c .before .before .before .before .before .before .read-header .result)) (in-limits (c .before .before)), c .if3 .left ∙ c .before .block-total .ensures))
 
 returns-4 : tie.Need-returns-4
 returns-4 c =

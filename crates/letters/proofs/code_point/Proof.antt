@@ -1,8 +1,9 @@
 -- `code_point` meets its contract: the two-byte number where the law says.
-use mathlib.Core.Path.{sym, _∙_}
+use mathlib.Core.Path.{_∙_}
 use native.Mathlib.Omega.{arith}
 use borrow.Author.Needs.{needs}
-use Rattle.letters.proofs.Laws.{laid-length, codePoint-at}
+use Rattle.model.specs.Blocks.{kinds}
+use Rattle.letters.proofs.Laws.{letter-start, letter-inside, codePoint-at}
 use Rattle.letters.proofs.code_point.Statement.{statement}
 use Rattle.letters.proofs.code_point.Tie as tie
 
@@ -13,10 +14,12 @@ add-number-at : tie.Need-add-number-at
 add-number-at c = search needs
 
 number-at-requires : tie.Need-number-at-requires
-number-at-requires c κs = omega (arith, laid-length (c .before .pre .0), c .before .pre .0 .limits .letters-most)
+unfolding kinds
+number-at-requires c κs = let s = c .before in omega (arith, letter-inside (s .pre .0) (s .args .i) (s .pre .1), letter-start (s .pre .0) (s .args .i) (s .pre .1))
 
 returns : tie.Need-returns
-returns c = c .number-at .ensures .0 ∙ sym (codePoint-at (c .before .before .args .image .now) (c .before .before .args .i) (c .before .before .pre .1) (c .before .before .pre .0 .limits .letters-most))
+unfolding kinds
+returns c = let s = c .before .before in c .number-at .ensures .0 ∙ codePoint-at (s .pre .0) (s .args .i) _ (s .pre .1) (omega (arith, letter-start (s .pre .0) (s .args .i) (s .pre .1)))
 
 pub code-point-spec : {M : Type 1} → statement M
 code-point-spec = tie.close (tie.spec mul-number-at add-number-at number-at-requires returns)

@@ -9,13 +9,13 @@ use borrow.Author.Needs.{needs}
 use borrow.Author.Tests.{not-true, not-false}
 use Rattle.model.specs.Lists.{every}
 use Rattle.model.specs.Blocks.{header}
-use Rattle.model.specs.RuleTables.{Sides, pairs, boundaryPair, isPair}
-use Rattle.letters.proofs.Laws.{laid-here, laid-letters, laid-pairs, length-pairs, pairAt, sides-are}
+use Rattle.model.specs.RuleTables.{Pair, pairs, boundaryPair, isPair}
+use Rattle.letters.proofs.Laws.{laid-here, laid-letters, laid-pairs, length-pairs, pairAt}
 use Rattle.model.proofs.Rest.{every-on, every-fails, every-done}
 use Rattle.letters.proofs.each_pair.Statement.{statement}
 use Rattle.letters.proofs.each_pair.Tie as tie
 
-abbrev right : List ℕ → Sides → Bool
+abbrev right : List ℕ → Pair → Bool
 right image = isPair (header image .letters)
 
 abbrev Inv-loop : tie.InvT-loop
@@ -27,11 +27,8 @@ abbrev μ-loop : tie.MeasureT-loop
 loop-holds : tie.Need-loop-holds Inv-loop μ-loop
 loop-holds c = refl
 
-lexical-side-requires : tie.Need-lexical-side-requires Inv-loop μ-loop
-lexical-side-requires c κs = let l = c .before .before .before .pre in (laid-here l, omega (arith, laid-pairs l))
-
-surface-side-requires : tie.Need-surface-side-requires Inv-loop μ-loop
-surface-side-requires c κs = let l = c .before .before .before .before .pre in (laid-here l, omega (arith, laid-pairs l))
+pair-at-requires : tie.Need-pair-at-requires Inv-loop μ-loop
+pair-at-requires c κs = let l = c .before .before .before .pre in (laid-here l, omega (arith, laid-pairs l))
 
 is-pair-requires : tie.Need-is-pair-requires Inv-loop μ-loop
 is-pair-requires c κs = search needs
@@ -39,24 +36,21 @@ is-pair-requires c κs = search needs
 -- the pair tested in a turn
 module _ (c : tie.After-is-pair Inv-loop μ-loop) where
   abbrev image : List ℕ
-  image = c .before .before .before .before .before .before .args .image .now
+  image = c .before .before .before .before .before .args .image .now
 
   abbrev p : ℕ
-  p = c .before .before .before .before .loop .p
+  p = c .before .before .before .loop .p
 
   inside : p < length (pairs image)
-  inside = omega (arith, laid-pairs (c .before .before .before .before .before .before .pre), length-pairs image)
+  inside = omega (arith, laid-pairs (c .before .before .before .before .before .pre), length-pairs image)
 
   tested : right image (pairAt image p) ≡ c .is-pair .result
-  tested =
-      sym
-      (c .is-pair .ensures
-      ∙ ap₂ isPair (laid-letters (c .before .before .before .before .before .before .pre)) (sides-are (pairAt image p) (c .before .before .lexical-side .ensures) (c .before .surface-side .ensures)))
+  tested = sym (c .is-pair .ensures ∙ ap₂ isPair (laid-letters (c .before .before .before .before .before .pre)) (c .before .pair-at .ensures))
 
 returns : tie.Need-returns Inv-loop μ-loop
 returns c =
     let b = c .before in
-    sym (b .before .before .before .before .loop .inv ∙ every-fails (pairs (image b)) boundaryPair (p b) (inside b) (right (image b)) (tested b ∙ not-true (b .is-pair .result) (c .if1 .taken)))
+    sym (b .before .before .before .loop .inv ∙ every-fails (pairs (image b)) boundaryPair (p b) (inside b) (right (image b)) (tested b ∙ not-true (b .is-pair .result) (c .if1 .taken)))
 
 add-p : tie.Need-add-p Inv-loop μ-loop
 add-p c = search needs
@@ -67,7 +61,7 @@ loop-less c = search needs
 loop-again : tie.Need-loop-again Inv-loop μ-loop
 loop-again c =
     let b = c .before in
-    b .before .before .before .before .loop .inv ∙ every-on (pairs (image b)) boundaryPair (p b) (inside b) (right (image b)) (tested b ∙ not-false (b .is-pair .result) (c .if1 .left))
+    b .before .before .before .loop .inv ∙ every-on (pairs (image b)) boundaryPair (p b) (inside b) (right (image b)) (tested b ∙ not-false (b .is-pair .result) (c .if1 .left))
 
 returns-2 : tie.Need-returns-2 Inv-loop μ-loop
 returns-2 c =
@@ -82,8 +76,7 @@ each-pair-spec =
     Inv-loop
     μ-loop
     loop-holds
-    lexical-side-requires
-    surface-side-requires
+    pair-at-requires
     is-pair-requires
     returns
     add-p

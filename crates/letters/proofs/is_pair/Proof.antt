@@ -5,11 +5,11 @@ use mathlib.Core.Path.{_≡_, sym, _∙_}
 use borrow.Author.Needs.{needs}
 use borrow.Author.Tests.{eq-eqb, ne-eqb, not-true, not-false}
 use Rattle.model.specs.Lists.{within, isZero}
-use Rattle.model.specs.RuleTables.{Sides, isPair}
+use Rattle.model.specs.RuleTables.{Pair, isPair}
 use Rattle.letters.proofs.is_pair.Statement.{statement}
 use Rattle.letters.proofs.is_pair.Tie as tie
 
-module _ (letters : ℕ) (p : Sides) where
+module _ (letters : ℕ) (p : Pair) where
   abbrev side : ℕ → Bool
   side n = isZero n || within 2 letters n
 

@@ -1,9 +1,9 @@
--- `lexical_side` meets its contract: the byte where the law says.
-use mathlib.Core.Path.{sym, ap, _∙_}
+-- `lexical_side` meets its contract: that byte of the pair's record.
+use mathlib.Core.Path.{_∙_}
 use native.Mathlib.Omega.{arith}
 use borrow.Author.Needs.{needs}
-use Rattle.model.specs.RuleTables.{Sides}
-use Rattle.letters.proofs.Laws.{laid-length, pair-at}
+use Rattle.model.specs.Blocks.{kinds}
+use Rattle.letters.proofs.Laws.{pair-start, pair-inside, lexical-byte}
 use Rattle.letters.proofs.lexical_side.Statement.{statement}
 use Rattle.letters.proofs.lexical_side.Tie as tie
 
@@ -14,10 +14,12 @@ add-lexical-at : tie.Need-add-lexical-at
 add-lexical-at c = search needs
 
 lexical-at-requires : tie.Need-lexical-at-requires
-lexical-at-requires c κs = omega (arith, laid-length (c .before .pre .0), c .before .pre .0 .limits .pairs-most)
+unfolding kinds
+lexical-at-requires c κs = let s = c .before in omega (arith, pair-inside (s .pre .0) (s .args .p) (s .pre .1), pair-start (s .pre .0) (s .args .p) (s .pre .1))
 
 returns : tie.Need-returns
-returns c = let s = c .before .before in c .lexical-at .ensures ∙ sym (ap (λ (s : Sides). s .lexical) (pair-at (s .args .image .now) (s .args .p) (s .pre .1) (s .pre .0 .limits .pairs-most)))
+unfolding kinds
+returns c = let s = c .before .before in c .lexical-at .ensures ∙ lexical-byte (s .pre .0) (s .args .p) _ (s .pre .1) (omega (arith, pair-start (s .pre .0) (s .args .p) (s .pre .1)))
 
 pub lexical-side-spec : {M : Type 1} → statement M
 lexical-side-spec = tie.close (tie.spec mul-lexical-at add-lexical-at lexical-at-requires returns)

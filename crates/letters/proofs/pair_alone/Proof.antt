@@ -7,7 +7,7 @@ use native.Mathlib.Omega.{arith}
 use lib.ListN.{length, drop}
 use borrow.Author.Needs.{needs}
 use Rattle.model.specs.Lists.{any}
-use Rattle.model.specs.RuleTables.{Sides, pairs, boundaryPair, sameSides}
+use Rattle.model.specs.RuleTables.{Pair, pairs, boundaryPair, samePair}
 use Rattle.letters.proofs.Laws.{laid-here, laid-pairs, length-pairs, pairAt}
 use Rattle.model.proofs.Rest.{any-on, any-found, any-done}
 use Rattle.letters.proofs.pair_alone.Statement.{statement}
@@ -15,7 +15,7 @@ use Rattle.letters.proofs.pair_alone.Tie as tie
 
 -- one of the pairs from q on is the same as pair p
 abbrev again : List ℕ → ℕ → ℕ → Bool
-again image p q = any (sameSides (pairAt image p)) (drop q (pairs image))
+again image p q = any (samePair (pairAt image p)) (drop q (pairs image))
 
 abbrev Inv-loop : tie.InvT-loop
 Inv-loop image p count q₀ q = again image p (p + 1) ≡ again image p q
@@ -40,8 +40,8 @@ module _ (c : tie.After-same-pair Inv-loop μ-loop) where
   abbrev q : ℕ
   q = c .before .before .loop .q
 
-  abbrev test : Sides → Bool
-  test = sameSides (pairAt image (c .before .before .before .before .args .p))
+  abbrev test : Pair → Bool
+  test = samePair (pairAt image (c .before .before .before .before .args .p))
 
   inside : q < length (pairs image)
   inside = omega (arith, laid-pairs (c .before .before .before .before .pre .0), length-pairs image)
@@ -69,7 +69,7 @@ returns-2 : tie.Need-returns-2 Inv-loop μ-loop
 returns-2 c =
     let s = c .before .before .before in
     let image = s .args .image .now in
-    sym (ap not (c .before .loop .inv ∙ any-done (pairs image) (c .before .loop .q) (omega (arith, laid-pairs (s .pre .0), length-pairs image)) (sameSides (pairAt image (s .args .p)))))
+    sym (ap not (c .before .loop .inv ∙ any-done (pairs image) (c .before .loop .q) (omega (arith, laid-pairs (s .pre .0), length-pairs image)) (samePair (pairAt image (s .args .p)))))
 
 pub pair-alone-spec : {M : Type 1} → statement M
 pair-alone-spec =

@@ -7,14 +7,14 @@ use lib.ListN.{length, drop}
 use borrow.Author.Needs.{needs}
 use borrow.Author.Tests.{not-true, not-false}
 use Rattle.model.specs.Lists.{distinct}
-use Rattle.model.specs.RuleTables.{pairs, boundaryPair, sameSides}
+use Rattle.model.specs.RuleTables.{pairs, boundaryPair, samePair}
 use Rattle.letters.proofs.Laws.{laid-pairs, length-pairs}
 use Rattle.model.proofs.Rest.{distinct-on, distinct-fails, distinct-done}
 use Rattle.letters.proofs.pairs_differ.Statement.{statement}
 use Rattle.letters.proofs.pairs_differ.Tie as tie
 
 abbrev Inv-loop : tie.InvT-loop
-Inv-loop image h count p₀ p = distinct sameSides (pairs image) ≡ distinct sameSides (drop p (pairs image))
+Inv-loop image h count p₀ p = distinct samePair (pairs image) ≡ distinct samePair (drop p (pairs image))
 
 abbrev μ-loop : tie.MeasureT-loop
 μ-loop image h count p₀ p = count - p
@@ -40,7 +40,7 @@ returns : tie.Need-returns Inv-loop μ-loop
 returns c =
     let b = c .before in
     let r = b .pair-alone in
-    sym (b .before .before .loop .inv ∙ distinct-fails (pairs (image b)) boundaryPair (p b) (inside b) sameSides (sym (r .ensures) ∙ not-true (r .result) (c .if1 .taken)))
+    sym (b .before .before .loop .inv ∙ distinct-fails (pairs (image b)) boundaryPair (p b) (inside b) samePair (sym (r .ensures) ∙ not-true (r .result) (c .if1 .taken)))
 
 add-p : tie.Need-add-p Inv-loop μ-loop
 add-p c = search needs
@@ -52,13 +52,13 @@ loop-again : tie.Need-loop-again Inv-loop μ-loop
 loop-again c =
     let b = c .before in
     let r = b .pair-alone in
-    b .before .before .loop .inv ∙ distinct-on (pairs (image b)) boundaryPair (p b) (inside b) sameSides (sym (r .ensures) ∙ not-false (r .result) (c .if1 .left))
+    b .before .before .loop .inv ∙ distinct-on (pairs (image b)) boundaryPair (p b) (inside b) samePair (sym (r .ensures) ∙ not-false (r .result) (c .if1 .left))
 
 returns-2 : tie.Need-returns-2 Inv-loop μ-loop
 returns-2 c =
     let s = c .before .before .before in
     let image = s .args .image .now in
-    sym (c .before .loop .inv ∙ distinct-done (pairs image) (c .before .loop .p) (omega (arith, laid-pairs (s .pre), length-pairs image)) sameSides)
+    sym (c .before .loop .inv ∙ distinct-done (pairs image) (c .before .loop .p) (omega (arith, laid-pairs (s .pre), length-pairs image)) samePair)
 
 pub pairs-differ-spec : {M : Type 1} → statement M
 pairs-differ-spec =

@@ -5,7 +5,7 @@ use mathlib.Core.Path.{_≡_, sym, ap₂, _∙_}
 use lib.Dec.{eqb}
 use borrow.Author.Needs.{needs}
 use borrow.Author.Tests.{not-true, not-false}
-use Rattle.model.specs.RuleTables.{Sides, sameSides}
+use Rattle.model.specs.RuleTables.{Pair, samePair}
 use Rattle.letters.proofs.Laws.{pairAt}
 use Rattle.letters.proofs.same_pair.Statement.{statement}
 use Rattle.letters.proofs.same_pair.Tie as tie
@@ -14,11 +14,11 @@ use Rattle.letters.proofs.same_pair.Tie as tie
 compared : {a b m n : ℕ} {r : Bool} → a ≡ m → b ≡ n → r ≡ eqb a b → eqb m n ≡ r
 compared d e f = sym (f ∙ ap₂ eqb d e)
 
-module _ (p q : Sides) where
-  lexical-unlike : eqb (p .lexical) (q .lexical) ≡ false → false ≡ sameSides p q
+module _ (p q : Pair) where
+  lexical-unlike : eqb (p .lexical) (q .lexical) ≡ false → false ≡ samePair p q
   lexical-unlike e = rw e
 
-  lexical-alike : {r : Bool} → eqb (p .lexical) (q .lexical) ≡ true → eqb (p .surface) (q .surface) ≡ r → r ≡ sameSides p q
+  lexical-alike : {r : Bool} → eqb (p .lexical) (q .lexical) ≡ true → eqb (p .surface) (q .surface) ≡ r → r ≡ samePair p q
   lexical-alike e f = rw e (sym f)
 
 lexical-side-requires : tie.Need-lexical-side-requires

@@ -1,9 +1,9 @@
--- `surface_side` meets its contract: the byte where the law says.
-use mathlib.Core.Path.{sym, ap, _∙_}
+-- `surface_side` meets its contract: that byte of the pair's record.
+use mathlib.Core.Path.{_∙_}
 use native.Mathlib.Omega.{arith}
 use borrow.Author.Needs.{needs}
-use Rattle.model.specs.RuleTables.{Sides}
-use Rattle.letters.proofs.Laws.{laid-length, pair-at}
+use Rattle.model.specs.Blocks.{kinds}
+use Rattle.letters.proofs.Laws.{pair-start, pair-inside, surface-byte}
 use Rattle.letters.proofs.surface_side.Statement.{statement}
 use Rattle.letters.proofs.surface_side.Tie as tie
 
@@ -14,10 +14,12 @@ add-surface-at : tie.Need-add-surface-at
 add-surface-at c = search needs
 
 surface-at-requires : tie.Need-surface-at-requires
-surface-at-requires c κs = omega (arith, laid-length (c .before .pre .0), c .before .pre .0 .limits .pairs-most)
+unfolding kinds
+surface-at-requires c κs = let s = c .before in omega (arith, pair-inside (s .pre .0) (s .args .p) (s .pre .1), pair-start (s .pre .0) (s .args .p) (s .pre .1))
 
 returns : tie.Need-returns
-returns c = let s = c .before .before in c .surface-at .ensures ∙ sym (ap (λ (s : Sides). s .surface) (pair-at (s .args .image .now) (s .args .p) (s .pre .1) (s .pre .0 .limits .pairs-most)))
+unfolding kinds
+returns c = let s = c .before .before in c .surface-at .ensures ∙ surface-byte (s .pre .0) (s .args .p) _ (s .pre .1) (omega (arith, pair-start (s .pre .0) (s .args .p) (s .pre .1)))
 
 pub surface-side-spec : {M : Type 1} → statement M
 surface-side-spec = tie.close (tie.spec mul-surface-at add-surface-at surface-at-requires returns)

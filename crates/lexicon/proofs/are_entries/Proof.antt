@@ -6,14 +6,16 @@ use mathlib.Core.Bool.{Bool, true, false}
 use mathlib.Core.List.{List}
 use mathlib.Core.Path.{_≡_, sym, ap, _∙_}
 use Prim.Native.Nat.{ℕ, _+_, _*_, _-_, _/_, _%_, _<_, _≤_}
-use lib.ListN.{length, getD, take, drop}
+use lib.ListN.{length, getD, drop}
 use Rattle.model.specs.Lists.{below, every}
+use Rattle.model.specs.Blocks.{kinds, recordWidth, recordStart}
 use Rattle.model.specs.Lexicon.{entry, isEntryOf}
 use Rattle.image.specs.Header.{headerOf}
 use Rattle.letters.specs.Marks.{isMarked}
 use Rattle.model.proofs.Lists.{length-below, getD-below}
 use Rattle.model.proofs.Rest.{every-on, every-fails, every-done}
-use Rattle.lexicon.proofs.Laws.{entryStart, entry-at, entry-inside}
+use Rattle.image.proofs.Records.{record-part}
+use Rattle.lexicon.proofs.Laws.{entry-wide, entry-cut, entry-inside}
 use Rattle.lexicon.proofs.are_entries.Statement.{statement}
 use Rattle.lexicon.proofs.are_entries.Tie as tie
 
@@ -43,12 +45,18 @@ module _ (c : tie.After-is-entry Inv-loop μ-loop) where
   abbrev number : ℕ
   number = start .args .h .entries - c .before .before .loop .left
 
-  place : c .before .before .loop .at ≡ entryStart (headerOf (start .args .h)) number
-  place = omega (arith, c .before .before .before .entry-start .ensures)
+  place : c .before .before .loop .at ≡ recordStart (headerOf (start .args .h)) 6 number
+  unfolding kinds recordStart
+  place = omega (arith, c .before .before .before .entry-start .ensures .0)
 
   looked : right number ≡ c .is-entry .result
   looked =
-      ap (λ (l : List ℕ). isEntryOf l (isMarked (start .args .marked .now)) (start .args .h .lexicons)) (entry-at (start .args .image .now) (headerOf (start .args .h)) (start .pre) number ∙ ap (λ (n : ℕ). take 16 (drop n (start .args .image .now))) (sym place))
+      let h = headerOf (start .args .h) in
+      let image = start .args .image .now in
+      let may = isMarked (start .args .marked .now) in
+      ap (λ (l : List ℕ). isEntryOf l may (h .lexicons)) (record-part (start .pre) 6 number)
+      ∙ entry-cut may (h .lexicons) (drop (recordStart h 6 number) image) (recordWidth h 6) (entry-wide h)
+      ∙ ap (λ (n : ℕ). isEntryOf (drop n image) may (h .lexicons)) (sym place)
       ∙ sym (c .is-entry .ensures)
 
   there : number < length (below (start .args .h .entries))
@@ -68,16 +76,17 @@ module _ (c : tie.After-is-entry Inv-loop μ-loop) where
       ∙ c .before .before .loop .inv .3
 
 entry-start-requires : tie.Need-entry-start-requires Inv-loop μ-loop
-entry-start-requires c κs = omega arith
+entry-start-requires c κs = (c .before .pre .limits, omega arith)
 
 loop-holds : tie.Need-loop-holds Inv-loop μ-loop
 loop-holds c = let n = c .before .before .args .h .entries in (omega arith, omega arith, omega arith, ap (λ (k : ℕ). every (isRight (c .before .before .args .image .now) (c .before .before .args .marked .now) (c .before .before .args .h .lexicons)) (drop k (below n))) (sub-self n))
 
 is-entry-requires : tie.Need-is-entry-requires Inv-loop μ-loop
+unfolding kinds recordStart
 is-entry-requires c κs =
     let a = c .before .before .before .before in
     let l = c .before .loop in
-    omega (arith, entry-inside (a .args .image .now) (headerOf (a .args .h)) (a .pre) (a .args .h .entries - l .left) 15 (omega arith) (omega arith), c .before .before .entry-start .ensures)
+    omega (arith, entry-inside (a .args .image .now) (headerOf (a .args .h)) (a .pre) (a .args .h .entries - l .left) 13 (omega arith) (omega arith), c .before .before .entry-start .ensures .0)
 
 returns : tie.Need-returns Inv-loop μ-loop
 returns c = fails (c .before) (not-true (c .before .is-entry .result) (c .if1 .taken))

@@ -18,13 +18,13 @@ add-byte-at c = search needs
 byte-at-requires : tie.Need-byte-at-requires
 byte-at-requires c κs =
     let a = c .before .before in
-    omega (arith, entry-inside (a .args .image .now) (headerOf (a .args .h)) (a .pre .0) (a .args .e) 13 (a .pre .1) (omega arith), c .entry-start .ensures)
+    omega (arith, entry-inside (a .args .image .now) (headerOf (a .args .h)) (a .pre .0) (a .args .e) 13 (a .pre .1) (omega arith), c .entry-start .ensures .0)
 
 returns : tie.Need-returns
 returns c =
     let b = c .before in
     let a = b .before .before in
-    (c .byte-at .ensures .0 ∙ ap (λ (n : ℕ). byte (a .args .image .now) (n + 13)) (b .entry-start .ensures) ∙ sym (entry-byte (a .args .image .now) (headerOf (a .args .h)) (a .pre .0) (a .args .e) 13 (omega arith)), c .byte-at .ensures .1)
+    (c .byte-at .ensures .0 ∙ ap (λ (n : ℕ). byte (a .args .image .now) (n + 13)) (b .entry-start .ensures .0) ∙ sym (entry-byte (a .args .image .now) (headerOf (a .args .h)) (a .pre .0) (a .args .e) 13 (omega arith)), c .byte-at .ensures .1)
 
 pub continuation-of-spec : {M : Type 1} → statement M
 continuation-of-spec =

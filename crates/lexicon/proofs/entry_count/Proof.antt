@@ -1,44 +1,55 @@
--- `entry_count` meets its contract: a number of the block of kind 5.
+-- `entry_count` meets its contract: the number where the lexicon's record begins.
 use borrow.Author.Needs.{needs}
-use mathlib.Core.Path.{sym, _∙_}
+use native.Mathlib.Omega.{arith}
+use mathlib.Core.Path.{_∙_}
+use Rattle.model.specs.Blocks.{kinds}
 use Rattle.image.specs.Header.{headerOf}
-use Rattle.lexicon.proofs.Laws.{count-number, count-inside}
+use Rattle.lexicon.proofs.Laws.{count-start, count-inside, count-number}
 use Rattle.lexicon.proofs.entry_count.Statement.{statement}
 use Rattle.lexicon.proofs.entry_count.Tie as tie
 
-add-number-at : tie.Need-add-number-at
-add-number-at c = search needs
+first-block-requires : tie.Need-first-block-requires
+first-block-requires c κs = search needs
 
 mul-number-at : tie.Need-mul-number-at
-mul-number-at c = search needs
+unfolding kinds
+mul-number-at c = omega (arith, c .first-block .ensures)
 
 mul-number-at-2 : tie.Need-mul-number-at-2
 mul-number-at-2 c = search needs
 
-add-number-at-2 : tie.Need-add-number-at-2
-add-number-at-2 c = search needs
+add-number-at : tie.Need-add-number-at
+add-number-at c = search needs
 
-add-number-at-3 : tie.Need-add-number-at-3
-add-number-at-3 c = search needs
+add-number-at-2 : tie.Need-add-number-at-2
+unfolding kinds
+add-number-at-2 c = omega (arith, c .first-block .ensures)
 
 number-at-requires : tie.Need-number-at-requires
+unfolding kinds
 number-at-requires c κs =
     let a = c .before .before in
-    count-inside (a .args .image .now) (headerOf (a .args .h)) (a .pre .0) (a .args .x) (a .pre .1)
+    let image = a .args .image .now in
+    let h = headerOf (a .args .h) in
+    omega (arith, count-inside image h (a .pre .0) (a .args .x) (a .pre .1), count-start image h (a .pre .0) (a .args .x) (a .pre .1), c .first-block .ensures)
 
 returns : tie.Need-returns
+unfolding kinds
 returns c =
-    let a = c .before .before .before in
-    (c .number-at .ensures .0 ∙ sym (count-number (a .args .image .now) (headerOf (a .args .h)) (a .pre .0) (a .args .x) (a .pre .1)), c .number-at .ensures .1)
+    let f = c .before in
+    let a = f .before .before in
+    let image = a .args .image .now in
+    let h = headerOf (a .args .h) in
+    (c .number-at .ensures .0 ∙ count-number image h (a .pre .0) (a .args .x) _ (omega (arith, count-start image h (a .pre .0) (a .args .x) (a .pre .1), f .first-block .ensures)), c .number-at .ensures .1)
 
 pub entry-count-spec : {M : Type 1} → statement M
 entry-count-spec =
     tie.close
     (tie.spec
-    add-number-at
+    first-block-requires
     mul-number-at
     mul-number-at-2
+    add-number-at
     add-number-at-2
-    add-number-at-3
     number-at-requires
     returns)

@@ -14,13 +14,13 @@ entry-start-requires c κs = search needs
 byte-at-requires : tie.Need-byte-at-requires
 byte-at-requires c κs =
     let a = c .before .before in
-    omega (arith, entry-inside (a .args .image .now) (headerOf (a .args .h)) (a .pre .0) (a .args .e) 0 (a .pre .1) (omega arith), c .entry-start .ensures)
+    omega (arith, entry-inside (a .args .image .now) (headerOf (a .args .h)) (a .pre .0) (a .args .e) 0 (a .pre .1) (omega arith), c .entry-start .ensures .0)
 
 returns : tie.Need-returns
 returns c =
     let b = c .before in
     let a = b .before .before in
-    (c .byte-at .ensures .0 ∙ ap (byte (a .args .image .now)) (omega (arith, b .entry-start .ensures)) ∙ sym (entry-byte (a .args .image .now) (headerOf (a .args .h)) (a .pre .0) (a .args .e) 0 (omega arith)), c .byte-at .ensures .1)
+    (c .byte-at .ensures .0 ∙ ap (byte (a .args .image .now)) (omega (arith, b .entry-start .ensures .0)) ∙ sym (entry-byte (a .args .image .now) (headerOf (a .args .h)) (a .pre .0) (a .args .e) 0 (omega arith)), c .byte-at .ensures .1)
 
 pub form-length-spec : {M : Type 1} → statement M
 form-length-spec = tie.close (tie.spec entry-start-requires byte-at-requires returns)

@@ -2,7 +2,10 @@
 use borrow.Author.Needs.{needs}
 use borrow.Author.Tests.{not-true, not-false}
 use native.Mathlib.Omega.{arith}
-use mathlib.Core.Path.{refl, sym, _∙_}
+use mathlib.Core.Path.{refl, sym, ap, _∙_}
+use native.Mathlib.Nat.{add-zero}
+use lib.ListN.{drop}
+use lib.Seq.{getD-drop}
 use Prim.Native.Nat.{_+_}
 use Rattle.model.specs.Lists.{byte}
 use Rattle.letters.specs.Marks.{isMarked}
@@ -16,7 +19,7 @@ byte-at-requires c κs = search needs
 returns : tie.Need-returns
 returns c =
     let a = c .before .before .before .args in
-    sym (entry-long (a .image .now) (a .at) (isMarked (a .marked .now)) (a .lexicons) (omega (arith, c .before .byte-at .ensures .0)))
+    sym (entry-long (isMarked (a .marked .now)) (a .lexicons) (drop (a .at) (a .image .now)) (omega (arith, c .before .byte-at .ensures .0, getD-drop (a .at) (a .image .now) 0 0 ∙ ap (byte (a .image .now)) (add-zero (a .at)))))
 
 add-form-end : tie.Need-add-form-end
 add-form-end c = search needs
@@ -34,7 +37,7 @@ returns-2 : tie.Need-returns-2
 returns-2 c =
     let b = c .before .before .before in
     let a = b .before .before .args in
-    let e = entry-there (a .image .now) (a .at) (isMarked (a .marked .now)) (a .lexicons) (b .byte-at .result) (byte (a .image .now) (a .at + 13)) (b .byte-at .ensures .0) refl (omega arith) in
+    let e = entry-there (isMarked (a .marked .now)) (a .lexicons) (a .image .now) (a .at) (b .byte-at .result) (byte (a .image .now) (a .at + 13)) (b .byte-at .ensures .0) refl (omega arith) in
     let letters = sym (c .before .are-marked .ensures) ∙ not-true (c .before .are-marked .result) (c .if2 .taken) in
     rw (e, letters) refl
 
@@ -48,7 +51,7 @@ returns-3 : tie.Need-returns-3
 returns-3 c =
     let b = c .before .before .before .before .before in
     let a = b .before .before .args in
-    let e = entry-there (a .image .now) (a .at) (isMarked (a .marked .now)) (a .lexicons) (b .byte-at .result) (byte (a .image .now) (a .at + 13)) (b .byte-at .ensures .0) refl (omega arith) in
+    let e = entry-there (isMarked (a .marked .now)) (a .lexicons) (a .image .now) (a .at) (b .byte-at .result) (byte (a .image .now) (a .at + 13)) (b .byte-at .ensures .0) refl (omega arith) in
     let l = c .before .before .before .are-marked in
     let letters = sym (l .ensures) ∙ not-false (l .result) (c .before .before .if2 .left) in
     let zeros = sym (c .before .are-zeros .ensures) ∙ not-true (c .before .are-zeros .result) (c .if3 .taken) in
@@ -67,7 +70,7 @@ returns-4 : tie.Need-returns-4
 returns-4 c =
     let b = c .before .before .before .before .before .before .before in
     let a = b .before .before .args in
-    let e = entry-there (a .image .now) (a .at) (isMarked (a .marked .now)) (a .lexicons) (b .byte-at .result) (c .before .byte-at2 .result) (b .byte-at .ensures .0) (c .before .byte-at2 .ensures .0) (omega arith) in
+    let e = entry-there (isMarked (a .marked .now)) (a .lexicons) (a .image .now) (a .at) (b .byte-at .result) (c .before .byte-at2 .result) (b .byte-at .ensures .0) (c .before .byte-at2 .ensures .0) (omega arith) in
     let l = c .before .before .before .before .before .are-marked in
     let z = c .before .before .before .are-zeros in
     let letters = sym (l .ensures) ∙ not-false (l .result) (c .before .before .before .before .if2 .left) in

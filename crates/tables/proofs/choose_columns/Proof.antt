@@ -6,7 +6,7 @@ use Rattle.model.specs.RuleTables.{table}
 use Rattle.image.specs.Header.{headerOf}
 use Rattle.tables.specs.Sides.{Paired}
 use Rattle.tables.specs.Breadths.{Columned}
-use Rattle.tables.proofs.Laws.{table-fits, laid-paired, read-columned, columns-written, columns-tested}
+use Rattle.tables.proofs.Laws.{laid-paired, read-columned, columns-written, columns-tested}
 use Rattle.tables.proofs.choose_columns.Statement.{statement}
 use Rattle.tables.proofs.choose_columns.Tie as tie
 
@@ -24,7 +24,7 @@ module _ (c : tie.After-byte-at) where
       (c .before .table-at .result .now) (c .before .table-at .ensures .0) (c .before .table-at .ensures .1) (c .byte-at .result) (c .byte-at .ensures .0)
 
 table-at-requires : tie.Need-table-at-requires
-table-at-requires c κs = let s = c .before .before in table-fits (s .args .image .now) (headerOf (s .args .h)) (s .pre .0) (s .args .r) (s .pre .1 .0)
+table-at-requires c κs = search needs
 
 byte-at-requires : tie.Need-byte-at-requires
 byte-at-requires c κs = search needs

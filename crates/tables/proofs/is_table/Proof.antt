@@ -95,7 +95,7 @@ returns-5 c =
     let y = n .byte-at2 .result in
     let p = m .byte-at .ensures .0 in
     let q = n .byte-at2 .ensures .0 in
-    rest-decides t a x y p q
+    rest-decides t a x y p q (m .before .before .pre)
     (counts-pass t a x y p q (l .before .right-counts .result) (l .before .right-counts .ensures) (l .if1 .left))
     (sides-pass t a x y p q (k .before .all-allowed .result) (k .before .all-allowed .ensures) (k .if2 .left))
     (marks-pass t a x y p q (j .before .all-allowed2 .result) (j .before .all-allowed2 .ensures) (j .if3 .left))

@@ -10,7 +10,7 @@ use Rattle.model.specs.RuleTables.{table, isTable}
 use Rattle.image.specs.Header.{headerOf}
 use Rattle.model.proofs.Lists.{every-more, every-fails}
 use Rattle.tables.proofs.Lists.{fails, passes}
-use Rattle.tables.proofs.Laws.{table-fits, tables-read}
+use Rattle.tables.proofs.Laws.{tables-read}
 use Rattle.tables.proofs.right_tables.Statement.{statement}
 use Rattle.tables.proofs.right_tables.Tie as tie
 
@@ -18,10 +18,10 @@ abbrev right : List ℕ → ℕ → ℕ → Bool
 right image letters r = isTable (table image r) letters
 
 abbrev Inv-loop : tie.InvT-loop
-Inv-loop image letters rules r₀ r = (r ≤ rules) × (every (right image letters) (below r) ≡ true)
+Inv-loop image h letters rules r₀ r = (r ≤ rules) × (every (right image letters) (below r) ≡ true)
 
 abbrev μ-loop : tie.MeasureT-loop
-μ-loop image letters rules r₀ r = rules - r
+μ-loop image h letters rules r₀ r = rules - r
 
 -- the test of the table read in a turn
 module _ (c : tie.After-is-table Inv-loop μ-loop) where
@@ -32,10 +32,7 @@ loop-holds : tie.Need-loop-holds Inv-loop μ-loop
 loop-holds c = (search needs, refl)
 
 table-at-requires : tie.Need-table-at-requires Inv-loop μ-loop
-table-at-requires c κs =
-    let b = c .before in
-    let s = b .before .before in
-    table-fits (s .args .image .now) (headerOf (s .args .h)) (s .pre) (b .loop .r) (c .loop-test .taken)
+table-at-requires c κs = search needs
 
 is-table-requires : tie.Need-is-table-requires Inv-loop μ-loop
 is-table-requires c κs = search needs

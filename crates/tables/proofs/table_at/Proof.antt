@@ -1,20 +1,19 @@
--- `table_at` meets its contract: the block that follows those of the header, the letters, the pairs and the tables before.
+-- `table_at` meets its contract: the part of the image that is the rule's record.
 use borrow.Author.Needs.{needs}
 use native.Mathlib.Omega.{arith}
-use mathlib.Core.Path.{_≡_, ap, _∙_}
-use Prim.Native.Nat.{ℕ, _+_, _*_, _-_}
+use mathlib.Core.Path.{_≡_, sym, ap, ap₂, _∙_}
+use Prim.Native.Nat.{ℕ, _+_, _-_}
 use lib.ListN.{length, take, drop}
-use Rattle.model.specs.Blocks.{block}
+use Rattle.model.specs.Blocks.{kinds}
 use Rattle.model.specs.RuleTables.{table}
-use Rattle.tables.proofs.Laws.{length-block}
+use Rattle.image.specs.Header.{headerOf}
+use Rattle.tables.proofs.Laws.{table-inside, table-part, table-length}
 use Rattle.tables.proofs.table_at.Statement.{statement}
 use Rattle.tables.proofs.table_at.Tie as tie
 
-add-from : tie.Need-add-from
-add-from c = search needs
-
-mul-from : tie.Need-mul-from
-mul-from c = search needs
+record-start-requires : tie.Need-record-start-requires
+unfolding kinds
+record-start-requires c κs = search needs
 
 add-to : tie.Need-add-to
 add-to c = search needs
@@ -26,17 +25,22 @@ part-result-start : tie.Need-part-result-start
 part-result-start c = search needs
 
 part-result-end : tie.Need-part-result-end
-part-result-end c = search needs
+part-result-end c =
+    let s = c .before .before in
+    omega (arith, table-inside (s .args .image .now) (headerOf (s .args .h)) (s .pre .0) (s .args .r) 505 (s .pre .1) (omega arith), c .record-start .ensures .0)
 
 returns : tie.Need-returns
-unfolding block
 returns c =
-    let a = c .before .args in
-    let n : 512 * (3 + a .r) + 512 - 512 * (3 + a .r) ≡ 512 = omega arith in
-    let e : take (512 * (3 + a .r) + 512 - 512 * (3 + a .r)) (drop (512 * (3 + a .r)) (a .image .now)) ≡ table (a .image .now) (a .r) = ap (λ (k : ℕ). take k (drop (512 * (3 + a .r)) (a .image .now))) n in
-    (e, ap length e ∙ length-block (a .image .now) (3 + a .r) (omega arith))
+    let n = c .before .record-start in
+    let s = c .before .before .before in
+    let image = s .args .image .now in
+    let h = headerOf (s .args .h) in
+    let w : n .result + 506 - n .result ≡ 506 = omega arith in
+    let e : take (n .result + 506 - n .result) (drop (n .result) image) ≡ table image (s .args .r) =
+    ap₂ (λ (k m : ℕ). take k (drop m image)) w (n .ensures .0) ∙ sym (table-part image h (s .pre .0) (s .args .r)) in
+    (e, ap length e ∙ table-length image h (s .pre .0) (s .args .r) (s .pre .1))
 
 pub table-at-spec : {M : Type 1} → statement M
 table-at-spec =
     tie.close
-    (tie.spec add-from mul-from add-to sub-result part-result-start part-result-end returns)
+    (tie.spec record-start-requires add-to sub-result part-result-start part-result-end returns)

@@ -1,7 +1,8 @@
--- `per_block` meets its contract: the table's entries are the definition's.
+-- `per_block` meets its contract: the table's places are the definition's.
 use borrow.Author.Needs.{needs}
-use mathlib.Core.Path.{refl}
-use Rattle.image.specs.Kinds.{perBlock}
+use Rattle.model.specs.Blocks.{kinds, perBlock}
+use Rattle.image.specs.Header.{headerOf}
+use Rattle.image.proofs.Records.{by-kind}
 use Rattle.image.proofs.kinds.per_block.Statement.{statement}
 use Rattle.image.proofs.kinds.per_block.Tie as tie
 
@@ -12,8 +13,8 @@ array-read-result : tie.Need-array-read-result
 array-read-result c = search needs
 
 returns : tie.Need-returns
-unfolding perBlock
-returns c = refl
+unfolding kinds
+returns c = by-kind (perBlock (headerOf (c .args .h))) 0 (c .args .kind) (c .pre)
 
 pub per-block-spec : {M : Type 1} → statement M
 per-block-spec = tie.close (tie.spec mul-result array-read-result returns)

@@ -24,8 +24,8 @@ returns c =
     let start = begins .before .before in
     let image = start .args .image .now in
     let h = headerOf (start .args .h) in (
-      entered-node image h (start .pre .0) (start .args .e) (start .pre .1 .1) (begins .entry-start .result) (long .form-length .result) (start .args .place) (begins .entry-start .ensures) (long .form-length .ensures .0),
-      entered-stands image h (start .pre .0) (start .args .e) (start .pre .1 .1) (begins .entry-start .result) (long .form-length .result) (start .args .place) (begins .entry-start .ensures) (long .form-length .ensures .0) (start .pre .1 .0),
+      entered-node image h (start .pre .0) (start .args .e) (start .pre .1 .1) (begins .entry-start .result) (long .form-length .result) (start .args .place) (begins .entry-start .ensures .0) (long .form-length .ensures .0),
+      entered-stands image h (start .pre .0) (start .args .e) (start .pre .1 .1) (begins .entry-start .result) (long .form-length .result) (start .args .place) (begins .entry-start .ensures .0) (long .form-length .ensures .0) (start .pre .1 .0),
     )
 
 pub enter-spec : {M : Type 1} → statement M

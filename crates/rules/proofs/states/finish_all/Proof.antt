@@ -9,17 +9,16 @@ use Rattle.model.specs.Lists.{below, every}
 use Rattle.model.specs.Blocks.{header}
 use Rattle.model.proofs.Lists.{every-more, every-fails}
 use Rattle.index.proofs.Laws.{laid-rules}
-use Rattle.rules.proofs.Tables.{accepted-here}
 use Rattle.letters.proofs.Laws.{laid-pairs}
 use Rattle.rules.proofs.Stepping.{endsAll, finish-is}
 use Rattle.rules.proofs.states.finish_all.Statement.{statement}
 use Rattle.rules.proofs.states.finish_all.Tie as tie
 
 abbrev Inv-loop : tie.InvT-loop
-Inv-loop image index states rules boundary rule₀ rule = (rule ≤ rules) × (every (endsAll image states boundary) (below rule) ≡ true)
+Inv-loop image index h states rules boundary rule₀ rule = (rule ≤ rules) × (every (endsAll image states boundary) (below rule) ≡ true)
 
 abbrev μ-loop : tie.MeasureT-loop
-μ-loop image index states rules boundary rule₀ rule = rules - rule
+μ-loop image index h states rules boundary rule₀ rule = rules - rule
 
 -- whether the rule ends in a final state
 module _ (c : tie.After-ends-final Inv-loop μ-loop) where
@@ -41,11 +40,10 @@ array-read-ends-final c = search needs
 ends-final-requires : tie.Need-ends-final-requires Inv-loop μ-loop
 ends-final-requires c κs =
     let s = c .before .before .before .before in
-    let ok = accepted-here (s .pre .0) in
     let rules = laid-rules (s .pre .0 .laid) in
     let pairs = laid-pairs (s .pre .0 .laid) in
     let inside : c .before .loop .rule < header (s .args .image .now) .rules = omega arith in
-    (ok, (s .pre .1 .0, ((inside, omega arith), s .pre .1 .1 (c .before .loop .rule) inside)))
+    (s .pre .0, (s .pre .1 .0, ((inside, omega arith), s .pre .1 .1 (c .before .loop .rule) inside)))
 
 returns : tie.Need-returns Inv-loop μ-loop
 returns c =

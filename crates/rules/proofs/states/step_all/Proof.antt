@@ -15,10 +15,10 @@ use Rattle.rules.proofs.states.step_all.Statement.{statement}
 use Rattle.rules.proofs.states.step_all.Tie as tie
 
 abbrev Inv-loop : tie.InvT-loop
-Inv-loop image index p rules after₀ r₀ after r = (r ≤ rules) × RulesTook image after₀ p r after
+Inv-loop image index h p rules after₀ r₀ after r = (r ≤ rules) × RulesTook image after₀ p r after
 
 abbrev μ-loop : tie.MeasureT-loop
-μ-loop image index p rules after₀ r₀ after r = rules - r
+μ-loop image index h p rules after₀ r₀ after r = rules - r
 
 -- the rule's next state
 module _ (c : tie.After-next-state Inv-loop μ-loop) where
@@ -47,13 +47,12 @@ next-state-requires : tie.Need-next-state-requires Inv-loop μ-loop
 next-state-requires c κs =
     let at = c .before in
     let s = at .before .before .before in
-    let ok = accepted-here (s .pre .0) in
     let rules = laid-rules (s .pre .0 .laid) in
     let pairs = laid-pairs (s .pre .0 .laid) in
     let image = s .args .image .now in
     let r : at .loop .r < header image .rules = omega arith in
     let old = at .loop .inv .1 .old (at .loop .r) (omega arith) in
-    (ok, (s .pre .1 .0, ((r, omega (arith, s .pre .1 .1 .0)), subst (λ (n : ℕ). (1 ≤ n) × (n ≤ stateCount (table image (at .loop .r)))) (sym old) (s .pre .1 .1 .1 (at .loop .r) r))))
+    (s .pre .0, (s .pre .1 .0, ((r, omega (arith, s .pre .1 .1 .0)), subst (λ (n : ℕ). (1 ≤ n) × (n ≤ stateCount (table image (at .loop .r)))) (sym old) (s .pre .1 .1 .1 (at .loop .r) r))))
 
 returns : tie.Need-returns Inv-loop μ-loop
 returns c = let s = start (c .before) in step-fails (s .args .image .now) (s .args .states) (s .args .p) (at (c .before) .loop .r) (c .before .next-state .result) (at (c .before) .loop .after) (inside (c .before)) (stepped (c .before)) (c .if1 .taken)

@@ -18,7 +18,7 @@ lexical-at-requires : tie.Need-lexical-at-requires
 lexical-at-requires c κs =
     let start = c .before .before in
     let a = start .args in
-    rw (c .entry-start .ensures) (first-inside (a .image .now) (headerOf (a .h)) (start .pre .0) (a .e) (start .pre .1))
+    rw (c .entry-start .ensures .0) (first-inside (a .image .now) (headerOf (a .h)) (start .pre .0) (a .e) (start .pre .1))
 
 returns : tie.Need-returns
 returns c =
@@ -26,7 +26,7 @@ returns c =
     let a = start .args in
     let image = a .image .now in
     let h = headerOf (a .h) in
-    let e = c .lexical-at .ensures ∙ ap (λ (i : ℕ). byte image (i + 1)) (c .before .entry-start .ensures) ∙ first-is image h (start .pre .0) (a .e) (start .pre .1) in
+    let e = c .lexical-at .ensures ∙ ap (λ (i : ℕ). byte image (i + 1)) (c .before .entry-start .ensures .0) ∙ first-is image h (start .pre .0) (a .e) (start .pre .1) in
     (e, subst (λ (x : ℕ). x ≤ h .letters) (sym e) (first-most image h (start .pre .0) (a .e) (start .pre .1)))
 
 pub first-letter-spec : {M : Type 1} → statement M

@@ -7,7 +7,7 @@ use mathlib.Core.Logic.{⊎-elim}
 use Prim.Native.Nat.{ℕ, _<_, _≤_, _-_}
 use lib.ListN.{getD}
 use Rattle.model.specs.RuleTables.{Sides, pairsAndBoundary, column, matches, columnFor}
-use Rattle.tables.specs.Sides.{sidesOf}
+use Rattle.letters.specs.Pairs.{pairOf}
 use Rattle.tables.proofs.Choice.{NarrowestSoFar, pass-none, pass-unmatched, pass-narrower, pass-tie, pass-broader, pass-read, pass-all, narrowest}
 use Rattle.tables.proofs.Breadths.{matching, broad, breadth-most, narrowest-is}
 use Rattle.tables.proofs.columns.column_of.Statement.{statement}
@@ -15,7 +15,7 @@ use Rattle.tables.proofs.columns.column_of.Tie as tie
 
 abbrev Inv-loop : tie.InvT-loop
 Inv-loop image pairs t columns breadths p pair best₀ least₀ c₀ best least c =
-    (c ≤ columns) × NarrowestSoFar (matching (pairsAndBoundary image) t (sidesOf pair)) (broad (pairsAndBoundary image) t (sidesOf pair)) columns 252 c best least
+    (c ≤ columns) × NarrowestSoFar (matching (pairsAndBoundary image) t (pairOf pair)) (broad (pairsAndBoundary image) t (pairOf pair)) columns 252 c best least
 
 abbrev μ-loop : tie.MeasureT-loop
 μ-loop image pairs t columns breadths p pair best₀ least₀ c₀ best least c = columns - c
@@ -29,13 +29,13 @@ module _ (c : tie.After-column-matches Inv-loop μ-loop) where
   start = at .before .before .before .before
 
   abbrev match : ℕ → Bool
-  match = matching (pairsAndBoundary (start .args .image .now)) (start .args .t .now) (sidesOf (at .before .pair-at .result))
+  match = matching (pairsAndBoundary (start .args .image .now)) (start .args .t .now) (pairOf (at .before .pair-at .result))
 
   abbrev breadth-by : ℕ → ℕ
-  breadth-by = broad (pairsAndBoundary (start .args .image .now)) (start .args .t .now) (sidesOf (at .before .pair-at .result))
+  breadth-by = broad (pairsAndBoundary (start .args .image .now)) (start .args .t .now) (pairOf (at .before .pair-at .result))
 
   tested : c .column-matches .result ≡ match (at .loop .c)
-  tested = c .column-matches .ensures ∙ ap (λ (x : Sides). matches x (sidesOf (at .before .pair-at .result))) (c .before .column-at .ensures)
+  tested = c .column-matches .ensures ∙ ap (λ (x : Sides). matches x (pairOf (at .before .pair-at .result))) (c .before .column-at .ensures)
 
   wide : getD (start .args .breadths .now) (at .loop .c) 0 ≡ breadth-by (at .loop .c)
   wide = start .pre .1 .1 .0 .each (at .loop .c) (c .before .before .loop-test .taken)
@@ -94,7 +94,7 @@ returns c =
     let s = q .before .before .before in
     let ps = pairsAndBoundary (s .args .image .now) in
     let t = s .args .t .now in
-    let x = sidesOf (q .pair-at .result) in
+    let x = pairOf (q .pair-at .result) in
     let e : b .loop .c ≡ s .args .columns = omega arith in
     pass-all (matching ps t x) (broad ps t x) (s .args .columns) 252 (subst (λ (k : ℕ). NarrowestSoFar (matching ps t x) (broad ps t x) (s .args .columns) 252 k (b .loop .best) (b .loop .least)) e (b .loop .inv .1))
     ∙ ap (narrowest (matching ps t x) (broad ps t x)) (s .pre .1 .0 .count)

@@ -1,4 +1,4 @@
--- `column_at` meets its contract: the columns stand from byte 6 on.
+-- `column_at` meets its contract: the columns stand from byte 2 on.
 use borrow.Author.Needs.{needs}
 use mathlib.Core.Path.{_∙_}
 use Rattle.tables.proofs.Pairs.{column-from}

@@ -1,0 +1,124 @@
+-- Records of a laid image: each lies inside it, and a byte of a record is that byte of the image.
+use Prim.Native.Nat.{ℕ, zero, suc, _+_, _*_, _/_, _%_, _<_, _≤_}
+use native.Mathlib.Nat.{le-refl, mul-suc, mul-le-mul, mod-lt, mod-eq-of-lt, div-eq-of-lt, mul-div-le, le-div-iff-mul-le, div-lt-iff-lt-mul}
+use native.Mathlib.Omega.{arith}
+use mathlib.Core.Bool.{Bool, true, false, cond}
+use mathlib.Core.Path.{_≡_, refl, sym, ap, _∙_}
+use mathlib.Core.List.{List, [], _∷_, map}
+use lib.ListN.{length, getD, take, drop, length-take, length-drop}
+use lib.Seq.{getD-take, getD-drop}
+use lib.Dec.{eqb}
+use Rattle.model.specs.Lists.{sum, byte}
+use Rattle.model.specs.Blocks.{Header, Kind, fitting, kinds, rowOf, blocksBefore, inAll, recordWidth, perBlock, firstBlock, recordStart, blockTotal, recordAt}
+use Rattle.image.specs.Laid.{Limited, Laid}
+use Rattle.image.specs.Kinds.{IsKind}
+
+-- a row whose records have room in its blocks
+pub record Fitted (r : Kind) : Type 0 where
+  pub wide : 1 ≤ r .width
+  pub narrow : r .width ≤ 506
+  pub filled : r .inAll ≤ r .blocks * fitting (r .width)
+
+abbrev AllFitted : List Kind → Type 0
+AllFitted [] = Unit {0}
+AllFitted (r ∷ rs) = Fitted r × AllFitted rs
+
+-- the limits give every row that room
+kinds-fitted : (h : Header) → Limited h → AllFitted (kinds h)
+unfolding kinds
+kinds-fitted h l =
+    (record { wide = omega arith; narrow = omega arith; filled = omega arith }, (record { wide = omega arith; narrow = omega arith; filled = omega arith }, (record { wide = omega arith; narrow = omega arith; filled = omega arith }, (record { wide = omega arith; narrow = omega arith; filled = omega arith }, (record { wide = omega arith; narrow = omega arith; filled = omega arith }, (record { wide = omega arith; narrow = omega arith; filled = omega arith }, tt))))))
+
+-- "1 to 128 blocks"
+pub total-most : (h : Header) → Limited h → blockTotal h ≤ 128
+unfolding blockTotal kinds
+total-most h l = omega arith
+
+-- the row of a kind that has a record
+module _ (kind : ℕ) where
+  row-fitted : (rs : List Kind) → AllFitted rs → 1 ≤ rowOf kind rs .inAll → Fitted (rowOf kind rs)
+  row-fitted [] f some = absurd (omega arith)
+  row-fitted (r ∷ rs) f some = go (eqb (r .kind) kind) (row-fitted rs (f .1)) some
+    where
+      go : (b : Bool) → (1 ≤ rowOf kind rs .inAll → Fitted (rowOf kind rs)) → 1 ≤ cond b r (rowOf kind rs) .inAll → Fitted (cond b r (rowOf kind rs))
+      go true rest some = f .0
+      go false rest some = rest some
+
+  -- its blocks stand among all
+  row-among : (rs : List Kind) (n : ℕ) → 1 ≤ rowOf kind rs .inAll → blocksBefore kind n rs + rowOf kind rs .blocks ≤ n + sum (map (λ r. r .blocks) rs)
+  row-among [] n some = absurd (omega arith)
+  row-among (r ∷ rs) n some = go (eqb (r .kind) kind) (row-among rs (n + r .blocks)) some
+    where
+      go : (b : Bool) → (1 ≤ rowOf kind rs .inAll → blocksBefore kind (n + r .blocks) rs + rowOf kind rs .blocks ≤ n + r .blocks + sum (map (λ r. r .blocks) rs))
+          → 1 ≤ cond b r (rowOf kind rs) .inAll → cond b n (blocksBefore kind (n + r .blocks) rs) + cond b r (rowOf kind rs) .blocks ≤ n + (r .blocks + sum (map (λ r. r .blocks) rs))
+      go true rest some = omega arith
+      go false rest some = omega (arith, rest some)
+
+-- as many of a width as fit stand in a block's 506 bytes for records
+pub some-fit : (width : ℕ) → 1 ≤ width → width ≤ 506 → 1 ≤ fitting width
+some-fit width wide narrow = le-div-iff-mul-le {k = width} {x = 1} {y = 506} wide .1 (omega arith)
+
+in-block : (width i : ℕ) → 1 ≤ width → width ≤ 506 → width * (i % fitting width) + width ≤ 506
+in-block width i wide narrow =
+    omega (
+      arith,
+      mul-le-mul {n₁ = width} {m₁ = suc (i % fitting width)} {n₂ = width} {m₂ = fitting width} (le-refl width) (mod-lt i {m = fitting width} (some-fit width wide narrow)),
+      mul-suc width (i % fitting width),
+      mul-div-le 506 width,
+    )
+
+-- record i of a kind, by the limits alone
+module _ (h : Header) (limits : Limited h) (kind i : ℕ) (there : i < inAll h kind) where
+  pub kind-fitted : Fitted (rowOf kind (kinds h))
+  kind-fitted = row-fitted kind (kinds h) (kinds-fitted h limits) (omega arith)
+
+  -- its block is one of those of its kind, and those are among all
+  pub record-block : firstBlock h kind + i / perBlock h kind < blockTotal h
+  unfolding blockTotal
+  record-block =
+      let f = kind-fitted in
+      let p = some-fit (recordWidth h kind) (f .wide) (f .narrow) in
+      omega (arith, row-among kind (kinds h) 0 (omega arith), div-lt-iff-lt-mul {k = perBlock h kind} {x = i} {y = rowOf kind (kinds h) .blocks} p .1 (omega arith))
+
+  -- and it ends before that block's check
+  pub record-before : 4 + recordWidth h kind * (i % perBlock h kind) + recordWidth h kind ≤ 510
+  record-before = let f = kind-fitted in omega (arith, in-block (recordWidth h kind) i (f .wide) (f .narrow))
+
+  pub record-end : recordStart h kind i + recordWidth h kind ≤ 512 * blockTotal h
+  unfolding recordStart
+  record-end = omega (arith, record-block, record-before)
+
+-- record i of a kind whose records all stand in its first block
+pub record-first : (h : Header) (kind i : ℕ) → i < perBlock h kind → recordStart h kind i ≡ 512 * firstBlock h kind + (4 + recordWidth h kind * i)
+unfolding recordStart
+record-first h kind i few = rw (div-eq-of-lt {n = i} {m = perBlock h kind} few, mod-eq-of-lt {n = i} {m = perBlock h kind} few) (omega arith)
+
+module _ {image : List ℕ} {h : Header} (laid : Laid image h) (kind i : ℕ) where
+  -- a record lies inside the image
+  pub record-inside : (j : ℕ) → i < inAll h kind → j < recordWidth h kind → recordStart h kind i + j < length image
+  record-inside j there k = omega (arith, laid .whole, record-end h (laid .limits) kind i there)
+
+  -- it is that part of the image
+  pub record-part : recordAt image kind i ≡ take (recordWidth h kind) (drop (recordStart h kind i) image)
+  unfolding recordAt
+  record-part = ap (λ (g : Header). take (recordWidth g kind) (drop (recordStart g kind i) image)) (sym (laid .header-is))
+
+  pub record-length : i < inAll h kind → length (recordAt image kind i) ≡ recordWidth h kind
+  record-length there =
+      ap length record-part
+      ∙ omega (arith, length-take (recordWidth h kind) (drop (recordStart h kind i) image), length-drop (recordStart h kind i) image, laid .whole, record-end h (laid .limits) kind i there)
+
+  -- a byte of a record is that byte of the image
+  pub record-byte : (j : ℕ) → j < recordWidth h kind → byte (recordAt image kind i) j ≡ byte image (recordStart h kind i + j)
+  record-byte j k = ap (λ (l : List ℕ). byte l j) record-part ∙ getD-take (recordWidth h kind) (drop (recordStart h kind i) image) j 0 k ∙ getD-drop (recordStart h kind i) image j 0
+
+-- a table with a place for each kind, read by kind; place 0 is no kind's
+pub by-kind : (f : ℕ → ℕ) (none kind : ℕ) → IsKind kind → getD (none ∷ f 1 ∷ f 2 ∷ f 3 ∷ f 4 ∷ f 5 ∷ f 6 ∷ []) kind 0 ≡ f kind
+by-kind f none zero is = absurd (omega arith)
+by-kind f none (suc zero) is = refl
+by-kind f none (suc (suc zero)) is = refl
+by-kind f none (suc (suc (suc zero))) is = refl
+by-kind f none (suc (suc (suc (suc zero)))) is = refl
+by-kind f none (suc (suc (suc (suc (suc zero))))) is = refl
+by-kind f none (suc (suc (suc (suc (suc (suc zero)))))) is = refl
+by-kind f none (suc (suc (suc (suc (suc (suc (suc n))))))) is = absurd (omega arith)
