@@ -1,5 +1,5 @@
-// The search for readings, for whatever is asked of the path and of the word: opening an entry and pairing its letters call each other, and each reading found is offered
-// to the lent rows.
+// The search for readings, whatever is asked of the path and of the word: opening an entry and pairing its letters call each other, and each
+// reading found is offered to the lent rows.
 pub mod here;
 pub mod starts;
 
