@@ -1,6 +1,6 @@
 -- Records of a laid image: each lies inside it, and a byte of a record is that byte of the image.
-use Prim.Native.Nat.{ℕ, zero, suc, _+_, _*_, _/_, _%_, _<_, _≤_}
-use native.Mathlib.Nat.{le-refl, mul-suc, mul-le-mul, mod-lt, mod-eq-of-lt, div-eq-of-lt, mul-div-le, le-div-iff-mul-le, div-lt-iff-lt-mul}
+use Prim.Native.Nat.{ℕ, zero, suc, _+_, _*_, _-_, _/_, _%_, _<_, _≤_}
+use native.Mathlib.Nat.{le-refl, mul-comm, mul-assoc, mul-add, add-mul, div-add-mod', mul-suc, mul-le-mul, mod-lt, mod-eq-of-lt, div-eq-of-lt, mul-div-le, le-div-iff-mul-le, div-lt-iff-lt-mul}
 use native.Mathlib.Omega.{arith}
 use mathlib.Core.Bool.{Bool, true, false, cond}
 use mathlib.Core.Path.{_≡_, refl, sym, ap, _∙_}
@@ -58,19 +58,39 @@ module _ (kind : ℕ) where
 pub some-fit : (width : ℕ) → 1 ≤ width → width ≤ 506 → 1 ≤ fitting width
 some-fit width wide narrow = le-div-iff-mul-le {k = width} {x = 1} {y = 506} wide .1 (omega arith)
 
+pub fit-most : (width : ℕ) → width * fitting width ≤ 506
+fit-most width = mul-div-le 506 width
+
 in-block : (width i : ℕ) → 1 ≤ width → width ≤ 506 → width * (i % fitting width) + width ≤ 506
 in-block width i wide narrow =
     omega (
       arith,
       mul-le-mul {n₁ = width} {m₁ = suc (i % fitting width)} {n₂ = width} {m₂ = fitting width} (le-refl width) (mod-lt i {m = fitting width} (some-fit width wide narrow)),
       mul-suc width (i % fitting width),
-      mul-div-le 506 width,
+      fit-most width,
     )
+
+-- where record i of a width begins, without a remainder: after all the bytes of the records before it, and after what lies between a block's records and the
+-- next one's, once for each block that they fill
+start-sum : (first width i : ℕ) → 1 ≤ width → width ≤ 506 → 512 * first + 4 + width * i + (512 - width * fitting width) * (i / fitting width) ≡ 512 * (first + i / fitting width) + (4 + width * (i % fitting width))
+start-sum first width i wide narrow =
+    let m = fitting width in
+    let q = i / m in
+    let all : width * i ≡ width * m * q + width * (i % m) =
+        ap (λ (n : ℕ). width * n) (sym (div-add-mod' i m)) ∙ mul-add width (q * m) (i % m) ∙ ap (λ (n : ℕ). n + width * (i % m)) (ap (λ (n : ℕ). width * n) (mul-comm q m) ∙ sym (mul-assoc width m q)) in
+    let fits : 512 - width * m + width * m ≡ 512 = omega (arith, fit-most width) in
+    let both : (512 - width * m) * q + width * m * q ≡ 512 * q = sym (add-mul (512 - width * m) (width * m) q) ∙ ap (λ (n : ℕ). n * q) fits in
+    omega arith
 
 -- record i of a kind, by the limits alone
 module _ (h : Header) (limits : Limited h) (kind i : ℕ) (there : i < inAll h kind) where
   pub kind-fitted : Fitted (rowOf kind (kinds h))
   kind-fitted = row-fitted kind (kinds h) (kinds-fitted h limits) (omega arith)
+
+  -- where it begins, by what a table tells of its kind
+  pub start-by : {first wide most : ℕ} → first ≡ firstBlock h kind → wide ≡ recordWidth h kind → most ≡ perBlock h kind → 512 * first + 4 + wide * i + (512 - wide * most) * (i / most) ≡ recordStart h kind i
+  unfolding recordStart
+  start-by e1 e2 e3 = let f = kind-fitted in rw (e1, e2, e3) (start-sum (firstBlock h kind) (recordWidth h kind) i (f .wide) (f .narrow))
 
   -- its block is one of those of its kind, and those are among all
   pub record-block : firstBlock h kind + i / perBlock h kind < blockTotal h

@@ -74,5 +74,6 @@ pub fn record_start(h: Header, kind: usize, i: usize) -> usize
     ensures { λ r. ⌜ (r ≡ recordStart (headerOf h) kind i) × (r < 65536) ⌝ }
 {
     let most = per_block(h, kind);
-    512 * (first_block(h, kind) + i / most) + (4 + width(h, kind) * (i % most))
+    let wide = width(h, kind);
+    512 * first_block(h, kind) + 4 + wide * i + (512 - wide * most) * (i / most)
 }
