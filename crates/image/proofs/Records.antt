@@ -77,7 +77,7 @@ start-sum first width i wide narrow =
     let m = fitting width in
     let q = i / m in
     let all : width * i ≡ width * m * q + width * (i % m) =
-        ap (λ (n : ℕ). width * n) (sym (div-add-mod' i m)) ∙ mul-add width (q * m) (i % m) ∙ ap (λ (n : ℕ). n + width * (i % m)) (ap (λ (n : ℕ). width * n) (mul-comm q m) ∙ sym (mul-assoc width m q)) in
+    ap (λ (n : ℕ). width * n) (sym (div-add-mod' i m)) ∙ mul-add width (q * m) (i % m) ∙ ap (λ (n : ℕ). n + width * (i % m)) (ap (λ (n : ℕ). width * n) (mul-comm q m) ∙ sym (mul-assoc width m q)) in
     let fits : 512 - width * m + width * m ≡ 512 = omega (arith, fit-most width) in
     let both : (512 - width * m) * q + width * m * q ≡ 512 * q = sym (add-mul (512 - width * m) (width * m) q) ∙ ap (λ (n : ℕ). n * q) fits in
     omega arith

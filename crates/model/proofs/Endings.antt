@@ -50,9 +50,11 @@ module _ (g : Grammar) where
   keeps-split es fs r (suc k) (p ∷ ps) (q ∷ qs) a b (inr h) =
       let e : p ≡ q = h .0 in
       let m = afterLetter (g .lexical q) (suc k) in
-      inr (e,
-      subst (λ (x : ℕ). Before (upTo g (afterLetter (g .lexical x) (suc k)) ps ++ stepList g es (beyond g (afterLetter (g .lexical x) (suc k)) ps)) (upTo g m qs ++ stepList g fs (beyond g m qs))) (sym e)
-      (keeps-split es fs r m ps qs (letters-left (g .lexical q) k (total es) (map (g .lexical) ps) (rw e at a)) (letters-left (g .lexical q) k (total fs) (map (g .lexical) qs) b) (rw e at (h .1))))
+      inr (
+        e,
+        subst (λ (x : ℕ). Before (upTo g (afterLetter (g .lexical x) (suc k)) ps ++ stepList g es (beyond g (afterLetter (g .lexical x) (suc k)) ps)) (upTo g m qs ++ stepList g fs (beyond g m qs))) (sym e)
+            (keeps-split es fs r m ps qs (letters-left (g .lexical q) k (total es) (map (g .lexical) ps) (rw e at a)) (letters-left (g .lexical q) k (total fs) (map (g .lexical) qs) b) (rw e at (h .1))),
+      )
 
   pub keeps : OneWay g → (may : ℕ → Bool) (stop : Bool) → ((f : ℕ) → T stop → T (may f) → ⊥) → (es fs : List ℕ) → T (linked (g .entries) (g .follows) (g .ends) may stop es) → T (linked (g .entries) (g .follows) (g .ends) may stop fs) → Keeps es fs
   unfolding stepList endingList linked
@@ -66,12 +68,14 @@ module _ (g : Grammar) where
       let u = out3 (may f) (ltb f (g .entries)) (onward f fs) t in
       let v = out3 (may e) (ltb e (g .entries)) (onward e es) s in
       let n = length (g .form f) in
-      inr (d,
-      subst (λ (x : ℕ). Before (upTo g (length (g .form x)) ps ++ stepList g es (beyond g (length (g .form x)) ps)) (upTo g n qs ++ stepList g fs (beyond g n qs))) (sym d)
-      (keeps-split es fs (keeps w (g .follows f) (g .ends f) (λ x s t. w f x s t) es fs (subst (λ (x : ℕ). T (onward x es)) d (v .2)) (u .2)) n ps qs
-      (a ∙ length-append (g .form e) (joined (map (g .form) es)) ∙ ap (λ (x : ℕ). length (g .form x) + total es) d)
-      (b ∙ length-append (g .form f) (joined (map (g .form) fs)))
-      (rw d at (h .1))))
+      inr (
+        d,
+        subst (λ (x : ℕ). Before (upTo g (length (g .form x)) ps ++ stepList g es (beyond g (length (g .form x)) ps)) (upTo g n qs ++ stepList g fs (beyond g n qs))) (sym d)
+            (keeps-split es fs (keeps w (g .follows f) (g .ends f) (λ x s t. w f x s t) es fs (subst (λ (x : ℕ). T (onward x es)) d (v .2)) (u .2)) n ps qs
+            (a ∙ length-append (g .form e) (joined (map (g .form) es)) ∙ ap (λ (x : ℕ). length (g .form x) + total es) d)
+            (b ∙ length-append (g .form f) (joined (map (g .form) fs)))
+            (rw d at (h .1))),
+      )
 
   parts : (r : Reading) → T (isReading g r) → T (isLinked g (r .path)) × (letters (r .pairing) ≡ total (r .path))
   unfolding isReading isPath

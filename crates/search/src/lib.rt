@@ -24,8 +24,9 @@ use listing::place::Place;
 use listing::place::ROOT;
 use rows::Trail;
 
-// The path ends here, where it may; then each entry that may open here opens, and its letters are paired. Whether a pair may be taken at once is the same for all entries that begin with
-// one letter: `known` keeps what was seen of each, 0 before it is looked at, and where that is 1 an entry is passed over.
+// Where every letter is paired: the path ends, where it may, and then each entry that may open does, and its letters are paired. Whether a pair may be
+// taken at once is the same for all entries that begin with one letter: `known` keeps what was seen of each, 0 before it is looked at, and where that
+// is 1 an entry is passed over.
 pub fn open(
     image: &[u8],
     index: &[u8],
@@ -46,8 +47,20 @@ pub fn open(
 {
     let mut n = found;
     if listing::place::may_stop(image, h, place) {
-        let ended = listing::place::stop(place);
-        n = pair(image, index, h, asked, path, word, ended, trail, out, capacity, n);
+        let stopped = listing::place::stop(place);
+        n = pair(
+            image,
+            index,
+            h,
+            asked,
+            path,
+            word,
+            stopped,
+            trail,
+            out,
+            capacity,
+            n,
+        );
     }
     if trail.entries >= 16 {
         return n;
@@ -78,17 +91,30 @@ pub fn open(
             }
             let next = listing::place::enter(image, h, place, e);
             let mut longer = trail;
-            let many = longer.entries;
-            longer.path[many] = e as u16;
-            longer.entries = many + 1;
-            n = pair(image, index, h, asked, path, word, next, longer, out, capacity, n);
+            let end = longer.entries;
+            longer.path[end] = e as u16;
+            longer.entries = end + 1;
+            n = pair(
+                image,
+                index,
+                h,
+                asked,
+                path,
+                word,
+                next,
+                longer,
+                out,
+                capacity,
+                n,
+            );
         }
         e = listing::opening::next_entry(h, ways, e + 1);
     }
     n
 }
 
-// Where no entry opens: the reading that ends here, and then each pair that may come next.
+// Where a letter is left or the path has ended: the reading that ends here, and then each pair that may come next. Elsewhere an entry opens or the path
+// ends; where it can only end, it does so at once.
 pub fn pair(
     image: &[u8],
     index: &[u8],
@@ -108,8 +134,20 @@ pub fn pair(
 {
     if crate::here::opens_at(place) {
         if listing::place::only_stops(image, h, place) {
-            let ended = listing::place::stop(place);
-            return pair(image, index, h, asked, path, word, ended, trail, out, capacity, found);
+            let stopped = listing::place::stop(place);
+            return pair(
+                image,
+                index,
+                h,
+                asked,
+                path,
+                word,
+                stopped,
+                trail,
+                out,
+                capacity,
+                found,
+            );
         }
         return open(
             image,
@@ -154,10 +192,22 @@ pub fn pair(
         if taken.may {
             let next = taken.place;
             let mut longer = trail;
-            let have = longer.pairs;
-            longer.pairing[have] = p as u8;
-            longer.pairs = have + 1;
-            n = pair(image, index, h, asked, path, word, next, longer, out, capacity, n);
+            let end = longer.pairs;
+            longer.pairing[end] = p as u8;
+            longer.pairs = end + 1;
+            n = pair(
+                image,
+                index,
+                h,
+                asked,
+                path,
+                word,
+                next,
+                longer,
+                out,
+                capacity,
+                n,
+            );
         }
         k += 1;
     }

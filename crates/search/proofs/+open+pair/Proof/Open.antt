@@ -261,10 +261,10 @@ module _ (t : ℕ) where
       let letter = joined .before .before .first-letter in
       let next = c .next-entry2 .ensures _ (ways (w .before)) in
       let passed =
-          ⊎-elim
-          (λ v. turns-is (turns-more _ (loop .inv .1 .1 .0) (v .4 .ensures) (open-turn o (loop .e) (longer here) (v .2 .result) (v .2 .ensures .0) (query s) (loop .inv .0 .1 .1 (here .loop-test .taken)))) (v .7) (v .8))
-          (λ v. turns-is (turns-skip (loop .inv .1 .1 .0) (looked joined .barren (letter .result .0) (v .0 .left) (loop .e) (sym (letter .ensures .0)))) (v .1) (v .2))
-          (done .if4 .came) in (
+      ⊎-elim
+      (λ v. turns-is (turns-more _ (loop .inv .1 .1 .0) (v .4 .ensures) (open-turn o (loop .e) (longer here) (v .2 .result) (v .2 .ensures .0) (query s) (loop .inv .0 .1 .1 (here .loop-test .taken)))) (v .7) (v .8))
+      (λ v. turns-is (turns-skip (loop .inv .1 .1 .0) (looked joined .barren (letter .result .0) (v .0 .left) (loop .e) (sym (letter .ensures .0)))) (v .1) (v .2))
+      (done .if4 .came) in (
         (omega (arith, next .onward, loop .inv .0 .0), (next .in-bound, next .passes)),
         (
           ⊎-elim (λ v. ap length (v .7) ∙ v .4 .kept .1 .1 .1 .1 .1 .1 .1 .1 .0 ∙ loop .inv .1 .0) (λ v. ap length (v .1) ∙ loop .inv .1 .0) (done .if4 .came),
