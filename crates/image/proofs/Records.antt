@@ -27,7 +27,13 @@ AllFitted (r ∷ rs) = Fitted r × AllFitted rs
 kinds-fitted : (h : Header) → Limited h → AllFitted (kinds h)
 unfolding kinds
 kinds-fitted h l =
-    (record { wide = omega arith; narrow = omega arith; filled = omega arith }, (record { wide = omega arith; narrow = omega arith; filled = omega arith }, (record { wide = omega arith; narrow = omega arith; filled = omega arith }, (record { wide = omega arith; narrow = omega arith; filled = omega arith }, (record { wide = omega arith; narrow = omega arith; filled = omega arith }, (record { wide = omega arith; narrow = omega arith; filled = omega arith }, tt))))))
+    let one : Fitted (rowOf 1 (kinds h)) = record { wide = omega arith; narrow = omega arith; filled = omega arith } in
+    let two : Fitted (rowOf 2 (kinds h)) = record { wide = omega arith; narrow = omega arith; filled = omega arith } in
+    let three : Fitted (rowOf 3 (kinds h)) = record { wide = omega arith; narrow = omega arith; filled = omega arith } in
+    let four : Fitted (rowOf 4 (kinds h)) = record { wide = omega arith; narrow = omega arith; filled = omega arith } in
+    let five : Fitted (rowOf 5 (kinds h)) = record { wide = omega arith; narrow = omega arith; filled = omega arith } in
+    let six : Fitted (rowOf 6 (kinds h)) = record { wide = omega arith; narrow = omega arith; filled = omega arith } in
+    (one, (two, (three, (four, (five, (six, tt))))))
 
 -- "1 to 128 blocks"
 pub total-most : (h : Header) → Limited h → blockTotal h ≤ 128
