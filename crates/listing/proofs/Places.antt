@@ -22,7 +22,7 @@ use Rattle.image.specs.Accepted.{Accepted}
 use Rattle.lexicon.proofs.Laws as entries
 use Rattle.listing.specs.declared.place.Place.{Place}
 use Rattle.listing.specs.Levels.{levelOf}
-use Rattle.listing.specs.Places.{root, ended, waysAfter, stopsAfter, restOf, nodeOf, Standing, OnlyStops}
+use Rattle.listing.specs.Places.{root, ended, waysAfter, stopsAfter, restOf, withLast, nodeOf, Standing, OnlyStops}
 
 module _ (image : List ℕ) (h : Header) (a : Accepted image h) (e : ℕ) (inside : e < h .entries) where
   right : T (rightEntries image)
@@ -98,14 +98,11 @@ module _ (image : List ℕ) (h : Header) (a : Accepted image h) (e : ℕ) (insid
     }
 
 -- the path ends
-abbrev stopped : Place → Place
-stopped place = record { from = place .from; to = place .to; last = ended; nulls = place .nulls; surface = place .surface; states = place .states }
-
-pub stopped-node : (place : Place) (image : List ℕ) (q : Query) (n p : ℕ) → nodeOf image (stopped place) n p ≡ goAt (grammarOf image) q true (nodeOf image place n p) 0
+pub stopped-node : (place : Place) (image : List ℕ) (q : Query) (n p : ℕ) → nodeOf image (withLast place ended) n p ≡ goAt (grammarOf image) q true (nodeOf image place n p) 0
 unfolding waysAfter stopsAfter nodeOf goAt
 stopped-node place image q n p = refl
 
-pub stopped-stands : (place : Place) (image : List ℕ) → Standing image place → Standing image (stopped place)
+pub stopped-stands : (place : Place) (image : List ℕ) → Standing image place → Standing image (withLast place ended)
 stopped-stands place image s = record { in-order = s .in-order; in-image = s .in-image; letters-right = s .letters-right; last-right = inr (inl refl); nulls-in = s .nulls-in; surface-in = s .surface-in; states-live = s .states-live }
 
 -- whether it may end, by the byte of the last entry

@@ -103,17 +103,17 @@ module _ {image : List ℕ} {place : Place} {p : ℕ} (q : Query) (here : Spells
   unfolding mayAt nodeOf grammarOf levelMayBy
   pair-tests n m h = rw (true-of (spells (restOf image place) (pairAt image p .lexical)) (here .spells-on), lt-ltb m 40 h) refl
 
-  -- not taken, by the first test that fails
-  refused : (nullsLet image place p && levelLets image (q .letters) place p && rulesLet image place p) ≡ false → Took image q place p false place
+  -- not taken, by the first test that fails, whatever place is answered then
+  refused : (nullsLet image place p && levelLets image (q .letters) place p && rulesLet image place p) ≡ false → {after : Place} → Took image q place p false after
   refused e = record { may-is = λ n m h. sym (pair-tests n m h ∙ e); node-is = λ f. absurd (false≢true f); stands = λ f. absurd (false≢true f) }
 
-  pub refused-nulls : nullsLet image place p ≡ false → Took image q place p false place
+  pub refused-nulls : nullsLet image place p ≡ false → {after : Place} → Took image q place p false after
   refused-nulls e = refused (rw e refl)
 
-  pub refused-level : nullsLet image place p ≡ true → levelLets image (q .letters) place p ≡ false → Took image q place p false place
+  pub refused-level : nullsLet image place p ≡ true → levelLets image (q .letters) place p ≡ false → {after : Place} → Took image q place p false after
   refused-level a e = refused (rw (a, e) refl)
 
-  pub refused-rules : nullsLet image place p ≡ true → levelLets image (q .letters) place p ≡ true → rulesLet image place p ≡ false → Took image q place p false place
+  pub refused-rules : nullsLet image place p ≡ true → levelLets image (q .letters) place p ≡ true → rulesLet image place p ≡ false → {after : Place} → Took image q place p false after
   refused-rules a b e = refused (rw (a, b, e) refl)
 
   -- taken

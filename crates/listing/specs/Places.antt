@@ -34,6 +34,10 @@ stopsAfter image last = ltb last ended && grammarOf image .ends last
 abbrev pub restOf : List ℕ → Place → List ℕ
 restOf image p = take (p .to - p .from) (drop (p .from) image)
 
+-- the place with another entry open
+abbrev pub withLast : Place → ℕ → Place
+withLast p last = record { from = p .from; to = p .to; last = last; nulls = p .nulls; surface = p .surface; states = p .states }
+
 -- with so many entries and pairs read
 unfoldable pub nodeOf : List ℕ → Place → ℕ → ℕ → Node
 nodeOf image p entries pairs =

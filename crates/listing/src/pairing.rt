@@ -12,7 +12,7 @@ ghost use Rattle.image.specs.Header.{headerOf};
 ghost use Rattle.image.specs.Accepted.{Accepted};
 ghost use Rattle.image.specs.Index.{indexOf};
 ghost use Rattle.listing.specs.Asked.{wordQuery, queryBy};
-ghost use Rattle.listing.specs.Places.{ended, restOf, nodeOf, Standing, Took};
+ghost use Rattle.listing.specs.Places.{ended, restOf, withLast, nodeOf, Standing, Took};
 use crate::asked::Asked;
 use crate::asked::WordAsked;
 use crate::place::Place;
@@ -24,6 +24,7 @@ pub struct Taken {
     pub place: Place,
 }
 
+// Pair p, where the entry that is open is `last`.
 pub fn take(
     image: &[u8],
     index: &[u8],
@@ -31,14 +32,15 @@ pub fn take(
     asked: WordAsked,
     word: &[u8],
     place: Place,
+    last: usize,
     p: usize,
 ) -> Taken
     requires { ⌜ Accepted (now image) (headerOf h) ⌝ }
     requires { ⌜ now index ≡ indexOf (now image) ⌝ }
-    requires { ⌜ Standing (now image) place ⌝ }
+    requires { ⌜ Standing (now image) (withLast place last) ⌝ }
     requires { ⌜ p < h .pairs ⌝ }
     requires { ⌜ T (spells (restOf (now image) place) (getD (pairs (now image)) p boundaryPair .lexical)) ⌝ }
-    ensures { λ r. ⌜ ((t : Pattern) → Took (now (image .entry)) (wordQuery asked (now (word .entry)) t) place p (r .may) (r .place)) ⌝ }
+    ensures { λ r. ⌜ ((t : Pattern) → Took (now (image .entry)) (wordQuery asked (now (word .entry)) t) (withLast place last) p (r .may) (r .place)) ⌝ }
 {
     let level = place.surface;
     let states = place.states;
@@ -70,7 +72,7 @@ pub fn take(
         place: Place {
             from: spelled.from,
             to: place.to,
-            last: place.last,
+            last: last,
             nulls: spelled.nulls,
             surface: surface,
             states: after,
@@ -78,7 +80,7 @@ pub fn take(
     }
 }
 
-// Whether a reading of n entries ends at a place where the path has ended and every letter is paired.
+// Whether a reading of n entries ends where every letter is paired, once the path has ended.
 pub fn ends(
     image: &[u8],
     index: &[u8],
@@ -91,9 +93,8 @@ pub fn ends(
 ) -> bool
     requires { ⌜ Accepted (now image) (headerOf h) ⌝ }
     requires { ⌜ now index ≡ indexOf (now image) ⌝ }
-    requires { ⌜ Standing (now image) place ⌝ }
-    requires { ⌜ (place .from ≡ place .to) × (place .last ≡ ended) ⌝ }
-    ensures { λ r. ⌜ ((m : ℕ) → r ≡ complete (grammarOf (now (image .entry))) (queryBy asked (now (path .entry)) (now (word .entry))) (nodeOf (now (image .entry)) place n m)) ⌝ }
+    requires { ⌜ Standing (now image) place × (place .from ≡ place .to) ⌝ }
+    ensures { λ r. ⌜ ((m : ℕ) → r ≡ complete (grammarOf (now (image .entry))) (queryBy asked (now (path .entry)) (now (word .entry))) (nodeOf (now (image .entry)) (withLast place ended) n m)) ⌝ }
 {
     let path_asked = asked.path;
     if !crate::asked::ends_entries(path_asked, path, n) {

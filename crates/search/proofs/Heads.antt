@@ -7,8 +7,8 @@ use mathlib.Core.Logic.{_⊎_, inl, inr, ⊎-elim}
 use mathlib.Core.Path.{_≡_, refl, sym, ap, ap₂, _∙_}
 use mathlib.Core.List.{List, [], _∷_, _++_}
 use lib.ListN.{length, getD}
-use lib.Dec.{leb, eqb}
-use borrow.Author.Tests.{eqb-false}
+use lib.Dec.{leb, ltb, eqb, ltb→lt}
+use borrow.Author.Tests.{eqb-false, lt-leb, le-leb, ne-eqb}
 use Rattle.model.specs.Lists.{below, given, flatMap}
 use Rattle.model.specs.Blocks.{Header, header}
 use Rattle.model.specs.GrammarOf.{grammarOf}
@@ -22,12 +22,13 @@ use Rattle.rows.specs.Offering.{offerAll}
 use Rattle.rows.proofs.Offering.{offer-append}
 use Rattle.listing.specs.declared.place.Place.{Place}
 use Rattle.listing.specs.Gather.{stepsLeft}
-use Rattle.listing.specs.Places.{root, ended, stopsAfter, restOf, nodeOf, Standing, Took, OnlyStops}
+use Rattle.listing.specs.Places.{root, ended, stopsAfter, restOf, withLast, nodeOf, Standing, Took, OnlyStops}
 use Rattle.listing.specs.Opening.{mayEnter}
 use Rattle.listing.specs.Search.{nodeAt, headOf, foundAt}
 use Rattle.listing.proofs.Loops.{flatMap-places}
+use Rattle.listing.proofs.Places.{stopped-node, stopped-stands}
 use Rattle.listing.proofs.Searching.{stopOne, entryOne, pairOne}
-use Rattle.model.proofs.Booleans.{and-out, not-out, of-true}
+use Rattle.model.proofs.Booleans.{and-out, not-out, of-true, right-false}
 use Rattle.listing.proofs.Searching as found
 use Rattle.search.specs.Here.{opensAt, Underway}
 use Rattle.search.proofs.Standing.{opens-is}
@@ -87,6 +88,46 @@ module _ {image index : List ℕ} {h : Header} {place : Place} {trail : Trail} (
 
   pub pair-last : (q : Query) → opensAt place ≡ false → 40 ≤ trail .pairs → foundAt image q place trail ≡ given (complete (grammarOf image) q (nodeAt image place trail)) (readingOf trail ∷ [])
   pair-last q o = found.pair-full image q place trail (opens-here ∙ o)
+
+-- where no entry opens, with the entry that is open there, or the path ended: what is found is the same, and no more steps are left
+pub record Settled (image index : List ℕ) (h : Header) (place : Place) (trail : Trail) (last : ℕ) : Type 0 where
+  pub underway : Underway image index h (withLast place last) trail
+  pub shut : opensAt (withLast place last) ≡ false
+  pub same : (q : Query) → foundAt image q (withLast place last) trail ≡ foundAt image q place trail
+  pub no-more : stepsAfter (withLast place last) trail ≤ stepsAfter place trail
+
+module _ {image index : List ℕ} {h : Header} {place : Place} {trail : Trail} (underway : Underway image index h place trail) where
+  pub settled-left : place .from < place .to → Settled image index h place trail (place .last)
+  unfolding opensAt
+  settled-left l = record { underway = underway; shut = rw (lt-leb (place .to) (place .from) l) refl; same = λ q. refl; no-more = omega arith }
+
+  over-underway : Underway image index h (withLast place ended) trail
+  over-underway = record { accepted = underway .accepted; indexed = underway .indexed; stands = stopped-stands place image (underway .stands); short = underway .short }
+
+  over-shut : opensAt (withLast place ended) ≡ false
+  unfolding opensAt
+  over-shut = right-false (leb (place .to) (place .from)) false refl
+
+  ended-already : place .last ≡ ended → withLast place ended ≡ place
+  ended-already e = ap (withLast place) (sym e)
+
+  only-opens : place .to ≤ place .from → OnlyStops image (place .last) → opensAt place ≡ true
+  unfolding opensAt stopsAfter
+  only-opens l only =
+      let few = ltb→lt (place .last) ended (and-out (ltb (place .last) ended) (grammarOf image .ends (place .last)) (of-true (stopsAfter image (place .last)) (only .stops)) .0) in
+      rw (le-leb (place .to) (place .from) l, ne-eqb (place .last) ended (λ e. omega arith)) refl
+
+  pub settled-over : (q : Query) → place .to ≤ place .from → (place .last ≡ ended) ⊎ OnlyStops image (place .last) → Settled image index h place trail ended
+  settled-over q l (inl e) = record { underway = over-underway; shut = over-shut; same = λ q. ap (λ (p : Place). foundAt image q p trail) (ended-already e); no-more = omega (arith, ap (λ (p : Place). stepsAfter p trail) (ended-already e)) }
+  settled-over q l (inr only) =
+      let o = only-opens l only in
+      let go = stopped-node place in
+      record {
+        underway = over-underway;
+        shut = over-shut;
+        same = λ q. only-turn underway o (withLast place ended) go q only;
+        no-more = omega (arith, stop-less underway o (withLast place ended) go q);
+      }
 
 -- at the head of the loop that opens entries
 pub record Opening (image index : List ℕ) (h : Header) (place : Place) (trail : Trail) : Type 0 where

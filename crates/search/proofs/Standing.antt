@@ -52,12 +52,3 @@ module _ (image : List ℕ) (place : Place) (stands : Standing image place) wher
   pub not-ended : (q : Query) (n m : ℕ) → place .from < place .to → complete (grammarOf image) q (nodeOf image place n m) ≡ false
   unfolding complete nodeOf
   not-ended q n m h = rw (rest-some h) refl
-
--- where no letter is left and no entry opens, the path has ended
-pub ended-here : (place : Place) → opensAt place ≡ false → place .to ≤ place .from → place .last ≡ ended
-unfolding opensAt
-ended-here place e h = eqb-true (place .last) ended (go (eqb (place .last) ended) (rw (le-leb (place .to) (place .from) h) at e))
-  where
-    go : (b : Bool) → not b ≡ false → b ≡ true
-    go true e = refl
-    go false e = absurd (true≢false e)

@@ -1,5 +1,6 @@
 // What the search asks of the place where it stands.
-ghost use mathlib.Core.Bool.{false};
+ghost use mathlib.Core.Bool.{true, false};
+ghost use mathlib.Core.Logic.{_⊎_};
 ghost use mathlib.Core.Path.{_≡_};
 ghost use mathlib.Core.List.{[], _∷_};
 ghost use Prim.Native.Nat.{_≤_, _<_};
@@ -16,7 +17,7 @@ ghost use Rattle.rows.specs.Trail.{readingOf};
 ghost use Rattle.rows.specs.Offering.{offerAll};
 ghost use Rattle.rows.specs.Fill.{put};
 ghost use Rattle.listing.specs.Asked.{queryBy};
-ghost use Rattle.listing.specs.Places.{restOf, Standing};
+ghost use Rattle.listing.specs.Places.{ended, restOf, withLast, Standing, OnlyStops};
 ghost use Rattle.listing.specs.Search.{nodeAt, headOf};
 ghost use Rattle.search.specs.Here.{opensAt, Underway};
 use image::Header;
@@ -26,17 +27,20 @@ use listing::place::ENDED;
 use listing::place::Place;
 use rows::Trail;
 
-// Whether an entry opens here, or the path ends: every letter is paired, and the path has not ended.
-pub fn opens_at(place: Place) -> bool
-    ensures { λ r. ⌜ r ≡ opensAt place ⌝ }
+// Where every letter is paired: whether the search goes on with `open`. Elsewhere the path has ended, or it can only end.
+pub fn goes_on(image: &[u8], h: Header, place: Place) -> bool
+    requires { ⌜ Accepted (now image) (headerOf h) ⌝ }
+    requires { ⌜ Standing (now image) place × (place .to ≤ place .from) ⌝ }
+    ensures on { λ r. ⌜ (r ≡ true → opensAt place ≡ true) ⌝ }
+    ensures over { λ r. ⌜ (r ≡ false → (place .last ≡ ended) ⊎ OnlyStops (now (image .entry)) (place .last)) ⌝ }
 {
-    if place.from < place.to {
+    if place.last == ENDED {
         return false;
     }
-    place.last != ENDED
+    !listing::place::only_stops(image, h, place)
 }
 
-// Offers the reading that ends here, where one does.
+// Offers the reading that ends where every letter is paired and the path has ended, where one does.
 pub fn put_ended(
     image: &[u8],
     index: &[u8],
@@ -50,13 +54,10 @@ pub fn put_ended(
     found: usize,
 ) -> usize
     requires { ⌜ Underway (now image) (now index) (headerOf h) place trail ⌝ }
-    requires { ⌜ opensAt place ≡ false ⌝ }
+    requires { ⌜ place .to ≤ place .from ⌝ }
     requires { ⌜ found ≤ rowCount (now out) ⌝ }
-    ensures { λ r. ⌜ (now (out .exit), r) ≡ offerAll (put (rowCount (now (out .entry)))) (now (out .entry), found) (given (complete (grammarOf (now (image .entry))) (queryBy asked (now (path .entry)) (now (word .entry))) (nodeAt (now (image .entry)) place trail)) (readingOf trail ∷ [])) ⌝ }
+    ensures { λ r. ⌜ (now (out .exit), r) ≡ offerAll (put (rowCount (now (out .entry)))) (now (out .entry), found) (given (complete (grammarOf (now (image .entry))) (queryBy asked (now (path .entry)) (now (word .entry))) (nodeAt (now (image .entry)) (withLast place ended) trail)) (readingOf trail ∷ [])) ⌝ }
 {
-    if place.from < place.to {
-        return found;
-    }
     if !listing::pairing::ends(image, index, h, asked, path, word, place, trail.entries) {
         return found;
     }

@@ -20,6 +20,7 @@ ghost use Rattle.search.specs.Here.{opensAt, Underway};
 use image::Header;
 use listing::asked::Asked;
 use listing::level::Level;
+use listing::place::ENDED;
 use listing::place::Place;
 use listing::place::ROOT;
 use rows::Trail;
@@ -113,8 +114,8 @@ pub fn open(
     n
 }
 
-// Where a letter is left or the path has ended: the reading that ends here, and then each pair that may come next. Elsewhere an entry opens or the path
-// ends; where it can only end, it does so at once.
+// Where a letter is left or the path has ended: the reading that ends here, and then each pair that may come next. Where the path can only end, it does
+// so without a call; where an entry may open, `open` goes on.
 pub fn pair(
     image: &[u8],
     index: &[u8],
@@ -132,63 +133,40 @@ pub fn pair(
     requires { ⌜ (capacity ≡ rowCount (now out)) × (found ≤ capacity) ⌝ }
     ensures { λ r. ⌜ (now (out .exit), r) ≡ offerAll (put capacity) (now (out .entry), found) (foundAt (now (image .entry)) (queryBy asked (now (path .entry)) (now (word .entry))) place trail) ⌝ }
 {
-    if crate::here::opens_at(place) {
-        if listing::place::only_stops(image, h, place) {
-            let stopped = listing::place::stop(place);
-            return pair(
+    let mut last = place.last;
+    let mut n = found;
+    if place.from >= place.to {
+        if crate::here::goes_on(image, h, place) {
+            return open(
                 image,
                 index,
                 h,
                 asked,
                 path,
                 word,
-                stopped,
+                place,
                 trail,
                 out,
                 capacity,
                 found,
             );
         }
-        return open(
-            image,
-            index,
-            h,
-            asked,
-            path,
-            word,
-            place,
-            trail,
-            out,
-            capacity,
-            found,
-        );
+        last = ENDED;
+        n = crate::here::put_ended(image, index, h, asked, path, word, place, trail, out, found);
     }
-    let ended = crate::here::put_ended(
-        image,
-        index,
-        h,
-        asked,
-        path,
-        word,
-        place,
-        trail,
-        out,
-        found,
-    );
     if trail.pairs >= 40 {
-        return ended;
+        return n;
     }
     let letter = crate::here::next_letter(image, place);
     let word_asked = asked.word;
     let many = crate::here::candidate_count(image, index, h, letter);
-    let mut n = ended;
     let mut k: usize = 0;
     while k < many {
         if n > capacity {
             return n;
         }
         let p = crate::here::candidate(image, index, h, letter, k);
-        let taken = listing::pairing::take(image, index, h, word_asked, word, place, p);
+        let taken = listing::pairing::take(image, index, h, word_asked, word, place, last, p);
         if taken.may {
             let next = taken.place;
             let mut longer = trail;

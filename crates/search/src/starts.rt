@@ -44,7 +44,7 @@ fn can_start(
     let mut k: usize = 0;
     while k < many {
         let p = crate::here::candidate(image, index, h, letter, k);
-        let taken = listing::pairing::take(image, index, h, asked, word, place, p);
+        let taken = listing::pairing::take(image, index, h, asked, word, place, place.last, p);
         if taken.may {
             return true;
         }

@@ -11,7 +11,7 @@ use Rattle.model.specs.Query.{Query}
 use Rattle.model.specs.Tree.{complete}
 use Rattle.rules.specs.Live.{finishOf}
 use Rattle.listing.specs.Asked.{queryBy}
-use Rattle.listing.specs.Places.{nodeOf}
+use Rattle.listing.specs.Places.{ended, withLast, nodeOf}
 use Rattle.listing.proofs.Taking.{end-tests}
 use Rattle.listing.proofs.pairing.ends.Statement.{statement}
 use Rattle.listing.proofs.pairing.ends.Tie as tie
@@ -26,8 +26,8 @@ abbrev letters : tie.Start → ℕ
 letters s = s .args .place .surface .letters
 
 -- the tests that are left
-tests : (s : tie.Start) (m : ℕ) → let a = s .args in complete (grammarOf (a .image .now)) (query s) (nodeOf (a .image .now) (a .place) (a .n) m) ≡ (query s .entries .mayEnd (a .n) && (ltb 0 (letters s) && query s .letters .mayEnd (letters s)) && finishOf (grammarOf (a .image .now)) (a .place .states))
-tests s m = let a = s .args in end-tests (a .image .now) (query s) (a .place) (a .n) m (s .pre .1 .1 .1)
+tests : (s : tie.Start) (m : ℕ) → let a = s .args in complete (grammarOf (a .image .now)) (query s) (nodeOf (a .image .now) (withLast (a .place) ended) (a .n) m) ≡ (query s .entries .mayEnd (a .n) && (ltb 0 (letters s) && query s .letters .mayEnd (letters s)) && finishOf (grammarOf (a .image .now)) (a .place .states))
+tests s m = let a = s .args in end-tests (a .image .now) (query s) (withLast (a .place) ended) (a .n) m (s .pre .1 .1 .1, refl)
 
 -- those that are passed
 entries-end : (c : tie.Else1) → let s = start (c .before) in query s .entries .mayEnd (s .args .n) ≡ true

@@ -8,6 +8,8 @@ use Prim.Native.Nat.{_≤_}
 use Rattle.model.specs.Query.{Pattern, Query}
 use Rattle.image.specs.Header.{headerOf}
 use Rattle.listing.specs.Asked.{wordPattern, wordQuery}
+use Rattle.listing.specs.declared.place.Place.{Place}
+use Rattle.listing.specs.Places.{withLast}
 use Rattle.listing.proofs.Taking.{side-there, image-short, nullsLet, levelLets, rulesLet, SpellsOn, refused-nulls, refused-level, refused-rules, took}
 use Rattle.listing.proofs.pairing.take.Statement.{statement}
 use Rattle.listing.proofs.pairing.take.Tie as tie
@@ -31,21 +33,25 @@ lexical c = c .before .before .before .before
 abbrev surface : TriedRules → TriedSurface
 surface c = c .before .before .before
 
+-- the place that the pair is taken at
+abbrev at : tie.Start → Place
+at s = withLast (s .args .place) (s .args .last)
+
 -- the model's tests
 module _ (s : tie.Start) where
   abbrev query : Pattern → Query
   query = wordQuery (s .args .asked) (s .args .word .now)
 
   abbrev nulls : Bool
-  nulls = nullsLet (s .args .image .now) (s .args .place) (s .args .p)
+  nulls = nullsLet (s .args .image .now) (at s) (s .args .p)
 
   abbrev level : Bool
-  level = levelLets (s .args .image .now) (wordPattern (s .args .asked) (s .args .word .now)) (s .args .place) (s .args .p)
+  level = levelLets (s .args .image .now) (wordPattern (s .args .asked) (s .args .word .now)) (at s) (s .args .p)
 
   abbrev rules : Bool
-  rules = rulesLet (s .args .image .now) (s .args .place) (s .args .p)
+  rules = rulesLet (s .args .image .now) (at s) (s .args .p)
 
-  spells-on : SpellsOn (s .args .image .now) (s .args .place) (s .args .p)
+  spells-on : SpellsOn (s .args .image .now) (at s) (s .args .p)
   spells-on = record { stands = s .pre .1 .1 .0; spells-on = s .pre .1 .1 .1 .1 }
 
 -- are the code's

@@ -1,32 +1,41 @@
--- The needs of `pair`. At its loop's head a `Pairing` is known; each turn tries a candidate of the next letter, and offers what it finds where it is taken.
+-- The needs of `pair`. Where no entry opens the place is `Settled`: a letter is left, or the path has ended. At the loop's head a `Pairing` of it is known;
+-- each turn tries a candidate of the next letter, and offers what it finds where it is taken.
 use Prim.Native.Nat.{ℕ, _+_, _<_}
 use native.Mathlib.Omega.{arith}
 use borrow.Author.Needs.{needs}
-use mathlib.Core.Bool.{true, false}
+use mathlib.Core.Bool.{Bool}
 use mathlib.Core.Logic.{⊎-elim}
-use mathlib.Core.Path.{_≡_, refl, sym, ap, _∙_}
+use mathlib.Core.Path.{_≡_, refl, sym, ap, _∙_, subst}
+use mathlib.Core.List.{List, [], _∷_}
 use lib.ListN.{length, set}
+use Rattle.model.specs.Lists.{below, given, flatMap}
+use Rattle.model.specs.GrammarOf.{grammarOf}
 use Rattle.model.specs.Query.{Pattern, Query}
+use Rattle.model.specs.Tree.{complete}
 use Rattle.image.specs.Header.{headerOf}
 use Rattle.image.specs.Index.{candidates}
 use Rattle.rows.specs.Trail.{readingOf, withPair, Holds}
 use Rattle.rows.specs.Fill.{put}
+use Rattle.rows.specs.Offering.{offerAll}
 use Rattle.rows.proofs.Longer.{longer-pair}
-use Rattle.rows.proofs.Offering.{offer-by}
+use Rattle.rows.proofs.Offering.{offer-none, offer-by}
 use Rattle.rows.proofs.Fill.{put-keeps}
 use Rattle.listing.specs.Asked.{pathPattern, queryBy}
-use Rattle.listing.specs.Places.{restOf}
-use Rattle.search.specs.Here.{opensAt}
+use Rattle.listing.specs.declared.place.Place.{Place}
+use Rattle.listing.specs.Places.{restOf, withLast}
+use Rattle.listing.specs.Search.{nodeAt, foundAt}
+use Rattle.search.proofs.Standing.{not-ended}
 use Rattle.search.proofs.Candidates.{Candidate, candidate-spells}
-use Rattle.search.proofs.Turns.{turns-none, turns-more, turns-skip, turns-stop, turns-all, turns-is}
-use Rattle.search.proofs.Heads.{Pairing, stop-underway, stop-less, only-turn, letter-in, pair-last, pair-offered, pair-none, pair-underway, pair-less, pair-turn}
+use Rattle.search.proofs.Turns.{turns-none, turns-more, turns-skip, turns-stop, turns-all, turns-is, state-is}
+use Rattle.search.proofs.Heads.{Pairing, Settled, settled-left, settled-over, candidateOne, letter-in, pair-last, pair-offered, pair-none, pair-underway, pair-less, pair-turn}
 use Rattle.search.proofs.+open+pair.Lts-pair as lts
 use Rattle.search.proofs.+open+pair.Proof.Shared.{OfPair}
 
 module _ (t : ℕ) where
-  -- the places that the needs speak of: where the reading that ends has been offered, where the candidates are counted, a turn with rows to spare, its candidate, and whether it may be taken
-  abbrev Ended : Type 0
-  Ended = OfPair t lts.After-struct-known
+  -- the places that the needs speak of: where the place is settled and the reading that ends has been offered, where the candidates are counted, a turn with
+  -- rows to spare, its candidate, and whether it may be taken
+  abbrev Joined : Type 0
+  Joined = OfPair t lts.Joined1
 
   abbrev Head : Type 0
   Head = OfPair t lts.After-candidate-count
@@ -41,11 +50,14 @@ module _ (t : ℕ) where
   Tried = OfPair t lts.After-take
 
   -- from each of them back to the one before
-  abbrev first : Ended → OfPair t lts.Start
-  first w = w .before .before .before .before .before .before .before .before .before .before .before .before
+  abbrev first : Joined → OfPair t lts.Start
+  first w = w .before .before .before .before .before .before .before
+
+  abbrev joined : Head → Joined
+  joined w = w .before .before .before .before
 
   abbrev start : Head → OfPair t lts.Start
-  start w = first (w .before .before .before)
+  start w = first (joined w)
 
   abbrev head : Turn → Head
   head c = c .before .before .before
@@ -53,110 +65,112 @@ module _ (t : ℕ) where
   abbrev query : OfPair t lts.Start → Query
   query s = queryBy (s .args .asked) (s .args .path .now) (s .args .word .now)
 
+  -- where the search stands, with the path ended where it ends here
+  abbrev here : Joined → Place
+  here w = withLast (first w .args .place) (w .if1 .last)
+
   abbrev letter : Head → ℕ
   letter w = w .before .next-letter .result .0
 
-  -- no entry opens
-  shut : (w : Ended) → opensAt (first w .args .place) ≡ false
-  shut w = sym (w .before .before .before .before .before .before .opens-at .ensures) ∙ w .before .before .before .before .before .if1 .left
+  -- an entry may open
+  pub goes-on-requires : OfPair t lts.Need-goes-on-requires
+  goes-on-requires c κs = let underway = c .before .before .before .before .before .before .before .pre .1 .0 in (underway .accepted, (underway .stands, c .if1 .taken))
 
-  pairing : (w : Head) → let a = start w .args in Pairing (a .image .now) (a .index .now) (headerOf (a .h)) (a .place) (a .trail) (letter w)
-  pairing w =
-      let underway = start w .pre .1 .0 in
-      record {
-        underway = underway;
-        shut = shut (w .before .before .before);
-        spare = w .before .before .if3 .left;
-        letter = w .before .next-letter .ensures .0;
-        in-letters = letter-in underway (w .before .next-letter .ensures .1);
-      }
-
-  -- before the loop
-  pub opens-at-requires : OfPair t lts.Need-opens-at-requires
-  opens-at-requires c κs = search needs
-
-  -- the path can only end here
-  pub only-stops-requires : OfPair t lts.Need-only-stops-requires
-  only-stops-requires c κs = let underway = c .before .before .before .before .before .before .before .pre .1 .0 in (underway .accepted, underway .stands)
-
-  pub stop-requires : OfPair t lts.Need-stop-requires
-  stop-requires c κs = search needs
-
-  abbrev Stopped : Type 0
-  Stopped = OfPair t lts.After-stop
-
-  abbrev from : Stopped → OfPair t lts.Start
-  from c = c .before .before .before .before .before .before .before .before .before .before
-
-  open-here : (c : Stopped) → opensAt (from c .args .place) ≡ true
-  open-here c = let test = c .before .before .before in sym (test .before .opens-at .ensures) ∙ test .if1 .taken
-
-  pub pair-requires : OfPair t lts.Need-pair-requires
-  pair-requires c κs =
-      let at = c .before in
-      let s = from at in
-      let place = at .stop in
-      let less = stop-less (s .pre .1 .0) (open-here at) (place .result) (place .ensures .0) (query s) in
-      (omega (arith, s .pre .0, less), (stop-underway (s .pre .1 .0) (open-here at) (place .result) (place .ensures .0) (place .ensures .1), s .pre .1 .1))
+  pub open-requires : OfPair t lts.Need-open-requires
+  open-requires c κs =
+      let test = c .before .before in
+      let s = test .before .before .before .before .before .before .before .before in
+      (omega (arith, s .pre .0), (s .pre .1 .0, (test .goes-on .ensures .0 (c .before .if2 .taken), s .pre .1 .1)))
 
   pub same-length : OfPair t lts.Need-same-length
   same-length c = search needs
 
   pub returns : OfPair t lts.Need-returns
-  returns c =
-      let made = c .before .before in
-      let at = made .before .before in
-      let s = from at in
-      rw (sym (only-turn (s .pre .1 .0) (open-here at) (at .stop .result) (at .stop .ensures .0) (query s) (at .before .before .only-stops .ensures (at .before .if2 .taken)))) (made .pair .ensures)
+  returns c = c .before .before .«open» .ensures
 
-  -- or it goes on with an entry
-  pub open-requires : OfPair t lts.Need-open-requires
-  open-requires c κs =
-      let test = c .before .before .before in
-      let s = test .before .before .before .before .before .before .before in
-      (omega (arith, s .pre .0), (s .pre .1 .0, (sym (test .before .opens-at .ensures) ∙ test .if1 .taken, s .pre .1 .1)))
-
-  pub same-length-2 : OfPair t lts.Need-same-length-2
-  same-length-2 c = search needs
-
-  pub returns-2 : OfPair t lts.Need-returns-2
-  returns-2 c = c .before .before .«open» .ensures
-
+  -- none opens
   pub put-ended-requires : OfPair t lts.Need-put-ended-requires
   put-ended-requires c κs =
-      let s = c .before .before .before .before .before .before .before .before in
-      (s .pre .1 .0, (sym (c .before .before .opens-at .ensures) ∙ c .before .if1 .left, omega (arith, s .pre .1 .1)))
+      let test = c .before .before .before in
+      let s = test .before .before .before .before .before .before .before in
+      (s .pre .1 .0, (test .if1 .taken, omega (arith, s .pre .1 .1)))
 
-  pub same-length-3 : OfPair t lts.Need-same-length-3
-  same-length-3 c = search needs
-
-  pub returns-3 : OfPair t lts.Need-returns-3
-  returns-3 c =
-      let w = c .before in
+  settled : (w : Joined) → let a = first w .args in Settled (a .image .now) (a .index .now) (headerOf (a .h)) (a .place) (a .trail) (w .if1 .last)
+  settled w =
       let s = first w in
-      rw (pair-last (s .pre .1 .0) (query s) (shut w) (c .if3 .taken)) (w .before .before .before .put-ended .ensures ∙ offer-by (ap put (sym (s .pre .1 .1 .0))) _ _)
+      let a = s .args in
+      let at : ℕ → Type 0 = Settled (a .image .now) (a .index .now) (headerOf (a .h)) (a .place) (a .trail) in
+      ⊎-elim
+      (λ v. subst at (sym (v .8)) (settled-over (s .pre .1 .0) (query s) (v .0 .taken) (v .1 .ensures .1 (v .2 .left))))
+      (λ v. subst at (sym (v .2)) (settled-left (s .pre .1 .0) (v .0 .left)))
+      (w .if1 .came)
+
+  -- what is complete here has been offered
+  ending : (w : Joined) → let s = first w in (w .if1 .out, w .if1 .n) ≡ offerAll (put (s .args .capacity)) (s .args .out .now, s .args .found) (given (complete (grammarOf (s .args .image .now)) (query s) (nodeAt (s .args .image .now) (here w) (s .args .trail))) (readingOf (s .args .trail) ∷ []))
+  ending w =
+      let s = first w in
+      let a = s .args in
+      let g = grammarOf (a .image .now) in
+      let offered : Bool → List ℕ × ℕ = λ b. offerAll (put (a .capacity)) (a .out .now, a .found) (given b (readingOf (a .trail) ∷ [])) in
+      let done : ℕ → Bool = λ last. complete g (query s) (nodeAt (a .image .now) (withLast (a .place) last) (a .trail)) in
+      ⊎-elim
+      (λ v. state-is (v .4 .ensures ∙ offer-by (ap put (sym (s .pre .1 .1 .0))) _ _ ∙ ap (λ (last : ℕ). offered (done last)) (sym (v .8))) (v .7) (v .9))
+      (λ v.
+      let none = not-ended (a .image .now) (a .place) (s .pre .1 .0 .stands) (query s) (a .trail .entries) (a .trail .pairs) (v .0 .left) in
+      state-is (sym (ap (λ (last : ℕ). offered (done last)) (v .2) ∙ ap offered none ∙ offer-none _ _)) (v .1) (v .3))
+      (w .if1 .came)
+
+  kept : (w : Joined) → length (w .if1 .out) ≡ length (first w .args .out .now)
+  kept w = ⊎-elim (λ v. ap length (v .7) ∙ v .4 .kept .1 .1 .1 .1 .1 .1 .1 .1 .0) (λ v. ap length (v .1)) (w .if1 .came)
+
+  pairing : (w : Head) → let a = start w .args in Pairing (a .image .now) (a .index .now) (headerOf (a .h)) (here (joined w)) (a .trail) (letter w)
+  pairing w =
+      let here = settled (joined w) in
+      record {
+        underway = here .underway;
+        shut = here .shut;
+        spare = w .before .before .if3 .left;
+        letter = w .before .next-letter .ensures .0;
+        in-letters = letter-in (here .underway) (w .before .next-letter .ensures .1);
+      }
+
+  pub same-length-2 : OfPair t lts.Need-same-length-2
+  same-length-2 c = kept (c .before .before)
+
+  pub returns-2 : OfPair t lts.Need-returns-2
+  returns-2 c =
+      let w = c .before .before in
+      let s = first w in
+      ending w ∙ ap (offerAll (put (s .args .capacity)) (s .args .out .now, s .args .found)) (sym (pair-last (settled w .underway) (query s) (settled w .shut) (c .if3 .taken)) ∙ settled w .same (query s))
 
   pub next-letter-requires : OfPair t lts.Need-next-letter-requires
-  next-letter-requires c κs = first (c .before) .pre .1 .0 .stands
+  next-letter-requires c κs = first (c .before .before) .pre .1 .0 .stands
 
   pub candidate-count-requires : OfPair t lts.Need-candidate-count-requires
-  candidate-count-requires c κs = let underway = first (c .before .before) .pre .1 .0 in (underway .accepted, (underway .indexed, letter-in underway (c .next-letter .ensures .1)))
+  candidate-count-requires c κs = let underway = first (c .before .before .before) .pre .1 .0 in (underway .accepted, (underway .indexed, letter-in underway (c .next-letter .ensures .1)))
 
   pub loop-holds : OfPair t lts.Need-loop-holds
   loop-holds c = (search needs, (refl, turns-none))
 
-  pub same-length-4 : OfPair t lts.Need-same-length-4
-  same-length-4 c = search needs
+  pub same-length-3 : OfPair t lts.Need-same-length-3
+  same-length-3 c = let at = c .before .before in at .loop .inv .1 .0 ∙ kept (joined (at .before))
+
+  -- what the candidates find has been offered after it
+  whole : (w : Head) {out : List ℕ} {n : ℕ} → let s = start w in
+      (out, n) ≡ offerAll (put (s .args .capacity)) (joined w .if1 .out, joined w .if1 .n) (flatMap (candidateOne (s .args .image .now) (query s) (here (joined w)) (s .args .trail) (letter w)) (below (length (candidates (s .args .image .now) (letter w)))))
+      → (out, n) ≡ offerAll (put (s .args .capacity)) (s .args .out .now, s .args .found) (foundAt (s .args .image .now) (query s) (s .args .place) (s .args .trail))
+  whole w e =
+      let s = start w in
+      pair-offered (pairing w) (query s) (put (s .args .capacity)) (s .args .out .now, s .args .found) (ending (joined w)) e
+      ∙ ap (offerAll (put (s .args .capacity)) (s .args .out .now, s .args .found)) (settled (joined w) .same (query s))
 
   -- the rows are full
-  pub returns-4 : OfPair t lts.Need-returns-4
-  returns-4 c =
+  pub returns-3 : OfPair t lts.Need-returns-3
+  returns-3 c =
       let w = c .before .before .before in
       let s = start w in
       let loop = c .before .before .loop in
-      let ended = w .before .before .before .before .before .before .put-ended in
-      pair-offered (pairing w) (query s) (put (s .args .capacity)) (s .args .out .now, s .args .found) (ended .ensures ∙ offer-by (ap put (sym (s .pre .1 .1 .0))) _ _)
-      (turns-stop (put-keeps (s .args .capacity)) (length (candidates (s .args .image .now) (letter w))) (loop .inv .1 .1) (omega (arith, loop .inv .0, w .candidate-count .ensures)) (c .if4 .taken))
+      whole w (turns-stop (put-keeps (s .args .capacity)) (length (candidates (s .args .image .now) (letter w))) (loop .inv .1 .1) (omega (arith, loop .inv .0, w .candidate-count .ensures)) (c .if4 .taken))
 
   -- the candidate of a turn
   inside : (c : Turn) → c .before .before .loop .k < length (candidates (start (head c) .args .image .now) (letter (head c)))
@@ -202,8 +216,8 @@ module _ (t : ℕ) where
       let room : a .trail .pairs < length (a .trail .pairing) = search needs in
       longer-pair (a .trail) (pairing w .underway .short) spare room (c .candidate .result)
 
-  pub pair-requires-2 : OfPair t lts.Need-pair-requires-2
-  pair-requires-2 c κs =
+  pub pair-requires : OfPair t lts.Need-pair-requires
+  pair-requires c κs =
       let tried = c .before .before .before in
       let here = tried .before .before in
       let w = head here in
@@ -211,8 +225,8 @@ module _ (t : ℕ) where
       let o = pairing w in
       let may = c .before .before .if5 .taken in
       let holds = longer (tried .before) in
-      let ended = w .before .before .before .before .before .before .put-ended in
-      (omega (arith, s .pre .0, pair-less o (chosen (tried .before)) (tried .take .ensures (path tried)) may holds), (pair-underway o (chosen (tried .before)) (tried .take .ensures (path tried)) may holds, (rw (here .before .before .loop .inv .1 .0, ended .kept .1 .1 .1 .1 .1 .1 .1 .1 .0) (s .pre .1 .1 .0), here .if4 .left)))
+      let less = pair-less o (chosen (tried .before)) (tried .take .ensures (path tried)) may holds in
+      (omega (arith, s .pre .0, less, settled (joined w) .no-more), (pair-underway o (chosen (tried .before)) (tried .take .ensures (path tried)) may holds, (rw (here .before .before .loop .inv .1 .0, kept (joined w)) (s .pre .1 .1 .0), here .if4 .left)))
 
   pub add-k : OfPair t lts.Need-add-k
   add-k c = search needs
@@ -237,14 +251,12 @@ module _ (t : ℕ) where
         ),
       )
 
-  pub same-length-5 : OfPair t lts.Need-same-length-5
-  same-length-5 c = search needs
+  pub same-length-4 : OfPair t lts.Need-same-length-4
+  same-length-4 c = let at = c .before in at .loop .inv .1 .0 ∙ kept (joined (at .before))
 
-  pub returns-5 : OfPair t lts.Need-returns-5
-  returns-5 c =
+  pub returns-4 : OfPair t lts.Need-returns-4
+  returns-4 c =
       let w = c .before .before in
       let s = start w in
       let loop = c .before .loop in
-      let ended = w .before .before .before .before .before .before .put-ended in
-      pair-offered (pairing w) (query s) (put (s .args .capacity)) (s .args .out .now, s .args .found) (ended .ensures ∙ offer-by (ap put (sym (s .pre .1 .1 .0))) _ _)
-      (turns-all (length (candidates (s .args .image .now) (letter w))) (loop .inv .1 .1) (omega (arith, c .loop-test .left, loop .inv .0, w .candidate-count .ensures)))
+      whole w (turns-all (length (candidates (s .args .image .now) (letter w))) (loop .inv .1 .1) (omega (arith, c .loop-test .left, loop .inv .0, w .candidate-count .ensures)))

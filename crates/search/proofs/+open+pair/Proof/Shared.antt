@@ -7,6 +7,7 @@ use borrow.Fn.Kinds.{In, Out}
 use borrow.Fn.PlainCycle.{Measures, is, falls, and}
 use Rattle.rows.specs.Fill.{put}
 use Rattle.listing.specs.Asked.{queryBy}
+use Rattle.listing.specs.Places.{withLast}
 use Rattle.listing.specs.Opening.{mayEnter}
 use Rattle.listing.proofs.Searching.{entryOne}
 use Rattle.listing.proofs.opening.next_entry.Reads as next-entry-reads
@@ -14,7 +15,6 @@ use Rattle.listing.proofs.opening.ways_on.Reads as ways-on-reads
 use Rattle.listing.proofs.pairing.take.Reads as take-reads
 use Rattle.listing.proofs.place.enter.Reads as enter-reads
 use Rattle.listing.proofs.place.may_stop.Reads as may-stop-reads
-use Rattle.listing.proofs.place.only_stops.Reads as only-stops-reads
 use Rattle.listing.proofs.place.stop.Reads as stop-reads
 use Rattle.search.proofs.Turns.{Turns}
 use Rattle.search.proofs.Heads.{stepsAfter, candidateOne}
@@ -29,7 +29,7 @@ use Rattle.search.proofs.here.candidate.Reads as candidate-reads
 use Rattle.search.proofs.here.candidate_count.Reads as candidate-count-reads
 use Rattle.search.proofs.here.put_ended.Reads as put-ended-reads
 use Rattle.search.proofs.here.next_letter.Reads as next-letter-reads
-use Rattle.search.proofs.here.opens_at.Reads as opens-at-reads
+use Rattle.search.proofs.here.goes_on.Reads as goes-on-reads
 use Rattle.search.proofs.starts.first_letter.Reads as first-letter-reads
 use Rattle.search.proofs.starts.look.Reads as look-reads
 
@@ -73,14 +73,8 @@ open-claims t = (
 
 abbrev pub pair-claims : ℕ → pair-lts.Claims
 pair-claims t = (
-  opens-at-reads.Asked,
-  opens-at-reads.Learnt,
-  only-stops-reads.Asked,
-  only-stops-reads.Learnt,
-  stop-reads.Asked,
-  stop-reads.Learnt,
-  pair-below t,
-  pair.Post,
+  goes-on-reads.Asked,
+  goes-on-reads.Learnt,
   open-below t,
   open.Post,
   put-ended-reads.Asked,
@@ -93,6 +87,8 @@ pair-claims t = (
   candidate-reads.Learnt,
   take-reads.Asked,
   take-reads.Learnt,
+  pair-below t,
+  pair.Post,
 )
 
 -- entry e is the next that may open, and those before it have offered what they find
@@ -106,11 +102,11 @@ abbrev pub open-μ-loop : open-lts.MeasureT-loop
 open-μ-loop image index h asked path word place trail out₀ capacity found n₀ asks ways entries known₀ e₀ out n known e = entries - e
 
 abbrev pub pair-Inv-loop : pair-lts.InvT-loop
-pair-Inv-loop image index h asked path word place trail out₀ capacity found ended letter asks many n₀ k₀ out n k =
-    (k ≤ many) × ((length out ≡ length out₀) × Turns (put capacity) (candidateOne image (queryBy asked path word) place trail (letter .0)) (out₀, ended) (out, n) k)
+pair-Inv-loop image index h asked path word place trail out₀ capacity found last n₀ letter asks many k₀ out n k =
+    (k ≤ many) × ((length out ≡ length out₀) × Turns (put capacity) (candidateOne image (queryBy asked path word) (withLast place last) trail (letter .0)) (out₀, n₀) (out, n) k)
 
 abbrev pub pair-μ-loop : pair-lts.MeasureT-loop
-pair-μ-loop image index h asked path word place trail out₀ capacity found ended letter asks many n₀ k₀ out n k = many - k
+pair-μ-loop image index h asked path word place trail out₀ capacity found last n₀ letter asks many k₀ out n k = many - k
 
 -- a need of either, or a place of its code, at the measure t. Where a need takes `.kept .1 .1 .1 .1 .1 .1 .1 .1 .0` of a call, that is: the buffer keeps its length
 abbrev pub OfOpen : ℕ → (open-lts.Claims → In 5 open-kinds.ps → Out 5 open-kinds.ps open-kinds.r → open-lts.InvT-loop → open-lts.MeasureT-loop → Type 0) → Type 0
