@@ -57,6 +57,15 @@ module _ (image : List ℕ) (q : Query) (place : Place) (trail : Trail) where
   unfolding nodeOf
   pair-shut h x = full-shut g q n h x
 
+  -- what is complete here stands first, whatever comes after it
+  pub pair-begins : opens n ≡ false → (rest : List Reading) × (foundAt image q place trail ≡ given (complete g q n) (r ∷ []) ++ rest)
+  unfolding foundAt
+  pair-begins o = go (stepsFrom n)
+    where
+      go : (k : ℕ) → (rest : List Reading) × (gather g q k n r ≡ given (complete g q n) (r ∷ []) ++ rest)
+      go zero = ([], gather-last g q n r ∙ sym (append-nil (given (complete g q n) (r ∷ []))))
+      go (suc k) = (flatMap (branch g q k n r false) (below (g .pairs)), gather-pair g q k n r o)
+
   pub pair-full : opens n ≡ false → 40 ≤ trail .pairs → foundAt image q place trail ≡ given (complete g q n) (r ∷ [])
   unfolding foundAt
   pair-full o h = go (stepsFrom n)

@@ -18,8 +18,8 @@ use Rattle.model.specs.Tree.{Node, opens, mayAt, goAt, complete}
 use Rattle.image.specs.Index.{candidates}
 use Rattle.rows.specs.declared.Trail.{Trail}
 use Rattle.rows.specs.Trail.{readingOf, withEntry, withPair, Holds}
-use Rattle.rows.specs.Offering.{offerAll}
-use Rattle.rows.proofs.Offering.{offer-append}
+use Rattle.rows.specs.Offering.{offerAll, Keeps}
+use Rattle.rows.proofs.Offering.{offer-append, offer-full}
 use Rattle.listing.specs.declared.place.Place.{Place}
 use Rattle.listing.specs.Gather.{stepsLeft}
 use Rattle.listing.specs.Places.{root, ended, stopsAfter, restOf, withLast, nodeOf, Standing, Took, OnlyStops}
@@ -85,6 +85,14 @@ module _ {image index : List ℕ} {h : Header} {place : Place} {trail : Trail} (
   -- with no entry to spare, only what ends; with no pair to spare, only what is complete
   pub open-last : (q : Query) → opensAt place ≡ true → 16 ≤ trail .entries → foundAt image q place trail ≡ stopOne image q place trail
   open-last q o = found.open-full image q place trail (opens-here ∙ o)
+
+  -- where what is offered first fills the state, the rest is left alone
+  module _ (q : Query) {S : Type 0} (step : S → Reading → S) (s : S) {first : S} {Full : S → Type 0} (keeps : Keeps Full step) (full : Full first) where
+    pub stop-fills : opensAt place ≡ true → first ≡ offerAll step s (stopOne image q place trail) → first ≡ offerAll step s (foundAt image q place trail)
+    stop-fills o f = rw (found.open-all image q place trail (opens-here ∙ o), offer-append, ← f) (sym (offer-full step keeps first _ full))
+
+    pub end-fills : opensAt place ≡ false → first ≡ offerAll step s (given (complete (grammarOf image) q (nodeAt image place trail)) (readingOf trail ∷ [])) → first ≡ offerAll step s (foundAt image q place trail)
+    end-fills o f = let b = found.pair-begins image q place trail (opens-here ∙ o) in rw (b .1, offer-append, ← f) (sym (offer-full step keeps first (b .0) full))
 
   pub pair-last : (q : Query) → opensAt place ≡ false → 40 ≤ trail .pairs → foundAt image q place trail ≡ given (complete (grammarOf image) q (nodeAt image place trail)) (readingOf trail ∷ [])
   pair-last q o = found.pair-full image q place trail (opens-here ∙ o)

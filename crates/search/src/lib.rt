@@ -62,6 +62,9 @@ pub fn open(
             capacity,
             n,
         );
+        if capacity < n {
+            return n;
+        }
     }
     if trail.entries >= 16 {
         return n;
@@ -87,9 +90,6 @@ pub fn open(
             known[at] = crate::starts::look(image, index, h, word_asked, word, place, e, letter);
         }
         if known[at] != 1 {
-            if capacity < n {
-                return n;
-            }
             let next = listing::place::enter(image, h, place, e);
             let mut longer = trail;
             let end = longer.entries;
@@ -108,6 +108,9 @@ pub fn open(
                 capacity,
                 n,
             );
+            if capacity < n {
+                return n;
+            }
         }
         e = listing::opening::next_entry(h, ways, e + 1);
     }
@@ -153,6 +156,9 @@ pub fn pair(
         }
         last = ENDED;
         n = crate::here::put_ended(image, index, h, asked, path, word, place, trail, out, found);
+        if capacity < n {
+            return n;
+        }
     }
     if trail.pairs >= 40 {
         return n;
@@ -162,9 +168,6 @@ pub fn pair(
     let many = crate::here::candidate_count(image, index, h, letter);
     let mut k: usize = 0;
     while k < many {
-        if n > capacity {
-            return n;
-        }
         let p = crate::here::candidate(image, index, h, letter, k);
         let taken = listing::pairing::take(image, index, h, word_asked, word, place, last, p);
         if taken.may {
@@ -186,6 +189,9 @@ pub fn pair(
                 capacity,
                 n,
             );
+            if capacity < n {
+                return n;
+            }
         }
         k += 1;
     }

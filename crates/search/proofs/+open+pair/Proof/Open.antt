@@ -24,7 +24,7 @@ use Rattle.listing.specs.Asked.{pathPattern, queryBy}
 use Rattle.listing.specs.Opening.{mayEnter, Ranged, NextOf}
 use Rattle.listing.proofs.Searching.{stopOne, stop-none, entryOne}
 use Rattle.search.proofs.Turns.{Turns, turns-none, turns-more, turns-skip, turns-far, turns-stop, turns-all, turns-is, state-is}
-use Rattle.search.proofs.Heads.{Opening, last-in, stop-underway, stop-less, stop-turn, open-last, entry-few, open-offered, entry-none, open-underway, open-less, open-turn}
+use Rattle.search.proofs.Heads.{Opening, last-in, stop-fills, stop-underway, stop-less, stop-turn, open-last, entry-few, open-offered, entry-none, open-underway, open-less, open-turn}
 use Rattle.search.proofs.FirstLetters.{Known, known-none, known-more}
 use Rattle.search.proofs.+open+pair.Lts-open as lts
 use Rattle.search.proofs.+open+pair.Proof.Shared.{OfOpen}
@@ -53,7 +53,7 @@ module _ (t : ℕ) where
   First = OfOpen t lts.After-struct-known2
 
   abbrev Looked : Type 0
-  Looked = OfOpen t lts.Joined3
+  Looked = OfOpen t lts.Joined4
 
   abbrev Entered : Type 0
   Entered = OfOpen t lts.After-enter
@@ -75,7 +75,7 @@ module _ (t : ℕ) where
   turn c = c .before .before
 
   abbrev entered : Entered → Turn
-  entered c = turn (c .before .before .before .before)
+  entered c = turn (c .before .before .before)
 
   abbrev query : OfOpen t lts.Start → Query
   query s = queryBy (s .args .asked) (s .args .path .now) (s .args .word .now)
@@ -94,6 +94,21 @@ module _ (t : ℕ) where
       let less = stop-less (s .pre .1 .0) (s .pre .1 .1 .0) (place .result) (place .ensures .0) (query s) in
       (omega (arith, s .pre .0, less), (stop-underway (s .pre .1 .0) (s .pre .1 .1 .0) (place .result) (place .ensures .0) (place .ensures .1), s .pre .1 .1 .1))
 
+  -- it fills the rows
+  pub same-length : OfOpen t lts.Need-same-length
+  same-length c = search needs
+
+  pub returns : OfOpen t lts.Need-returns
+  returns c =
+      let made = c .before .before .before in
+      let at = made .before .before in
+      let s = at .before .before .before .before .before .before .before .before in
+      let a = s .args in
+      let o = s .pre .1 .1 .0 in
+      let may = sym (at .before .before .may-stop .ensures) ∙ at .before .if1 .taken in
+      stop-fills (s .pre .1 .0) (query s) (put (a .capacity)) (a .out .now, a .found) (put-keeps (a .capacity)) (c .if2 .taken) o
+      (made .pair .ensures ∙ ap (offerAll (put (a .capacity)) (a .out .now, a .found)) (stop-turn (s .pre .1 .0) o (at .stop .result) (at .stop .ensures .0) (query s) may))
+
   -- what the ending finds has been offered
   ending : (w : Stopped) → let s = first w in (w .if1 .out, w .if1 .n) ≡ offerAll (put (s .args .capacity)) (s .args .out .now, s .args .found) (stopOne (s .args .image .now) (query s) (s .args .place) (s .args .trail))
   ending w =
@@ -102,22 +117,25 @@ module _ (t : ℕ) where
       let may = w .before .may-stop .ensures in
       let offered : List Reading → List ℕ × ℕ = offerAll (put (a .capacity)) (a .out .now, a .found) in
       ⊎-elim
-      (λ v. state-is (v .3 .ensures ∙ ap offered (stop-turn (s .pre .1 .0) (s .pre .1 .1 .0) (v .1 .result) (v .1 .ensures .0) (query s) (sym may ∙ v .0 .taken))) (v .6) (v .7))
+      (λ v. state-is (v .3 .ensures ∙ ap offered (stop-turn (s .pre .1 .0) (s .pre .1 .1 .0) (v .1 .result) (v .1 .ensures .0) (query s) (sym may ∙ v .0 .taken))) (v .7) (v .8))
       (λ v. state-is (sym (ap offered (stop-none (a .image .now) (query s) (a .place) (a .trail) (sym may ∙ v .0 .left)) ∙ offer-none _ _)) (v .1) (v .2))
       (w .if1 .came)
 
   kept : (w : Stopped) → length (w .if1 .out) ≡ length (first w .args .out .now)
-  kept w = ⊎-elim (λ v. ap length (v .6) ∙ v .3 .kept .1 .1 .1 .1 .1 .1 .1 .1 .0) (λ v. ap length (v .1)) (w .if1 .came)
+  kept w = ⊎-elim (λ v. ap length (v .7) ∙ v .3 .kept .1 .1 .1 .1 .1 .1 .1 .1 .0) (λ v. ap length (v .1)) (w .if1 .came)
 
-  pub same-length : OfOpen t lts.Need-same-length
-  same-length c = kept (c .before .before)
+  room : (w : Stopped) → w .if1 .n ≤ first w .args .capacity
+  room w = ⊎-elim (λ v. omega (arith, v .8, v .6 .left)) (λ v. omega (arith, v .2, first w .pre .1 .1 .1 .1)) (w .if1 .came)
+
+  pub same-length-2 : OfOpen t lts.Need-same-length-2
+  same-length-2 c = kept (c .before .before)
 
   -- with no entry to spare
-  pub returns : OfOpen t lts.Need-returns
-  returns c = let w = c .before .before in let s = first w in rw (open-last (s .pre .1 .0) (query s) (s .pre .1 .1 .0) (c .if2 .taken)) (ending w)
+  pub returns-2 : OfOpen t lts.Need-returns-2
+  returns-2 c = let w = c .before .before in let s = first w in rw (open-last (s .pre .1 .0) (query s) (s .pre .1 .1 .0) (c .if3 .taken)) (ending w)
 
   opening : (w : Head) → let a = start w .args in Opening (a .image .now) (a .index .now) (headerOf (a .h)) (a .place) (a .trail)
-  opening w = let s = start w in record { underway = s .pre .1 .0; open-here = s .pre .1 .1 .0; spare = w .before .before .if2 .left }
+  opening w = let s = start w in record { underway = s .pre .1 .0; open-here = s .pre .1 .1 .0; spare = w .before .before .if3 .left }
 
   pub ways-on-requires : OfOpen t lts.Need-ways-on-requires
   ways-on-requires c κs =
@@ -142,7 +160,7 @@ module _ (t : ℕ) where
       let r = ways (c .before) in
       let next = c .next-entry .ensures _ r in
       let none : (e : ℕ) → e < c .next-entry .result → entryOne (a .image .now) (query s) (a .place) (a .trail) e ≡ [] = λ e k. entry-none (opening c) (query s) e (before-next r next e k) in
-      ((next .onward, (next .in-bound, next .passes)), (refl, (turns-far (c .next-entry .result) turns-none (omega arith) (λ e i k. none e k), known-none)))
+      ((next .onward, (next .in-bound, next .passes)), ((refl, room (stopped c)), (turns-far (c .next-entry .result) turns-none (omega arith) (λ e i k. none e k), known-none)))
 
   pub first-letter-requires : OfOpen t lts.Need-first-letter-requires
   first-letter-requires c κs = (opening (head c) .underway .accepted, c .loop-test .taken)
@@ -154,8 +172,8 @@ module _ (t : ℕ) where
   pub cast-at : OfOpen t lts.Need-cast-at
   cast-at c = search needs
 
-  pub array-read-if3 : OfOpen t lts.Need-array-read-if3
-  array-read-if3 c = letter-few c
+  pub array-read-if4 : OfOpen t lts.Need-array-read-if4
+  array-read-if4 c = letter-few c
 
   pub look-requires : OfOpen t lts.Need-look-requires
   look-requires c κs =
@@ -166,7 +184,7 @@ module _ (t : ℕ) where
   pub array-write-known : OfOpen t lts.Need-array-write-known
   array-write-known c = letter-few (c .before .before)
 
-  looked : (c : Looked) → let s = start (head (turn (c .before))) in Known (s .args .image .now) (query s) (s .args .place) (s .args .trail) (c .if3 .known)
+  looked : (c : Looked) → let s = start (head (turn (c .before))) in Known (s .args .image .now) (query s) (s .args .place) (s .args .trail) (c .if4 .known)
   looked c =
       let first = c .before in
       let w = head (turn first) in
@@ -176,28 +194,15 @@ module _ (t : ℕ) where
       ⊎-elim
       (λ v. rw (v .2) (known-more (loop .inv .1 .1 .1) (loop .e) (letter .result .0) (v .1 .result) (letter-few first) (letter .ensures .0) (v .1 .ensures (pathPattern (a .asked .path) (a .path .now)))))
       (λ v. rw (v .1) (loop .inv .1 .1 .1))
-      (c .if3 .came)
+      (c .if4 .came)
 
-  pub array-read-if4 : OfOpen t lts.Need-array-read-if4
-  array-read-if4 c = letter-few (c .before)
-
-  -- the rows are full
-  pub same-length-2 : OfOpen t lts.Need-same-length-2
-  same-length-2 c = let here = turn (c .before .before .before) in here .before .loop .inv .1 .0 ∙ kept (stopped (head here))
-
-  pub returns-2 : OfOpen t lts.Need-returns-2
-  returns-2 c =
-      let here = turn (c .before .before .before) in
-      let w = head here in
-      let s = start w in
-      let loop = here .before .loop in
-      open-offered (opening w) (query s) (put (s .args .capacity)) (s .args .out .now, s .args .found) (ending (stopped w))
-      (turns-stop (put-keeps (s .args .capacity)) (s .args .h .entries) (loop .inv .1 .1 .0) (loop .inv .0 .1 .0) (c .if5 .taken))
+  pub array-read-if5 : OfOpen t lts.Need-array-read-if5
+  array-read-if5 c = letter-few (c .before)
 
   -- its entry opens
   pub enter-requires : OfOpen t lts.Need-enter-requires
   enter-requires c κs =
-      let here = turn (c .before .before .before) in
+      let here = turn (c .before .before) in
       let underway = opening (head here) .underway in
       (underway .accepted, (underway .stands, here .loop-test .taken))
 
@@ -235,7 +240,28 @@ module _ (t : ℕ) where
       let next = at .enter in
       let holds = longer here in
       let less = open-less o (loop .e) holds (next .result) (next .ensures .0) (query s) in
-      (omega (arith, s .pre .0, less), (open-underway o (loop .e) holds (next .result) (next .ensures .0) (next .ensures .1), (rw (loop .inv .1 .0, kept (stopped w)) (s .pre .1 .1 .1 .0), at .before .if5 .left)))
+      (omega (arith, s .pre .0, less), (open-underway o (loop .e) holds (next .result) (next .ensures .0) (next .ensures .1), (rw (loop .inv .1 .0 .0, kept (stopped w)) (s .pre .1 .1 .1 .0), loop .inv .1 .0 .1)))
+
+  -- the rows are full
+  pub same-length-3 : OfOpen t lts.Need-same-length-3
+  same-length-3 c =
+      let made = c .before .before .before in
+      let here = entered (made .before .before) in
+      made .pair2 .kept .1 .1 .1 .1 .1 .1 .1 .1 .0 ∙ here .before .loop .inv .1 .0 .0 ∙ kept (stopped (head here))
+
+  pub returns-3 : OfOpen t lts.Need-returns-3
+  returns-3 c =
+      let made = c .before .before .before in
+      let at = made .before .before in
+      let here = entered at in
+      let w = head here in
+      let s = start w in
+      let loop = here .before .loop in
+      let next = at .enter in
+      open-offered (opening w) (query s) (put (s .args .capacity)) (s .args .out .now, s .args .found) (ending (stopped w))
+      (turns-stop (put-keeps (s .args .capacity)) (s .args .h .entries)
+      (turns-more _ (loop .inv .1 .1 .0) (made .pair2 .ensures) (open-turn (opening w) (loop .e) (longer here) (next .result) (next .ensures .0) (query s) (loop .inv .0 .1 .1 (here .loop-test .taken))))
+      (omega (arith, here .loop-test .taken)) (c .if6 .taken))
 
   pub add-next-entry : OfOpen t lts.Need-add-next-entry
   add-next-entry c = let here = turn (c .before .before) in omega (arith, entry-few (opening (head here)) (here .before .loop .e) (here .loop-test .taken))
@@ -262,21 +288,24 @@ module _ (t : ℕ) where
       let next = c .next-entry2 .ensures _ (ways (w .before)) in
       let passed =
       ⊎-elim
-      (λ v. turns-is (turns-more _ (loop .inv .1 .1 .0) (v .4 .ensures) (open-turn o (loop .e) (longer here) (v .2 .result) (v .2 .ensures .0) (query s) (loop .inv .0 .1 .1 (here .loop-test .taken)))) (v .7) (v .8))
+      (λ v. turns-is (turns-more _ (loop .inv .1 .1 .0) (v .3 .ensures) (open-turn o (loop .e) (longer here) (v .1 .result) (v .1 .ensures .0) (query s) (loop .inv .0 .1 .1 (here .loop-test .taken)))) (v .7) (v .8))
       (λ v. turns-is (turns-skip (loop .inv .1 .1 .0) (looked joined .barren (letter .result .0) (v .0 .left) (loop .e) (sym (letter .ensures .0)))) (v .1) (v .2))
-      (done .if4 .came) in (
+      (done .if5 .came) in (
         (omega (arith, next .onward, loop .inv .0 .0), (next .in-bound, next .passes)),
         (
-          ⊎-elim (λ v. ap length (v .7) ∙ v .4 .kept .1 .1 .1 .1 .1 .1 .1 .1 .0 ∙ loop .inv .1 .0) (λ v. ap length (v .1) ∙ loop .inv .1 .0) (done .if4 .came),
+          (
+            ⊎-elim (λ v. ap length (v .7) ∙ v .3 .kept .1 .1 .1 .1 .1 .1 .1 .1 .0 ∙ loop .inv .1 .0 .0) (λ v. ap length (v .1) ∙ loop .inv .1 .0 .0) (done .if5 .came),
+            ⊎-elim (λ v. omega (arith, v .8, v .6 .left)) (λ v. omega (arith, v .2, loop .inv .1 .0 .1)) (done .if5 .came),
+          ),
           (turns-far (c .next-entry2 .result) passed (next .onward) (λ e i k. entry-none o (query s) e (next .passed e i k)), looked joined),
         ),
       )
 
-  pub same-length-3 : OfOpen t lts.Need-same-length-3
-  same-length-3 c = let at = c .before in at .loop .inv .1 .0 ∙ kept (stopped (at .before))
+  pub same-length-4 : OfOpen t lts.Need-same-length-4
+  same-length-4 c = let at = c .before in at .loop .inv .1 .0 .0 ∙ kept (stopped (at .before))
 
-  pub returns-3 : OfOpen t lts.Need-returns-3
-  returns-3 c =
+  pub returns-4 : OfOpen t lts.Need-returns-4
+  returns-4 c =
       let at = c .before in
       let w = at .before in
       let s = start w in

@@ -1,6 +1,6 @@
 -- The needs of `pair`. Where no entry opens the place is `Settled`: a letter is left, or the path has ended. At the loop's head a `Pairing` of it is known;
 -- each turn tries a candidate of the next letter, and offers what it finds where it is taken.
-use Prim.Native.Nat.{ℕ, _+_, _<_}
+use Prim.Native.Nat.{ℕ, _+_, _<_, _≤_}
 use native.Mathlib.Omega.{arith}
 use borrow.Author.Needs.{needs}
 use mathlib.Core.Bool.{Bool}
@@ -27,13 +27,13 @@ use Rattle.listing.specs.Search.{nodeAt, foundAt}
 use Rattle.search.proofs.Standing.{not-ended}
 use Rattle.search.proofs.Candidates.{Candidate, candidate-spells}
 use Rattle.search.proofs.Turns.{turns-none, turns-more, turns-skip, turns-stop, turns-all, turns-is, state-is}
-use Rattle.search.proofs.Heads.{Pairing, Settled, settled-left, settled-over, candidateOne, letter-in, pair-last, pair-offered, pair-none, pair-underway, pair-less, pair-turn}
+use Rattle.search.proofs.Heads.{Pairing, Settled, end-fills, settled-left, settled-over, candidateOne, letter-in, pair-last, pair-offered, pair-none, pair-underway, pair-less, pair-turn}
 use Rattle.search.proofs.+open+pair.Lts-pair as lts
 use Rattle.search.proofs.+open+pair.Proof.Shared.{OfPair}
 
 module _ (t : ℕ) where
-  -- the places that the needs speak of: where the place is settled and the reading that ends has been offered, where the candidates are counted, a turn with
-  -- rows to spare, its candidate, and whether it may be taken
+  -- the places that the needs speak of: where the place is settled and the reading that ends has been offered, where the candidates are counted, a turn,
+  -- its candidate, and whether it may be taken
   abbrev Joined : Type 0
   Joined = OfPair t lts.Joined1
 
@@ -41,7 +41,7 @@ module _ (t : ℕ) where
   Head = OfPair t lts.After-candidate-count
 
   abbrev Turn : Type 0
-  Turn = OfPair t lts.Else4
+  Turn = OfPair t lts.In-loop
 
   abbrev Chosen : Type 0
   Chosen = OfPair t lts.After-candidate
@@ -60,7 +60,7 @@ module _ (t : ℕ) where
   start w = first (joined w)
 
   abbrev head : Turn → Head
-  head c = c .before .before .before
+  head c = c .before .before
 
   abbrev query : OfPair t lts.Start → Query
   query s = queryBy (s .args .asked) (s .args .path .now) (s .args .word .now)
@@ -95,13 +95,28 @@ module _ (t : ℕ) where
       let s = test .before .before .before .before .before .before .before in
       (s .pre .1 .0, (test .if1 .taken, omega (arith, s .pre .1 .1)))
 
+  -- what is complete here fills the rows
+  pub same-length-2 : OfPair t lts.Need-same-length-2
+  same-length-2 c = search needs
+
+  pub returns-2 : OfPair t lts.Need-returns-2
+  returns-2 c =
+      let made = c .before .before .before in
+      let test = made .before .before .before in
+      let s = test .before .before .before .before .before .before .before .before in
+      let a = s .args in
+      let over = settled-over (s .pre .1 .0) (query s) (test .before .if1 .taken) (test .goes-on .ensures .1 (made .before .before .if2 .left)) in
+      end-fills (over .underway) (query s) (put (a .capacity)) (a .out .now, a .found) (put-keeps (a .capacity)) (c .if3 .taken) (over .shut)
+      (made .put-ended .ensures ∙ offer-by (ap put (sym (s .pre .1 .1 .0))) _ _)
+      ∙ ap (offerAll (put (a .capacity)) (a .out .now, a .found)) (over .same (query s))
+
   settled : (w : Joined) → let a = first w .args in Settled (a .image .now) (a .index .now) (headerOf (a .h)) (a .place) (a .trail) (w .if1 .last)
   settled w =
       let s = first w in
       let a = s .args in
       let at : ℕ → Type 0 = Settled (a .image .now) (a .index .now) (headerOf (a .h)) (a .place) (a .trail) in
       ⊎-elim
-      (λ v. subst at (sym (v .8)) (settled-over (s .pre .1 .0) (query s) (v .0 .taken) (v .1 .ensures .1 (v .2 .left))))
+      (λ v. subst at (sym (v .9)) (settled-over (s .pre .1 .0) (query s) (v .0 .taken) (v .1 .ensures .1 (v .2 .left))))
       (λ v. subst at (sym (v .2)) (settled-left (s .pre .1 .0) (v .0 .left)))
       (w .if1 .came)
 
@@ -114,14 +129,17 @@ module _ (t : ℕ) where
       let offered : Bool → List ℕ × ℕ = λ b. offerAll (put (a .capacity)) (a .out .now, a .found) (given b (readingOf (a .trail) ∷ [])) in
       let done : ℕ → Bool = λ last. complete g (query s) (nodeAt (a .image .now) (withLast (a .place) last) (a .trail)) in
       ⊎-elim
-      (λ v. state-is (v .4 .ensures ∙ offer-by (ap put (sym (s .pre .1 .1 .0))) _ _ ∙ ap (λ (last : ℕ). offered (done last)) (sym (v .8))) (v .7) (v .9))
+      (λ v. state-is (v .4 .ensures ∙ offer-by (ap put (sym (s .pre .1 .1 .0))) _ _ ∙ ap (λ (last : ℕ). offered (done last)) (sym (v .9))) (v .8) (v .10))
       (λ v.
       let none = not-ended (a .image .now) (a .place) (s .pre .1 .0 .stands) (query s) (a .trail .entries) (a .trail .pairs) (v .0 .left) in
       state-is (sym (ap (λ (last : ℕ). offered (done last)) (v .2) ∙ ap offered none ∙ offer-none _ _)) (v .1) (v .3))
       (w .if1 .came)
 
   kept : (w : Joined) → length (w .if1 .out) ≡ length (first w .args .out .now)
-  kept w = ⊎-elim (λ v. ap length (v .7) ∙ v .4 .kept .1 .1 .1 .1 .1 .1 .1 .1 .0) (λ v. ap length (v .1)) (w .if1 .came)
+  kept w = ⊎-elim (λ v. ap length (v .8) ∙ v .4 .kept .1 .1 .1 .1 .1 .1 .1 .1 .0) (λ v. ap length (v .1)) (w .if1 .came)
+
+  room : (w : Joined) → w .if1 .n ≤ first w .args .capacity
+  room w = ⊎-elim (λ v. omega (arith, v .10, v .7 .left)) (λ v. omega (arith, v .3, first w .pre .1 .1 .1)) (w .if1 .came)
 
   pairing : (w : Head) → let a = start w .args in Pairing (a .image .now) (a .index .now) (headerOf (a .h)) (here (joined w)) (a .trail) (letter w)
   pairing w =
@@ -129,19 +147,19 @@ module _ (t : ℕ) where
       record {
         underway = here .underway;
         shut = here .shut;
-        spare = w .before .before .if3 .left;
+        spare = w .before .before .if4 .left;
         letter = w .before .next-letter .ensures .0;
         in-letters = letter-in (here .underway) (w .before .next-letter .ensures .1);
       }
 
-  pub same-length-2 : OfPair t lts.Need-same-length-2
-  same-length-2 c = kept (c .before .before)
+  pub same-length-3 : OfPair t lts.Need-same-length-3
+  same-length-3 c = kept (c .before .before)
 
-  pub returns-2 : OfPair t lts.Need-returns-2
-  returns-2 c =
+  pub returns-3 : OfPair t lts.Need-returns-3
+  returns-3 c =
       let w = c .before .before in
       let s = first w in
-      ending w ∙ ap (offerAll (put (s .args .capacity)) (s .args .out .now, s .args .found)) (sym (pair-last (settled w .underway) (query s) (settled w .shut) (c .if3 .taken)) ∙ settled w .same (query s))
+      ending w ∙ ap (offerAll (put (s .args .capacity)) (s .args .out .now, s .args .found)) (sym (pair-last (settled w .underway) (query s) (settled w .shut) (c .if4 .taken)) ∙ settled w .same (query s))
 
   pub next-letter-requires : OfPair t lts.Need-next-letter-requires
   next-letter-requires c κs = first (c .before .before) .pre .1 .0 .stands
@@ -150,10 +168,7 @@ module _ (t : ℕ) where
   candidate-count-requires c κs = let underway = first (c .before .before .before) .pre .1 .0 in (underway .accepted, (underway .indexed, letter-in underway (c .next-letter .ensures .1)))
 
   pub loop-holds : OfPair t lts.Need-loop-holds
-  loop-holds c = (search needs, (refl, turns-none))
-
-  pub same-length-3 : OfPair t lts.Need-same-length-3
-  same-length-3 c = let at = c .before .before in at .loop .inv .1 .0 ∙ kept (joined (at .before))
+  loop-holds c = (search needs, ((refl, room (joined c)), turns-none))
 
   -- what the candidates find has been offered after it
   whole : (w : Head) {out : List ℕ} {n : ℕ} → let s = start w in
@@ -164,22 +179,14 @@ module _ (t : ℕ) where
       pair-offered (pairing w) (query s) (put (s .args .capacity)) (s .args .out .now, s .args .found) (ending (joined w)) e
       ∙ ap (offerAll (put (s .args .capacity)) (s .args .out .now, s .args .found)) (settled (joined w) .same (query s))
 
-  -- the rows are full
-  pub returns-3 : OfPair t lts.Need-returns-3
-  returns-3 c =
-      let w = c .before .before .before in
-      let s = start w in
-      let loop = c .before .before .loop in
-      whole w (turns-stop (put-keeps (s .args .capacity)) (length (candidates (s .args .image .now) (letter w))) (loop .inv .1 .1) (omega (arith, loop .inv .0, w .candidate-count .ensures)) (c .if4 .taken))
-
   -- the candidate of a turn
-  inside : (c : Turn) → c .before .before .loop .k < length (candidates (start (head c) .args .image .now) (letter (head c)))
-  inside c = omega (arith, c .before .loop-test .taken, head c .candidate-count .ensures)
+  inside : (c : Turn) → c .before .loop .k < length (candidates (start (head c) .args .image .now) (letter (head c)))
+  inside c = omega (arith, c .loop-test .taken, head c .candidate-count .ensures)
 
   pub candidate-requires : OfPair t lts.Need-candidate-requires
   candidate-requires c κs = let o = pairing (head c) in (o .underway .accepted, (o .underway .indexed, (o .in-letters, inside c)))
 
-  chosen : (c : Chosen) → let w = head (c .before) in Candidate (start w .args .image .now) (letter w) (c .before .before .before .loop .k) (c .candidate .result)
+  chosen : (c : Chosen) → let w = head (c .before) in Candidate (start w .args .image .now) (letter w) (c .before .before .loop .k) (c .candidate .result)
   chosen c = record { inside = inside (c .before); this = c .candidate .ensures .0 }
 
   pub take-requires : OfPair t lts.Need-take-requires
@@ -226,7 +233,27 @@ module _ (t : ℕ) where
       let may = c .before .before .if5 .taken in
       let holds = longer (tried .before) in
       let less = pair-less o (chosen (tried .before)) (tried .take .ensures (path tried)) may holds in
-      (omega (arith, s .pre .0, less, settled (joined w) .no-more), (pair-underway o (chosen (tried .before)) (tried .take .ensures (path tried)) may holds, (rw (here .before .before .loop .inv .1 .0, kept (joined w)) (s .pre .1 .1 .0), here .if4 .left)))
+      (omega (arith, s .pre .0, less, settled (joined w) .no-more), (pair-underway o (chosen (tried .before)) (tried .take .ensures (path tried)) may holds, (rw (here .before .loop .inv .1 .0 .0, kept (joined w)) (s .pre .1 .1 .0), here .before .loop .inv .1 .0 .1)))
+
+  -- the rows are full
+  pub same-length-4 : OfPair t lts.Need-same-length-4
+  same-length-4 c =
+      let made = c .before .before .before in
+      let here = made .before .before .before .before .before .before in
+      made .pair .kept .1 .1 .1 .1 .1 .1 .1 .1 .0 ∙ here .before .loop .inv .1 .0 .0 ∙ kept (joined (head here))
+
+  pub returns-4 : OfPair t lts.Need-returns-4
+  returns-4 c =
+      let made = c .before .before .before in
+      let tried = made .before .before .before .before in
+      let here = tried .before .before in
+      let w = head here in
+      let s = start w in
+      let loop = here .before .loop in
+      whole w
+      (turns-stop (put-keeps (s .args .capacity)) (length (candidates (s .args .image .now) (letter w)))
+      (turns-more _ (loop .inv .1 .1) (made .pair .ensures) (pair-turn (pairing w) (chosen (tried .before)) (tried .take .ensures (path tried)) (made .before .before .before .if5 .taken) (longer (tried .before))))
+      (omega (arith, here .loop-test .taken, w .candidate-count .ensures)) (c .if6 .taken))
 
   pub add-k : OfPair t lts.Need-add-k
   add-k c = search needs
@@ -240,22 +267,25 @@ module _ (t : ℕ) where
       let tried = c .before in
       let here = tried .before .before in
       let o = pairing (head here) in
-      let loop = here .before .before .loop in (
-        omega (arith, here .before .loop-test .taken),
+      let loop = here .before .loop in (
+        omega (arith, here .loop-test .taken),
         (
-          ⊎-elim (λ v. rw (v .6) (v .3 .kept .1 .1 .1 .1 .1 .1 .1 .1 .0 ∙ loop .inv .1 .0)) (λ v. rw (v .1) (loop .inv .1 .0)) (c .if5 .came),
+          (
+            ⊎-elim (λ v. ap length (v .7) ∙ v .3 .kept .1 .1 .1 .1 .1 .1 .1 .1 .0 ∙ loop .inv .1 .0 .0) (λ v. ap length (v .1) ∙ loop .inv .1 .0 .0) (c .if5 .came),
+            ⊎-elim (λ v. omega (arith, v .8, v .6 .left)) (λ v. omega (arith, v .2, loop .inv .1 .0 .1)) (c .if5 .came),
+          ),
           ⊎-elim
-              (λ v. turns-is (turns-more _ (loop .inv .1 .1) (v .3 .ensures) (pair-turn o (chosen (tried .before)) (tried .take .ensures (path tried)) (v .0 .taken) (longer (tried .before)))) (v .6) (v .7))
+              (λ v. turns-is (turns-more _ (loop .inv .1 .1) (v .3 .ensures) (pair-turn o (chosen (tried .before)) (tried .take .ensures (path tried)) (v .0 .taken) (longer (tried .before)))) (v .7) (v .8))
               (λ v. turns-is (turns-skip (loop .inv .1 .1) (pair-none o (chosen (tried .before)) (tried .take .ensures (path tried)) (v .0 .left))) (v .1) (v .2))
               (c .if5 .came),
         ),
       )
 
-  pub same-length-4 : OfPair t lts.Need-same-length-4
-  same-length-4 c = let at = c .before in at .loop .inv .1 .0 ∙ kept (joined (at .before))
+  pub same-length-5 : OfPair t lts.Need-same-length-5
+  same-length-5 c = let at = c .before in at .loop .inv .1 .0 .0 ∙ kept (joined (at .before))
 
-  pub returns-4 : OfPair t lts.Need-returns-4
-  returns-4 c =
+  pub returns-5 : OfPair t lts.Need-returns-5
+  returns-5 c =
       let w = c .before .before in
       let s = start w in
       let loop = c .before .loop in

@@ -96,14 +96,14 @@ abbrev pub open-Inv-loop : open-lts.InvT-loop
 open-Inv-loop image index h asked path word place trail out₀ capacity found n₀ asks ways entries known₀ e₀ out n known e =
     let q = queryBy asked path word in
     ((ways .low ≤ e) × ((e ≤ h .entries) × (e < h .entries → mayEnter image (q .entries) (place .last) (trail .entries) e ≡ true)))
-    × ((length out ≡ length out₀) × (Turns (put capacity) (entryOne image q place trail) (out₀, n₀) (out, n) e × Known image q place trail known))
+    × (((length out ≡ length out₀) × (n ≤ capacity)) × (Turns (put capacity) (entryOne image q place trail) (out₀, n₀) (out, n) e × Known image q place trail known))
 
 abbrev pub open-μ-loop : open-lts.MeasureT-loop
 open-μ-loop image index h asked path word place trail out₀ capacity found n₀ asks ways entries known₀ e₀ out n known e = entries - e
 
 abbrev pub pair-Inv-loop : pair-lts.InvT-loop
 pair-Inv-loop image index h asked path word place trail out₀ capacity found last n₀ letter asks many k₀ out n k =
-    (k ≤ many) × ((length out ≡ length out₀) × Turns (put capacity) (candidateOne image (queryBy asked path word) (withLast place last) trail (letter .0)) (out₀, n₀) (out, n) k)
+    (k ≤ many) × (((length out ≡ length out₀) × (n ≤ capacity)) × Turns (put capacity) (candidateOne image (queryBy asked path word) (withLast place last) trail (letter .0)) (out₀, n₀) (out, n) k)
 
 abbrev pub pair-μ-loop : pair-lts.MeasureT-loop
 pair-μ-loop image index h asked path word place trail out₀ capacity found last n₀ letter asks many k₀ out n k = many - k
