@@ -1,6 +1,6 @@
 -- Records of a laid image: each lies inside it, and a byte of a record is that byte of the image.
 use Prim.Native.Nat.{ℕ, zero, suc, _+_, _*_, _-_, _/_, _%_, _<_, _≤_}
-use native.Mathlib.Nat.{le-refl, mul-comm, mul-assoc, mul-add, add-mul, div-add-mod', mul-suc, mul-le-mul, mod-lt, mod-eq-of-lt, div-eq-of-lt, mul-div-le, le-div-iff-mul-le, div-lt-iff-lt-mul}
+use native.Mathlib.Nat.{le-refl, mul-comm, mul-assoc, mul-add, add-mul, div-add-mod', mul-suc, mul-le-mul, mod-lt, mod-eq-of-lt, div-eq-of-lt, mul-div-le, le-div-iff-mul-le, div-lt-iff-lt-mul, div-self, mod-self, add-mul-div-right, add-mul-mod-self-right}
 use native.Mathlib.Omega.{arith}
 use mathlib.Core.Bool.{Bool, true, false, cond}
 use mathlib.Core.Path.{_≡_, refl, sym, ap, _∙_}
@@ -98,6 +98,10 @@ module _ (h : Header) (limits : Limited h) (kind i : ℕ) (there : i < inAll h k
   unfolding recordStart
   start-by e1 e2 e3 = let f = kind-fitted in rw (e1, e2, e3) (start-sum (firstBlock h kind) (recordWidth h kind) i (f .wide) (f .narrow))
 
+  -- it has one of the places of a block
+  pub record-slot : i % perBlock h kind < perBlock h kind
+  record-slot = let f = kind-fitted in mod-lt i {m = perBlock h kind} (some-fit (recordWidth h kind) (f .wide) (f .narrow))
+
   -- its block is one of those of its kind, and those are among all
   pub record-block : firstBlock h kind + i / perBlock h kind < blockTotal h
   unfolding blockTotal
@@ -113,6 +117,40 @@ module _ (h : Header) (limits : Limited h) (kind i : ℕ) (there : i < inAll h k
   pub record-end : recordStart h kind i + recordWidth h kind ≤ 512 * blockTotal h
   unfolding recordStart
   record-end = omega (arith, record-block, record-before)
+
+-- one more than i, by quotient and remainder: the remainder is one more, or where it would be m the quotient is
+module _ (i m : ℕ) (some : 1 ≤ m) where
+  one-more : i + 1 ≡ i % m + 1 + i / m * m
+  one-more = omega (arith, div-add-mod' i m)
+
+  more-div : (i + 1) / m ≡ (i % m + 1) / m + i / m
+  more-div = ap (λ (n : ℕ). n / m) one-more ∙ add-mul-div-right (i % m + 1) (i / m) some
+
+  more-mod : (i + 1) % m ≡ (i % m + 1) % m
+  more-mod = ap (λ (n : ℕ). n % m) one-more ∙ add-mul-mod-self-right (i % m + 1) (i / m) m
+
+-- from record i to the next: a width further is its end, where the next begins; where it was its block's last, what lies between that block's records and the
+-- next one's comes besides
+module _ (h : Header) (kind i : ℕ) where
+  abbrev next-begins : ℕ → ℕ → Type 0
+  next-begins gap slot = (recordStart h kind (i + 1) ≡ recordStart h kind i + recordWidth h kind + gap) × ((i + 1) % perBlock h kind ≡ slot)
+
+  pub next-within : i % perBlock h kind + 1 < perBlock h kind → next-begins 0 (i % perBlock h kind + 1)
+  unfolding recordStart
+  next-within less =
+      let m = perBlock h kind in
+      let q : (i + 1) / m ≡ i / m = omega (arith, more-div i m (omega arith), div-eq-of-lt {n = i % m + 1} {m = m} less) in
+      let r : (i + 1) % m ≡ i % m + 1 = more-mod i m (omega arith) ∙ mod-eq-of-lt {n = i % m + 1} {m = m} less in
+      (rw (q, r) (omega (arith, mul-add (recordWidth h kind) (i % m) 1)), r)
+
+  pub next-block : i % perBlock h kind + 1 ≡ perBlock h kind → next-begins (512 - recordWidth h kind * perBlock h kind) 0
+  unfolding recordStart
+  next-block last =
+      let m = perBlock h kind in
+      let some : 1 ≤ m = omega arith in
+      let q : (i + 1) / m ≡ i / m + 1 = omega (arith, more-div i m some, ap (λ (n : ℕ). n / m) last, div-self {n = m} some) in
+      let r : (i + 1) % m ≡ 0 = more-mod i m some ∙ ap (λ (n : ℕ). n % m) last ∙ mod-self m in
+      (rw (q, r) (omega (arith, mul-add (recordWidth h kind) (i % m) 1, ap (λ (n : ℕ). recordWidth h kind * n) last, fit-most (recordWidth h kind))), r)
 
 -- record i of a kind whose records all stand in its first block
 pub record-first : (h : Header) (kind i : ℕ) → i < perBlock h kind → recordStart h kind i ≡ 512 * firstBlock h kind + (4 + recordWidth h kind * i)

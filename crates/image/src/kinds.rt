@@ -22,8 +22,6 @@ pub const TABLE_WIDTH: usize = WIDTH[4];
 
 pub const LEXICON_WIDTH: usize = WIDTH[5];
 
-pub const ENTRY_WIDTH: usize = WIDTH[6];
-
 pub const ENTRIES_PER_BLOCK: usize = PER_BLOCK[6];
 
 // The first letter and the first pair: no count moves their blocks.

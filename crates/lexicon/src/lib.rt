@@ -98,28 +98,28 @@ fn is_entry(image: &[u8], at: usize, marked: &[u8; 256], lexicons: usize) -> boo
     is_continuation(image::byte_at(image, at + 13), lexicons)
 }
 
-// From the end of a block's last entry to the next block's first: the block's check and the next one's number, kind and count, with the bytes unused.
-const BETWEEN: usize = 512 - kinds::ENTRIES_PER_BLOCK * kinds::ENTRY_WIDTH;
-
 // Whether every entry is laid out as one whose letters are all marked.
 fn are_entries(image: &[u8], h: Header, marked: &[u8; 256]) -> bool
     requires { ⌜ Laid (now image) (headerOf h) ⌝ }
     ensures { λ r. ⌜ r ≡ areEntriesOf (isMarked (now (marked .entry))) (now (image .entry)) (headerOf h) ⌝ }
 {
-    let lexicons = h.lexicons;
+    let wide = kinds::width(h, 6);
+    let most = kinds::per_block(h, 6);
+    // From the end of a block's last entry to the next block's first.
+    let between = 512 - wide * most;
     let mut left = h.entries;
     let mut at = entry_start(h, 0);
     let mut slot: usize = 0;
     while left > 0 {
-        if !is_entry(image, at, marked, lexicons) {
+        if !is_entry(image, at, marked, h.lexicons) {
             return false;
         }
         left -= 1;
-        at += kinds::ENTRY_WIDTH;
+        at += wide;
         slot += 1;
-        if slot == kinds::ENTRIES_PER_BLOCK {
+        if slot == most {
             slot = 0;
-            at += BETWEEN;
+            at += between;
         }
     }
     true

@@ -1,20 +1,21 @@
 -- `are_entries` meets its contract: what is left of the entries decides.
+use borrow.Author.Needs.{needs}
 use native.Mathlib.Omega.{arith}
-use native.Mathlib.Nat.{sub-self}
+use native.Mathlib.Nat.{sub-self, zero-mod}
 use borrow.Author.Tests.{not-true, not-false}
 use mathlib.Core.Bool.{Bool, true, false}
 use mathlib.Core.List.{List}
-use mathlib.Core.Path.{_≡_, sym, ap, _∙_}
-use Prim.Native.Nat.{ℕ, _+_, _*_, _-_, _/_, _%_, _<_, _≤_}
+use mathlib.Core.Path.{_≡_, refl, sym, ap, ap₂, _∙_}
+use Prim.Native.Nat.{ℕ, _+_, _*_, _-_, _%_, _<_, _≤_}
 use lib.ListN.{length, getD, drop}
 use Rattle.model.specs.Lists.{below, every}
-use Rattle.model.specs.Blocks.{kinds, recordWidth, recordStart}
+use Rattle.model.specs.Blocks.{Header, kinds, inAll, recordWidth, perBlock, recordStart}
 use Rattle.model.specs.Lexicon.{entry, isEntryOf}
 use Rattle.image.specs.Header.{headerOf}
 use Rattle.letters.specs.Marks.{isMarked}
 use Rattle.model.proofs.Lists.{length-below, getD-below}
 use Rattle.model.proofs.Rest.{every-on, every-fails, every-done}
-use Rattle.image.proofs.Records.{record-part}
+use Rattle.image.proofs.Records.{total-most, fit-most, record-slot, record-end, next-within, next-block, record-part}
 use Rattle.lexicon.proofs.Laws.{entry-wide, entry-cut, entry-inside}
 use Rattle.lexicon.proofs.are_entries.Statement.{statement}
 use Rattle.lexicon.proofs.are_entries.Tie as tie
@@ -23,35 +24,57 @@ use Rattle.lexicon.proofs.are_entries.Tie as tie
 abbrev isRight : List ℕ → List ℕ → ℕ → ℕ → Bool
 isRight image marked lexicons e = isEntryOf (entry image e) (isMarked marked) lexicons
 
--- entry left₀ - left comes next, at its slot and its place; at₀ is the place of entry 0
+-- entry left₀ - left comes next, at its slot and its place
 abbrev Inv-loop : tie.InvT-loop
-Inv-loop image marked lexicons left₀ at₀ slot₀ left at slot =
+Inv-loop image h marked wide most between left₀ at₀ slot₀ left at slot =
     (left ≤ left₀)
-    × (slot ≡ (left₀ - left) % 31)
-    × (at ≡ at₀ + 512 * ((left₀ - left) / 31) + 16 * ((left₀ - left) % 31))
-    × (every (isRight image marked lexicons) (drop (left₀ - left) (below left₀)) ≡ every (isRight image marked lexicons) (below left₀))
+    × (slot ≡ (left₀ - left) % perBlock (headerOf h) 6)
+    × (at ≡ recordStart (headerOf h) 6 (left₀ - left))
+    × (every (isRight image marked (h .lexicons)) (drop (left₀ - left) (below left₀)) ≡ every (isRight image marked (h .lexicons)) (below left₀))
 
 abbrev μ-loop : tie.MeasureT-loop
-μ-loop image marked lexicons left₀ at₀ slot₀ left at slot = left
+μ-loop image h marked wide most between left₀ at₀ slot₀ left at slot = left
+
+-- what the table tells of entries
+module _ (c : tie.After-per-block Inv-loop μ-loop) where
+  abbrev header : Header
+  header = headerOf (c .before .before .before .args .h)
+
+  abbrev full : ℕ
+  full = c .before .width .result * c .per-block .result
+
+  full-is : full ≡ recordWidth header 6 * perBlock header 6
+  full-is = ap₂ (λ (m n : ℕ). m * n) (c .before .width .ensures) (c .per-block .ensures)
+
+  -- a block's entries have room in it
+  room : full ≤ 506
+  room = omega (arith, full-is, fit-most (recordWidth header 6))
 
 -- the entry looked at in a turn
 module _ (c : tie.After-is-entry Inv-loop μ-loop) where
+  abbrev told : tie.After-per-block Inv-loop μ-loop
+  told = c .before .before .before .before
+
   abbrev start : tie.Start Inv-loop μ-loop
-  start = c .before .before .before .before .before
+  start = told .before .before .before
+
+  abbrev h : Header
+  h = headerOf (start .args .h)
 
   abbrev right : ℕ → Bool
-  right = isRight (start .args .image .now) (start .args .marked .now) (start .args .h .lexicons)
+  right = isRight (start .args .image .now) (start .args .marked .now) (h .lexicons)
 
   abbrev number : ℕ
-  number = start .args .h .entries - c .before .before .loop .left
+  number = h .entries - c .before .before .loop .left
 
-  place : c .before .before .loop .at ≡ recordStart (headerOf (start .args .h)) 6 number
-  unfolding kinds recordStart
-  place = omega (arith, c .before .before .before .entry-start .ensures .0)
+  place : c .before .before .loop .at ≡ recordStart h 6 number
+  place = c .before .before .loop .inv .2
+
+  one-less : h .entries - (c .before .before .loop .left - 1) ≡ number + 1
+  one-less = omega arith
 
   looked : right number ≡ c .is-entry .result
   looked =
-      let h = headerOf (start .args .h) in
       let image = start .args .image .now in
       let may = isMarked (start .args .marked .now) in
       ap (λ (l : List ℕ). isEntryOf l may (h .lexicons)) (record-part (start .pre) 6 number)
@@ -59,34 +82,73 @@ module _ (c : tie.After-is-entry Inv-loop μ-loop) where
       ∙ ap (λ (n : ℕ). isEntryOf (drop n image) may (h .lexicons)) (sym place)
       ∙ sym (c .is-entry .ensures)
 
-  there : number < length (below (start .args .h .entries))
-  there = omega (arith, length-below (start .args .h .entries))
+  there : number < length (below (h .entries))
+  there = omega (arith, length-below (h .entries))
 
-  asked : right (getD (below (start .args .h .entries)) number 0) ≡ c .is-entry .result
-  asked = ap right (getD-below (start .args .h .entries) number (omega arith)) ∙ looked
+  asked : right (getD (below (h .entries)) number 0) ≡ c .is-entry .result
+  asked = ap right (getD-below (h .entries) number (omega arith)) ∙ looked
 
-  fails : c .is-entry .result ≡ false → false ≡ every right (below (start .args .h .entries))
-  fails e = sym (every-fails (below (start .args .h .entries)) 0 number there right (asked ∙ e)) ∙ c .before .before .loop .inv .3
+  fails : c .is-entry .result ≡ false → false ≡ every right (below (h .entries))
+  fails e = sym (every-fails (below (h .entries)) 0 number there right (asked ∙ e)) ∙ c .before .before .loop .inv .3
 
-  goes-on : c .is-entry .result ≡ true → every right (drop (start .args .h .entries - (c .before .before .loop .left - 1)) (below (start .args .h .entries))) ≡ every right (below (start .args .h .entries))
+  goes-on : c .is-entry .result ≡ true → every right (drop (h .entries - (c .before .before .loop .left - 1)) (below (h .entries))) ≡ every right (below (h .entries))
   goes-on e =
-      let n : start .args .h .entries - (c .before .before .loop .left - 1) ≡ number + 1 = omega arith in
-      ap (λ (k : ℕ). every right (drop k (below (start .args .h .entries)))) n
-      ∙ sym (every-on (below (start .args .h .entries)) 0 number there right (asked ∙ e))
+      ap (λ (k : ℕ). every right (drop k (below (h .entries)))) one-less
+      ∙ sym (every-on (below (h .entries)) 0 number there right (asked ∙ e))
       ∙ c .before .before .loop .inv .3
 
+  -- where it stands
+  counted : number < inAll h 6
+  unfolding kinds
+  counted = omega arith
+
+  slot-less : c .before .before .loop .slot < told .per-block .result
+  slot-less = omega (arith, record-slot h (start .pre .limits) 6 number counted, told .per-block .ensures)
+
+  small : c .before .before .loop .at + told .before .width .result ≤ 65536
+  small = omega (arith, record-end h (start .pre .limits) 6 number counted, total-most h (start .pre .limits), told .before .width .ensures)
+
+  -- and the next one, in its block or in the next block
+  abbrev Next : ℕ → ℕ → Type 0
+  Next slot at =
+      (slot ≡ (h .entries - (c .before .before .loop .left - 1)) % perBlock h 6)
+      × (at ≡ recordStart h 6 (h .entries - (c .before .before .loop .left - 1)))
+
+  within : c .before .before .loop .slot + 1 < told .per-block .result → Next (c .before .before .loop .slot + 1) (c .before .before .loop .at + told .before .width .result)
+  within less =
+      let n = next-within h 6 number (omega (arith, told .per-block .ensures)) in
+      rw one-less (omega arith, omega (arith, told .before .width .ensures))
+
+  over : c .before .before .loop .slot + 1 ≡ told .per-block .result → Next 0 (c .before .before .loop .at + told .before .width .result + (512 - full told))
+  over e =
+      let n = next-block h 6 number (omega (arith, told .per-block .ensures)) in
+      rw one-less (omega arith, omega (arith, told .before .width .ensures, full-is told))
+
+width-requires : tie.Need-width-requires Inv-loop μ-loop
+width-requires c κs = search needs
+
+per-block-requires : tie.Need-per-block-requires Inv-loop μ-loop
+per-block-requires c κs = search needs
+
+mul-between : tie.Need-mul-between Inv-loop μ-loop
+mul-between c = omega (arith, room c)
+
+sub-between : tie.Need-sub-between Inv-loop μ-loop
+sub-between c = omega (arith, room c)
+
 entry-start-requires : tie.Need-entry-start-requires Inv-loop μ-loop
-entry-start-requires c κs = (c .before .pre .limits, omega arith)
+entry-start-requires c κs = (c .before .before .before .pre .limits, omega arith)
 
 loop-holds : tie.Need-loop-holds Inv-loop μ-loop
-loop-holds c = let n = c .before .before .args .h .entries in (omega arith, omega arith, omega arith, ap (λ (k : ℕ). every (isRight (c .before .before .args .image .now) (c .before .before .args .marked .now) (c .before .before .args .h .lexicons)) (drop k (below n))) (sub-self n))
+loop-holds c =
+    let a = c .before .before .before .before .args in
+    let n = a .h .entries in
+    rw (sub-self n) (omega arith, sym (zero-mod (perBlock (headerOf (a .h)) 6)), c .entry-start .ensures .0, refl)
 
 is-entry-requires : tie.Need-is-entry-requires Inv-loop μ-loop
-unfolding kinds recordStart
 is-entry-requires c κs =
-    let a = c .before .before .before .before in
-    let l = c .before .loop in
-    omega (arith, entry-inside (a .args .image .now) (headerOf (a .args .h)) (a .pre) (a .args .h .entries - l .left) 13 (omega arith) (omega arith), c .before .before .entry-start .ensures .0)
+    let a = c .before .before .before .before .before .before in
+    omega (arith, entry-inside (a .args .image .now) (headerOf (a .args .h)) (a .pre) (a .args .h .entries - c .before .loop .left) 13 (omega arith) (omega arith))
 
 returns : tie.Need-returns Inv-loop μ-loop
 returns c = fails (c .before) (not-true (c .before .is-entry .result) (c .if1 .taken))
@@ -95,29 +157,29 @@ sub-left : tie.Need-sub-left Inv-loop μ-loop
 sub-left c = omega arith
 
 add-at : tie.Need-add-at Inv-loop μ-loop
-add-at c = omega arith
+add-at c = omega (arith, small (c .before))
 
 add-slot : tie.Need-add-slot Inv-loop μ-loop
-add-slot c = omega arith
+add-slot c = omega (arith, slot-less (c .before))
 
 add-at-2 : tie.Need-add-at-2 Inv-loop μ-loop
-add-at-2 c = omega arith
+add-at-2 c = omega (arith, small (c .before .before))
 
 loop-less : tie.Need-loop-less Inv-loop μ-loop
 loop-less c = omega arith
 
 loop-again : tie.Need-loop-again Inv-loop μ-loop
-loop-again c = (omega arith, omega arith, omega arith, goes-on (c .before .before) (not-false (c .before .before .is-entry .result) (c .before .if1 .left)))
+loop-again c = let t = over (c .before .before) (omega arith) in (omega arith, t .0, t .1, goes-on (c .before .before) (not-false (c .before .before .is-entry .result) (c .before .if1 .left)))
 
 loop-less-2 : tie.Need-loop-less-2 Inv-loop μ-loop
 loop-less-2 c = omega arith
 
 loop-again-2 : tie.Need-loop-again-2 Inv-loop μ-loop
-loop-again-2 c = (omega arith, omega arith, omega arith, goes-on (c .before .before) (not-false (c .before .before .is-entry .result) (c .before .if1 .left)))
+loop-again-2 c = let t = within (c .before .before) (omega (arith, slot-less (c .before .before))) in (omega arith, t .0, t .1, goes-on (c .before .before) (not-false (c .before .before .is-entry .result) (c .before .if1 .left)))
 
 returns-2 : tie.Need-returns-2 Inv-loop μ-loop
 returns-2 c =
-    let a = c .before .before .before .before .args in
+    let a = c .before .before .before .before .before .before .args in
     let f = isRight (a .image .now) (a .marked .now) (a .h .lexicons) in
     sym (every-done (below (a .h .entries)) (a .h .entries - c .before .loop .left) (omega (arith, length-below (a .h .entries))) f) ∙ c .before .loop .inv .3
 
@@ -127,6 +189,10 @@ are-entries-spec =
     (tie.spec
     Inv-loop
     μ-loop
+    width-requires
+    per-block-requires
+    mul-between
+    sub-between
     entry-start-requires
     loop-holds
     is-entry-requires
