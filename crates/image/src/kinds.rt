@@ -16,8 +16,6 @@ const PER_BLOCK: [usize; 7] = [0, 42, 253, 253, 1, 253, 31];
 // Its places by name, for the code that reads records of one kind.
 pub const LETTER_WIDTH: usize = WIDTH[2];
 
-pub const PAIR_WIDTH: usize = WIDTH[3];
-
 pub const TABLE_WIDTH: usize = WIDTH[4];
 
 pub const LEXICON_WIDTH: usize = WIDTH[5];

@@ -4,7 +4,6 @@ ghost use mathlib.Core.Path.{_≡_};
 ghost use Prim.Native.Nat.{_≤_, _<_};
 ghost use lib.ListN.{replicate};
 ghost use Rattle.model.specs.Lists.{below, flatMap};
-ghost use Rattle.model.specs.Blocks.{header};
 ghost use Rattle.image.specs.Header.{headerOf};
 ghost use Rattle.image.specs.Laid.{Laid};
 ghost use Rattle.image.specs.Accepted.{Accepted};
@@ -14,11 +13,11 @@ use image::Header;
 use letters::Lexical;
 
 // Whether pair p has the lexical letter a or the lexical null.
-fn is_candidate(image: &[u8], a: Lexical, p: usize) -> bool
-    requires { ⌜ Laid (now image) (header (now image)) × (p < header (now image) .pairs) ⌝ }
+fn is_candidate(image: &[u8], h: Header, a: Lexical, p: usize) -> bool
+    requires { ⌜ Laid (now image) (headerOf h) × (p < h .pairs) ⌝ }
     ensures { λ r. ⌜ r ≡ isCandidate (now (image .entry)) (a .0) p ⌝ }
 {
-    let side = letters::lexical_side(image, p);
+    let side = letters::lexical_side(image, h, p);
     if side.0 == 0 {
         return true;
     }
@@ -35,7 +34,7 @@ fn fill_row(image: &[u8], h: Header, a: Lexical, row: &mut [u8])
     let mut n: usize = 0;
     let mut p: usize = 0;
     while p < pairs {
-        if is_candidate(image, a, p) {
+        if is_candidate(image, h, a, p) {
             n += 1;
             row[n] = p as u8;
         }

@@ -51,7 +51,7 @@ fn spells_forms(image: &[u8], h: Header, path: &[u8], pairing: &[u8]) -> bool
     let mut t: usize = 0;
     let mut i: usize = 0;
     while i < n {
-        let side = letters::lexical_side(image, image::byte_at(pairing, i));
+        let side = letters::lexical_side(image, h, image::byte_at(pairing, i));
         if side.0 != 0 {
             if !letters::same_lexical(side, rules::paths::letter_at(image, h, path, t)) {
                 return false;
@@ -64,15 +64,15 @@ fn spells_forms(image: &[u8], h: Header, path: &[u8], pairing: &[u8]) -> bool
 }
 
 // How many pairs have a lexical null.
-fn lexical_nulls(image: &[u8], pairing: &[u8]) -> usize
-    requires { ⌜ Laid (now image) (header (now image)) × Listed (now image) (now pairing) ⌝ }
+fn lexical_nulls(image: &[u8], h: Header, pairing: &[u8]) -> usize
+    requires { ⌜ Laid (now image) (headerOf h) × Listed (now image) (now pairing) ⌝ }
     ensures { λ r. ⌜ (r ≡ nulls (map (grammarOf (now (image .entry)) .lexical) (now (pairing .entry)))) × (r ≤ length (now (pairing .entry))) ⌝ }
 {
     let n = pairing.len();
     let mut count: usize = 0;
     let mut i: usize = 0;
     while i < n {
-        if letters::lexical_side(image, image::byte_at(pairing, i)).0 == 0 {
+        if letters::lexical_side(image, h, image::byte_at(pairing, i)).0 == 0 {
             count += 1;
         }
         i += 1;
@@ -81,15 +81,15 @@ fn lexical_nulls(image: &[u8], pairing: &[u8]) -> usize
 }
 
 // How many pairs have a surface null.
-fn surface_nulls(image: &[u8], pairing: &[u8]) -> usize
-    requires { ⌜ Laid (now image) (header (now image)) × Listed (now image) (now pairing) ⌝ }
+fn surface_nulls(image: &[u8], h: Header, pairing: &[u8]) -> usize
+    requires { ⌜ Laid (now image) (headerOf h) × Listed (now image) (now pairing) ⌝ }
     ensures { λ r. ⌜ (r ≡ nulls (map (grammarOf (now (image .entry)) .surface) (now (pairing .entry)))) × (r ≤ length (now (pairing .entry))) ⌝ }
 {
     let n = pairing.len();
     let mut count: usize = 0;
     let mut i: usize = 0;
     while i < n {
-        if letters::surface_side(image, image::byte_at(pairing, i)).0 == 0 {
+        if letters::surface_side(image, h, image::byte_at(pairing, i)).0 == 0 {
             count += 1;
         }
         i += 1;
@@ -133,10 +133,10 @@ fn levels_right(image: &[u8], h: Header, path: &[u8], pairing: &[u8]) -> bool
     if !spells_forms(image, h, path, pairing) {
         return false;
     }
-    if lexical_nulls(image, pairing) > 8 {
+    if lexical_nulls(image, h, pairing) > 8 {
         return false;
     }
-    let nulls = surface_nulls(image, pairing);
+    let nulls = surface_nulls(image, h, pairing);
     let letters = pairing.len() - nulls;
     if letters < 1 {
         return false;

@@ -14,8 +14,8 @@ use Rattle.model.specs.RuleTables.{Pair, codePoints, pair, pairs, boundaryPair,
 use Rattle.model.specs.Refusals.{rightPairs}
 use Rattle.model.proofs.Booleans.{and-out, and-in, out3, within-out, eq→eqb, not-both}
 use Rattle.model.proofs.Lists.{length-map-below, getD-map-below}
-use Rattle.image.specs.Laid.{Laid}
-use Rattle.image.proofs.Records.{record-inside, record-byte, record-first}
+use Rattle.image.specs.Laid.{Limited, Laid}
+use Rattle.image.proofs.Records.{total-most, record-end, record-inside, record-byte, record-first}
 use Rattle.model.proofs.Rest.{every-getD}
 
 -- an image that is laid out by a header is laid out by its own
@@ -48,7 +48,7 @@ module _ (image : List ℕ) where
   unfolding pairs
   pair-at p h = getD-map-below (pair image) (header image .pairs) p boundaryPair h
 
--- letters and pairs as bytes of an image that is laid out: each kind has one block
+-- letters as bytes of an image that is laid out: they have one block
 module _ {image : List ℕ} (laid : Laid image (header image)) where
   abbrev start : ℕ → ℕ → ℕ
   start = recordStart (header image)
@@ -70,22 +70,35 @@ module _ {image : List ℕ} (laid : Laid image (header image)) where
       (getD-map-below (λ i. number (recordAt image 2 i) 0) (header image .letters) i 0 h
       ∙ ap₂ (λ (x y : ℕ). x + 256 * y) (record-byte laid 2 i 0 (omega arith) ∙ ap (byte image) (omega arith)) (record-byte laid 2 i 1 (omega arith)))
 
-  pub pair-start : (p : ℕ) → p < header image .pairs → start 3 p ≡ 512 * firstBlock (header image) 3 + (4 + recordWidth (header image) 3 * p)
+-- where pair p stands: pairs have one block, so from its start on
+module _ (h : Header) (limits : Limited h) (p : ℕ) (there : p < h .pairs) where
+  pub pair-start : 1028 + recordWidth h 3 * p ≡ recordStart h 3 p
   unfolding kinds
-  pair-start p h = record-first (header image) 3 p (omega (arith, laid .limits .pairs-most))
+  pair-start = omega (arith, record-first h 3 p (omega (arith, limits .pairs-most)))
 
-  pub pair-inside : (p : ℕ) → p < header image .pairs → start 3 p + 1 < length image
+  pub pair-end : recordStart h 3 p + recordWidth h 3 ≤ 65536
   unfolding kinds
-  pair-inside p h = record-inside laid 3 p 1 h (omega arith)
+  pair-end = omega (arith, record-end h limits 3 p there, total-most h limits)
 
-  -- the sides of pair p are the bytes of its record
-  pub lexical-byte : (p at : ℕ) → p < header image .pairs → at ≡ start 3 p → byte image at ≡ pairAt image p .lexical
-  unfolding kinds
-  lexical-byte p at h e = ap (byte image) (omega arith) ∙ sym (ap (λ (q : Pair). q .lexical) (pair-at image p h) ∙ record-byte laid 3 p 0 (omega arith))
+-- its record has both sides
+pub pair-wide : (h : Header) → 2 ≤ recordWidth h 3
+unfolding kinds
+pair-wide h = omega arith
 
-  pub surface-byte : (p at : ℕ) → p < header image .pairs → at ≡ start 3 p + 1 → byte image at ≡ pairAt image p .surface
+-- byte j of pair p in an image that is laid out; the first two are the sides
+module _ {image : List ℕ} {h : Header} (laid : Laid image h) (p : ℕ) (there : p < h .pairs) where
+  pub pair-inside : (j : ℕ) → j < recordWidth h 3 → recordStart h 3 p + j < length image
   unfolding kinds
-  surface-byte p at h e = ap (byte image) e ∙ sym (ap (λ (q : Pair). q .surface) (pair-at image p h) ∙ record-byte laid 3 p 1 (omega arith))
+  pair-inside j k = record-inside laid 3 p j there k
+
+  pair-is : pairAt image p ≡ pair image p
+  pair-is = pair-at image p (omega (arith, laid-pairs laid))
+
+  pub lexical-byte : byte image (recordStart h 3 p + 0) ≡ pairAt image p .lexical
+  lexical-byte = sym (ap (λ (q : Pair). q .lexical) pair-is ∙ record-byte laid 3 p 0 (omega (arith, pair-wide h)))
+
+  pub surface-byte : byte image (recordStart h 3 p + 1) ≡ pairAt image p .surface
+  surface-byte = sym (ap (λ (q : Pair). q .surface) pair-is ∙ record-byte laid 3 p 1 (omega (arith, pair-wide h)))
 
 -- a pair is its two sides
 pub sides-are : (p : Pair) {a b : ℕ} → a ≡ p .lexical → b ≡ p .surface → _≡_ {A = Pair} (record { lexical = a; surface = b }) p

@@ -5,11 +5,11 @@ ghost use Prim.Native.Nat.{_+_, _<_, _≤_};
 ghost use lib.ListN.{length, getD, take, drop};
 ghost use lib.Dec.{eqb};
 ghost use Rattle.model.specs.Lists.{byte, every, any, distinct, within, isZero};
-ghost use Rattle.model.specs.Blocks.{header};
+ghost use Rattle.model.specs.Blocks.{header, recordWidth, recordStart};
 ghost use Rattle.model.specs.RuleTables.{codePoints, isCodePoint, pairs, boundaryPair, isPair, samePair};
 ghost use Rattle.model.specs.Refusals.{rightLetters, rightPairs};
 ghost use Rattle.image.specs.Header.{headerOf};
-ghost use Rattle.image.specs.Laid.{Laid};
+ghost use Rattle.image.specs.Laid.{Limited, Laid};
 ghost use Rattle.letters.specs.Pairs.{pairOf};
 use image::Header;
 use image::kinds;
@@ -140,35 +140,44 @@ pub fn are_letters(bytes: &[u8], from: usize, end: usize, letters: usize) -> boo
     true
 }
 
-// Where pair 0 has its sides.
-pub const LEXICAL_SIDES: usize = kinds::PAIRS_START;
+// The bytes of a pair's record.
+const LEXICAL_BYTE: usize = 0;
 
-pub const SURFACE_SIDES: usize = kinds::PAIRS_START + 1;
+const SURFACE_BYTE: usize = 1;
+
+// Where byte `side` of pair p stands: pairs stand in one block, so from its start on.
+fn side_start(h: Header, p: usize, side: usize) -> usize
+    requires { ⌜ Limited (headerOf h) ⌝ }
+    requires { ⌜ (p < h .pairs) × (side < recordWidth (headerOf h) 3) ⌝ }
+    ensures { λ r. ⌜ r ≡ recordStart (headerOf h) 3 p + side ⌝ }
+{
+    kinds::PAIRS_START + kinds::width(h, 3) * p + side
+}
 
 // The lexical side of pair p.
-pub fn lexical_side(image: &[u8], p: usize) -> Lexical
-    requires { ⌜ Laid (now image) (header (now image)) × (p < header (now image) .pairs) ⌝ }
+pub fn lexical_side(image: &[u8], h: Header, p: usize) -> Lexical
+    requires { ⌜ Laid (now image) (headerOf h) × (p < h .pairs) ⌝ }
     ensures { λ r. ⌜ r .0 ≡ getD (pairs (now (image .entry))) p boundaryPair .lexical ⌝ }
 {
-    lexical_at(image, LEXICAL_SIDES + kinds::PAIR_WIDTH * p)
+    lexical_at(image, side_start(h, p, LEXICAL_BYTE))
 }
 
 // The surface side of pair p.
-pub fn surface_side(image: &[u8], p: usize) -> Surface
-    requires { ⌜ Laid (now image) (header (now image)) × (p < header (now image) .pairs) ⌝ }
+pub fn surface_side(image: &[u8], h: Header, p: usize) -> Surface
+    requires { ⌜ Laid (now image) (headerOf h) × (p < h .pairs) ⌝ }
     ensures { λ r. ⌜ r .0 ≡ getD (pairs (now (image .entry))) p boundaryPair .surface ⌝ }
 {
-    surface_at(image, SURFACE_SIDES + kinds::PAIR_WIDTH * p)
+    surface_at(image, side_start(h, p, SURFACE_BYTE))
 }
 
 // Pair p.
-pub fn pair_at(image: &[u8], p: usize) -> Pair
-    requires { ⌜ Laid (now image) (header (now image)) × (p < header (now image) .pairs) ⌝ }
+pub fn pair_at(image: &[u8], h: Header, p: usize) -> Pair
+    requires { ⌜ Laid (now image) (headerOf h) × (p < h .pairs) ⌝ }
     ensures { λ r. ⌜ pairOf r ≡ getD (pairs (now (image .entry))) p boundaryPair ⌝ }
 {
     Pair {
-        lexical: lexical_side(image, p),
-        surface: surface_side(image, p),
+        lexical: lexical_side(image, h, p),
+        surface: surface_side(image, h, p),
     }
 }
 
@@ -221,7 +230,7 @@ fn each_pair(image: &[u8], h: Header) -> bool
     let count = h.pairs;
     let mut p: usize = 0;
     while p < count {
-        if !is_pair(pair_at(image, p), letters) {
+        if !is_pair(pair_at(image, h, p), letters) {
             return false;
         }
         p += 1;
@@ -230,14 +239,14 @@ fn each_pair(image: &[u8], h: Header) -> bool
 }
 
 // Both sides are the same, each within its level.
-fn same_pair(image: &[u8], p: usize, q: usize) -> bool
-    requires { ⌜ Laid (now image) (header (now image)) × ((p < header (now image) .pairs) × (q < header (now image) .pairs)) ⌝ }
+fn same_pair(image: &[u8], h: Header, p: usize, q: usize) -> bool
+    requires { ⌜ Laid (now image) (headerOf h) × ((p < h .pairs) × (q < h .pairs)) ⌝ }
     ensures { λ r. ⌜ r ≡ samePair (getD (pairs (now (image .entry))) p boundaryPair) (getD (pairs (now (image .entry))) q boundaryPair) ⌝ }
 {
-    if !same_lexical(lexical_side(image, p), lexical_side(image, q)) {
+    if !same_lexical(lexical_side(image, h, p), lexical_side(image, h, q)) {
         return false;
     }
-    same_surface(surface_side(image, p), surface_side(image, q))
+    same_surface(surface_side(image, h, p), surface_side(image, h, q))
 }
 
 // No pair after pair p has its two sides.
@@ -248,7 +257,7 @@ fn pair_alone(image: &[u8], h: Header, p: usize) -> bool
     let count = h.pairs;
     let mut q: usize = p + 1;
     while q < count {
-        if same_pair(image, p, q) {
+        if same_pair(image, h, p, q) {
             return false;
         }
         q += 1;

@@ -1,8 +1,6 @@
 // Marked letters: a table of 256 bytes, 1 at each letter that is marked, so that a letter is asked for by one look.
-use crate::LEXICAL_SIDES;
 use crate::lexical_at;
 use image::Header;
-use image::kinds;
 ghost use mathlib.Core.Path.{_≡_};
 ghost use Prim.Native.Nat.{_≤_};
 ghost use lib.ListN.{length, take, drop};
@@ -34,7 +32,7 @@ pub fn lexical_marks(image: &[u8], h: Header) -> [u8; 256]
     let mut marks = [0u8; 256];
     let mut p: usize = 0;
     while p < count {
-        let a = lexical_at(image, LEXICAL_SIDES + kinds::PAIR_WIDTH * p);
+        let a = lexical_at(image, crate::side_start(h, p, crate::LEXICAL_BYTE));
         marks[a.0 as usize] = 1;
         p += 1;
     }

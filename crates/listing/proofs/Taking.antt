@@ -15,7 +15,6 @@ use Rattle.model.specs.GrammarOf.{grammarOf}
 use Rattle.model.specs.Query.{Pattern, Query}
 use Rattle.model.specs.Tree.{spells, left, lettersAnd, nullsAnd, isNil, mayAt, goAt, complete}
 use Rattle.model.proofs.Booleans.{and-out, true-of}
-use Rattle.image.specs.Laid.{Laid}
 use Rattle.image.specs.Accepted.{Accepted}
 use Rattle.letters.proofs.Laws.{pairAt}
 use Rattle.rules.specs.Live.{Live, stepOf, aliveOf, finishOf}
@@ -25,9 +24,6 @@ use Rattle.listing.specs.Places.{ended, waysAfter, stopsAfter, restOf, n
 
 -- of an accepted image
 module _ (image : List ℕ) (h : Header) (a : Accepted image h) where
-  pub side-there : (p : ℕ) → p < h .pairs → Laid image (header image) × (p < header image .pairs)
-  side-there p k = subst (λ (g : Header). Laid image g × (p < g .pairs)) (a .laid .header-is) (a .laid, k)
-
   pub image-short : length image < 65536
   unfolding kinds blockTotal
   image-short = omega (arith, a .laid .whole, a .laid .limits .rules-most, a .laid .limits .entries-most)

@@ -44,14 +44,14 @@ pub fn take(
 {
     let level = place.surface;
     let states = place.states;
-    let spelled = crate::level::spell(place.from, place.nulls, letters::lexical_side(image, p));
+    let spelled = crate::level::spell(place.from, place.nulls, letters::lexical_side(image, h, p));
     if !spelled.may {
         return Taken {
             may: false,
             place: place,
         };
     }
-    let passed = crate::level::pass(asked, word, level, letters::surface_side(image, p));
+    let passed = crate::level::pass(asked, word, level, letters::surface_side(image, h, p));
     if !passed.may {
         return Taken {
             may: false,

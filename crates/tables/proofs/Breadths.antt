@@ -8,9 +8,11 @@ use mathlib.Core.List.{List}
 use lib.ListN.{length, getD, set, length-map, List·getD-map}
 use lib.Seq.{getD-set-same, getD-set-other}
 use borrow.Author.Count.{below-more}
-use Rattle.model.specs.Blocks.{header}
+use Rattle.model.specs.Blocks.{Header, header}
 use Rattle.model.specs.RuleTables.{Pair, Sides, boundaryPair, pairsAndBoundary, column, columnCount, matches, breadth, takesColumn, columnFor}
-use Rattle.tables.specs.Sides.{pairNumber, Paired}
+use Rattle.image.specs.Laid.{Laid}
+use Rattle.letters.proofs.Laws.{laid-pairs}
+use Rattle.tables.specs.Sides.{pairNumber}
 use Rattle.tables.specs.Breadths.{Broad, columnsBy}
 use Rattle.tables.proofs.Lists.{count-length}
 use Rattle.tables.proofs.Pairs.{length-pairsAndBoundary}
@@ -24,8 +26,8 @@ module _ (image t : List ℕ) where
   broad-more c l v h e b = record { each = below-more _ c (λ k j. getD-set-other l c k v 0 (omega arith) ∙ b .each k j) (getD-set-same l c v 0 h ∙ e) }
 
 -- no column is broader than all pairs
-pub breadth-most : (image : List ℕ) (pairs : ℕ) → Paired image pairs → (c : Sides) → breadth (pairsAndBoundary image) c < 252
-breadth-most image pairs p c = let q = p .count in let m = p .most in omega (arith, count-length (matches c) (pairsAndBoundary image), length-pairsAndBoundary image)
+pub breadth-most : {image : List ℕ} {h : Header} → Laid image h → (c : Sides) → breadth (pairsAndBoundary image) c < 252
+breadth-most {image} l c = omega (arith, laid-pairs l, l .limits .pairs-most, count-length (matches c) (pairsAndBoundary image), length-pairsAndBoundary image)
 
 module _ (ps : List Pair) (t : List ℕ) (p : Pair) where
   abbrev pub matching : ℕ → Bool

@@ -16,8 +16,6 @@ use Rattle.model.proofs.Booleans.{out5, true-of}
 use Rattle.model.proofs.Lists.{every-at, below-has}
 use Rattle.image.specs.Laid.{Laid}
 use Rattle.image.proofs.Records.{record-inside, record-part, record-length, record-byte}
-use Rattle.letters.proofs.Laws.{laid-here, laid-pairs}
-use Rattle.tables.specs.Sides.{Paired}
 use Rattle.tables.specs.Breadths.{Columned, columnsBy}
 use Rattle.model.proofs.Rest.{every-getD}
 use Rattle.tables.proofs.Lists.{every-getD-any}
@@ -41,9 +39,6 @@ module _ (image : List ℕ) (h : Header) (laid : Laid image h) where
   pub table-length : (r : ℕ) → r < h .rules → length (table image r) ≡ 506
   unfolding kinds
   table-length r k = record-length laid 4 r k
-
-  pub laid-paired : Paired image (h .pairs)
-  laid-paired = record { count = laid-pairs laid; most = laid .limits .pairs-most; laid = laid-here laid }
 
   -- test 6 by the counts that were read
   pub tables-read : every (λ r. isTable (table image r) (h .letters)) (below (h .rules)) ≡ rightTables image

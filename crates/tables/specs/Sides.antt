@@ -1,12 +1,9 @@
--- The code's struct of a column's sides as the model's, and what code that reads pairs is handed.
-use Prim.Native.Nat.{ℕ, _+_, _≤_}
-use mathlib.Core.Path.{_≡_}
+-- The code's struct of a column's sides as the model's, and the pairs by number.
+use Prim.Native.Nat.{ℕ, _+_}
 use mathlib.Core.List.{List}
 use lib.ListN.{getD}
 use Rattle.model.specs.Lists.{byte}
-use Rattle.model.specs.Blocks.{header}
 use Rattle.model.specs.RuleTables as model
-use Rattle.image.specs.Laid.{Laid}
 use Rattle.tables.specs.declared.sides.Sides.{Sides}
 
 abbrev pub sidesOf : Sides → model.Sides
@@ -19,9 +16,3 @@ sidesFrom bytes at = record { lexical = byte bytes at; surface = byte bytes (at 
 -- pair p, the boundary pair being number P
 abbrev pub pairNumber : List ℕ → ℕ → model.Pair
 pairNumber image p = getD (model.pairsAndBoundary image) p model.boundaryPair
-
--- an image whose pairs can be read: it is laid out, and has this many
-pub record Paired (image : List ℕ) (pairs : ℕ) : Type 0 where
-  pub count : pairs ≡ header image .pairs
-  pub most : pairs ≤ 250
-  pub laid : Laid image (header image)

@@ -78,11 +78,10 @@ pub fn choose_columns(image: &[u8], h: image::Header, r: usize, out: &mut [u8]) 
     ensures { λ _. ⌜ now (out .exit) ≡ columnsOf (now (image .entry)) r ++ drop (headerOf h .pairs + 1) (now (out .entry)) ⌝ }
     ensures { λ ok. ⌜ ok ≡ every (λ c. ltb c (columnCount (table (now (image .entry)) r))) (columnsOf (now (image .entry)) r) ⌝ }
 {
-    let pairs = h.pairs;
     let t = table_at(image, h, r);
     let columns = image::byte_at(t, 0);
-    let breadths = columns::breadths_of(image, pairs, t, columns);
-    columns::take_columns(image, pairs, t, columns, &breadths, out)
+    let breadths = columns::breadths_of(image, h, t, columns);
+    columns::take_columns(image, h, t, columns, &breadths, out)
 }
 
 // Test 7 of the image check.

@@ -1,4 +1,5 @@
 // The two sides of a column, and which pairs they match. A letter of one level is never compared with a letter of the other.
+use image::Header;
 use letters::Lexical;
 use letters::Pair;
 use letters::Surface;
@@ -6,8 +7,10 @@ ghost use mathlib.Core.Path.{_≡_};
 ghost use Prim.Native.Nat.{_+_, _<_, _≤_};
 ghost use lib.ListN.{length};
 ghost use Rattle.model.specs.RuleTables.{matchesSide, matches, column};
+ghost use Rattle.image.specs.Header.{headerOf};
+ghost use Rattle.image.specs.Laid.{Laid};
 ghost use Rattle.letters.specs.Pairs.{pairOf};
-ghost use Rattle.tables.specs.Sides.{sidesOf, sidesFrom, pairNumber, Paired};
+ghost use Rattle.tables.specs.Sides.{sidesOf, sidesFrom, pairNumber};
 
 // What a column says of a pair: on each level its letter, or 255 for any.
 pub struct Sides {
@@ -55,13 +58,13 @@ pub fn column_at(t: &[u8], c: usize) -> Sides
 }
 
 // Pair p, where the boundary pair has number P.
-pub fn pair_at(image: &[u8], pairs: usize, p: usize) -> Pair
-    requires { ⌜ Paired (now image) pairs ⌝ }
-    requires { ⌜ p ≤ pairs ⌝ }
+pub fn pair_at(image: &[u8], h: Header, p: usize) -> Pair
+    requires { ⌜ Laid (now image) (headerOf h) ⌝ }
+    requires { ⌜ p ≤ h .pairs ⌝ }
     ensures { λ r. ⌜ pairOf r ≡ pairNumber (now (image .entry)) p ⌝ }
 {
-    if p < pairs {
-        return letters::pair_at(image, p);
+    if p < h.pairs {
+        return letters::pair_at(image, h, p);
     }
     Pair {
         lexical: Lexical(1),

@@ -7,16 +7,16 @@ use mathlib.Core.List.{List, [], _∷_, _++_}
 use Prim.Native.Nat.{ℕ, _+_, _-_, _≤_}
 use lib.ListN.{length, set, length-append, length-set}
 use Rattle.model.specs.Blocks.{header}
-use Rattle.letters.proofs.Laws.{laid-here, laid-pairs, laid-letters}
+use Rattle.letters.proofs.Laws.{laid-pairs, laid-letters}
 use Rattle.index.proofs.Candidates.{rowOf, row-none, length-rowOf, row-more, found, found-more, found-same, row-whole}
 use Rattle.index.proofs.fill_row.Statement.{statement}
 use Rattle.index.proofs.fill_row.Tie as tie
 
 abbrev Inv-loop : tie.InvT-loop
-Inv-loop image a row₀ pairs n₀ p₀ row n p = (p ≤ pairs) × ((n ≤ p) × ((n ≡ length (found image (a .0) p)) × (row ≡ rowOf (found image (a .0) p))))
+Inv-loop image h a row₀ pairs n₀ p₀ row n p = (p ≤ pairs) × ((n ≤ p) × ((n ≡ length (found image (a .0) p)) × (row ≡ rowOf (found image (a .0) p))))
 
 abbrev μ-loop : tie.MeasureT-loop
-μ-loop image a row₀ pairs n₀ p₀ row n p = pairs - p
+μ-loop image h a row₀ pairs n₀ p₀ row n p = pairs - p
 
 -- the row keeps its length
 size : (c : tie.At-loop Inv-loop μ-loop) → length (c .loop .row) ≡ 256
@@ -28,7 +28,7 @@ loop-holds : tie.Need-loop-holds Inv-loop μ-loop
 loop-holds c = (search needs, (search needs, (refl, c .before .before .pre .1 ∙ row-none)))
 
 is-candidate-requires : tie.Need-is-candidate-requires Inv-loop μ-loop
-is-candidate-requires c κs = let s = c .before .before .before .before in (laid-here (s .pre .0 .0), omega (arith, laid-pairs (s .pre .0 .0)))
+is-candidate-requires c κs = search needs
 
 add-n : tie.Need-add-n Inv-loop μ-loop
 add-n c = search needs

@@ -10,7 +10,7 @@ use borrow.Author.Tests.{not-true, not-false}
 use Rattle.model.specs.Lists.{every}
 use Rattle.model.specs.Blocks.{header}
 use Rattle.model.specs.RuleTables.{Pair, pairs, boundaryPair, isPair}
-use Rattle.letters.proofs.Laws.{laid-here, laid-letters, laid-pairs, length-pairs, pairAt}
+use Rattle.letters.proofs.Laws.{laid-letters, laid-pairs, length-pairs, pairAt}
 use Rattle.model.proofs.Rest.{every-on, every-fails, every-done}
 use Rattle.letters.proofs.each_pair.Statement.{statement}
 use Rattle.letters.proofs.each_pair.Tie as tie
@@ -19,16 +19,16 @@ abbrev right : List ℕ → Pair → Bool
 right image = isPair (header image .letters)
 
 abbrev Inv-loop : tie.InvT-loop
-Inv-loop image letters count p₀ p = every (right image) (pairs image) ≡ every (right image) (drop p (pairs image))
+Inv-loop image h letters count p₀ p = every (right image) (pairs image) ≡ every (right image) (drop p (pairs image))
 
 abbrev μ-loop : tie.MeasureT-loop
-μ-loop image letters count p₀ p = count - p
+μ-loop image h letters count p₀ p = count - p
 
 loop-holds : tie.Need-loop-holds Inv-loop μ-loop
 loop-holds c = refl
 
 pair-at-requires : tie.Need-pair-at-requires Inv-loop μ-loop
-pair-at-requires c κs = let l = c .before .before .before .pre in (laid-here l, omega (arith, laid-pairs l))
+pair-at-requires c κs = search needs
 
 is-pair-requires : tie.Need-is-pair-requires Inv-loop μ-loop
 is-pair-requires c κs = search needs

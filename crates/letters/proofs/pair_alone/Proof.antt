@@ -8,7 +8,7 @@ use lib.ListN.{length, drop}
 use borrow.Author.Needs.{needs}
 use Rattle.model.specs.Lists.{any}
 use Rattle.model.specs.RuleTables.{Pair, pairs, boundaryPair, samePair}
-use Rattle.letters.proofs.Laws.{laid-here, laid-pairs, length-pairs, pairAt}
+use Rattle.letters.proofs.Laws.{laid-pairs, length-pairs, pairAt}
 use Rattle.model.proofs.Rest.{any-on, any-found, any-done}
 use Rattle.letters.proofs.pair_alone.Statement.{statement}
 use Rattle.letters.proofs.pair_alone.Tie as tie
@@ -18,10 +18,10 @@ abbrev again : List ℕ → ℕ → ℕ → Bool
 again image p q = any (samePair (pairAt image p)) (drop q (pairs image))
 
 abbrev Inv-loop : tie.InvT-loop
-Inv-loop image p count q₀ q = again image p (p + 1) ≡ again image p q
+Inv-loop image h p count q₀ q = again image p (p + 1) ≡ again image p q
 
 abbrev μ-loop : tie.MeasureT-loop
-μ-loop image p count q₀ q = count - q
+μ-loop image h p count q₀ q = count - q
 
 add-q : tie.Need-add-q Inv-loop μ-loop
 add-q c = search needs
@@ -30,7 +30,7 @@ loop-holds : tie.Need-loop-holds Inv-loop μ-loop
 loop-holds c = refl
 
 same-pair-requires : tie.Need-same-pair-requires Inv-loop μ-loop
-same-pair-requires c κs = let l = c .before .before .before .pre .0 in (laid-here l, (omega (arith, laid-pairs l), omega (arith, laid-pairs l)))
+same-pair-requires c κs = search needs
 
 -- the pair compared in a turn
 module _ (c : tie.After-same-pair Inv-loop μ-loop) where

@@ -1,25 +1,22 @@
 -- `surface_side` meets its contract: that byte of the pair's record.
-use mathlib.Core.Path.{_∙_}
+use mathlib.Core.Path.{ap, _∙_}
 use native.Mathlib.Omega.{arith}
-use borrow.Author.Needs.{needs}
-use Rattle.model.specs.Blocks.{kinds}
-use Rattle.letters.proofs.Laws.{pair-start, pair-inside, surface-byte}
+use Rattle.model.specs.Lists.{byte}
+use Rattle.image.specs.Header.{headerOf}
+use Rattle.letters.proofs.Laws.{pair-wide, pair-inside, surface-byte}
 use Rattle.letters.proofs.surface_side.Statement.{statement}
 use Rattle.letters.proofs.surface_side.Tie as tie
 
-mul-surface-at : tie.Need-mul-surface-at
-mul-surface-at c = search needs
-
-add-surface-at : tie.Need-add-surface-at
-add-surface-at c = search needs
+side-start-requires : tie.Need-side-start-requires
+side-start-requires c κs = let s = c .before in (s .pre .0 .limits, (s .pre .1, omega (arith, pair-wide (headerOf (s .args .h)))))
 
 surface-at-requires : tie.Need-surface-at-requires
-unfolding kinds
-surface-at-requires c κs = let s = c .before in omega (arith, pair-inside (s .pre .0) (s .args .p) (s .pre .1), pair-start (s .pre .0) (s .args .p) (s .pre .1))
+surface-at-requires c κs = let s = c .before .before in omega (arith, pair-inside (s .pre .0) (s .args .p) (s .pre .1) 1 (omega (arith, pair-wide (headerOf (s .args .h)))))
 
 returns : tie.Need-returns
-unfolding kinds
-returns c = let s = c .before .before in c .surface-at .ensures ∙ surface-byte (s .pre .0) (s .args .p) _ (s .pre .1) (omega (arith, pair-start (s .pre .0) (s .args .p) (s .pre .1)))
+returns c =
+    let s = c .before .before .before in
+    c .surface-at .ensures ∙ ap (byte (s .args .image .now)) (c .before .side-start .ensures) ∙ surface-byte (s .pre .0) (s .args .p) (s .pre .1)
 
 pub surface-side-spec : {M : Type 1} → statement M
-surface-side-spec = tie.close (tie.spec mul-surface-at add-surface-at surface-at-requires returns)
+surface-side-spec = tie.close (tie.spec side-start-requires surface-at-requires returns)

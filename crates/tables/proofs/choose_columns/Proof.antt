@@ -4,9 +4,8 @@ use Prim.Native.Nat.{_+_}
 use lib.ListN.{drop}
 use Rattle.model.specs.RuleTables.{table}
 use Rattle.image.specs.Header.{headerOf}
-use Rattle.tables.specs.Sides.{Paired}
 use Rattle.tables.specs.Breadths.{Columned}
-use Rattle.tables.proofs.Laws.{laid-paired, read-columned, columns-written, columns-tested}
+use Rattle.tables.proofs.Laws.{read-columned, columns-written, columns-tested}
 use Rattle.tables.proofs.choose_columns.Statement.{statement}
 use Rattle.tables.proofs.choose_columns.Tie as tie
 
@@ -14,9 +13,6 @@ use Rattle.tables.proofs.choose_columns.Tie as tie
 module _ (c : tie.After-byte-at) where
   abbrev start : tie.Start
   start = c .before .before .before .before
-
-  paired : Paired (start .args .image .now) (start .args .h .pairs)
-  paired = laid-paired (start .args .image .now) (headerOf (start .args .h)) (start .pre .0)
 
   columned : Columned (c .before .table-at .result .now) (c .byte-at .result)
   columned =
@@ -30,10 +26,10 @@ byte-at-requires : tie.Need-byte-at-requires
 byte-at-requires c κs = search needs
 
 breadths-of-requires : tie.Need-breadths-of-requires
-breadths-of-requires c κs = (paired c, columned c)
+breadths-of-requires c κs = (start c .pre .0, columned c)
 
 take-columns-requires : tie.Need-take-columns-requires
-take-columns-requires c κs = let b = c .before .before .before in (paired b, (columned b, (c .before .before .breadths-of .ensures, start b .pre .1 .1 .1)))
+take-columns-requires c κs = let b = c .before .before .before in (start b .pre .0, (columned b, (c .before .before .breadths-of .ensures, start b .pre .1 .1 .1)))
 
 same-length : tie.Need-same-length
 same-length c = search needs

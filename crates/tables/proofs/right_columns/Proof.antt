@@ -12,7 +12,7 @@ use Rattle.model.specs.RuleTables.{table, columnCount, columnsOf}
 use Rattle.image.specs.Header.{headerOf}
 use Rattle.model.proofs.Lists.{every-more, every-fails}
 use Rattle.tables.proofs.Lists.{fails, passes}
-use Rattle.tables.proofs.Laws.{laid-paired, columns-read}
+use Rattle.tables.proofs.Laws.{columns-read}
 use Rattle.tables.proofs.right_columns.Statement.{statement}
 use Rattle.tables.proofs.right_columns.Tie as tie
 
@@ -35,7 +35,7 @@ choose-columns-requires : tie.Need-choose-columns-requires Inv-loop μ-loop
 choose-columns-requires c κs =
     let b = c .before .before in
     let s = b .before .before in
-    let m = laid-paired (s .args .image .now) (headerOf (s .args .h)) (s .pre .0) .most in
+    let m = s .pre .0 .limits .pairs-most in
     (s .pre .0, (c .before .loop-test .taken, (s .pre .1, omega arith)))
 
 returns : tie.Need-returns Inv-loop μ-loop

@@ -9,7 +9,6 @@ use lib.ListN.{length}
 use Rattle.model.specs.Lists.{sameList}
 use Rattle.model.specs.GrammarOf.{grammarOf}
 use Rattle.model.specs.Readings.{fewNulls, spelled}
-use Rattle.letters.proofs.Laws.{laid-here}
 use Rattle.rules.specs.Paths.{formsOf}
 use Rattle.judge.proofs.Judging.{nulls-are, nulls-many, nulls-few, word-empty, word-long, word-right, fails-forms, fails-lexical, fails-word, surface-decides}
 use Rattle.judge.proofs.reading.levels_right.Statement.{statement}
@@ -47,7 +46,7 @@ returns : tie.Need-returns
 returns c = let a = start (c .before) .args in sym (fails-forms (a .image .now) (a .path .now) (a .pairing .now) (sym (spelled-forms (c .before)) ∙ not-true (c .before .spells-forms .result) (c .if1 .taken)))
 
 lexical-nulls-requires : tie.Need-lexical-nulls-requires
-lexical-nulls-requires c κs = let s = start (c .before) in (laid-here (s .pre .0 .laid), s .pre .1 .1)
+lexical-nulls-requires c κs = let s = start (c .before) in (s .pre .0 .laid, s .pre .1 .1)
 
 returns-2 : tie.Need-returns-2
 returns-2 c =
@@ -56,7 +55,7 @@ returns-2 c =
     sym (fails-lexical (a .image .now) (a .path .now) (a .pairing .now) (forms d) (nulls-many (grammarOf (a .image .now) .lexical) (a .pairing .now) (c .before .lexical-nulls .result) (c .before .lexical-nulls .ensures .0) (c .if2 .taken)))
 
 surface-nulls-requires : tie.Need-surface-nulls-requires
-surface-nulls-requires c κs = let s = start (c .before .before .before) in (laid-here (s .pre .0 .laid), s .pre .1 .1)
+surface-nulls-requires c κs = let s = start (c .before .before .before) in (s .pre .0 .laid, s .pre .1 .1)
 
 sub-letters : tie.Need-sub-letters
 sub-letters c = search needs

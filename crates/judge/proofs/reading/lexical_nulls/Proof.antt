@@ -4,15 +4,16 @@ use native.Mathlib.Omega.{arith}
 use mathlib.Core.Logic.{⊎-elim}
 use Prim.Native.Nat.{_-_}
 use Rattle.model.specs.GrammarOf.{grammarOf}
+use Rattle.letters.proofs.Laws.{laid-pairs}
 use Rattle.judge.proofs.PairingLaws.{lexical-is, listed-at, Counted, counted-none, counted-null, counted-letter, counted-all}
 use Rattle.judge.proofs.reading.lexical_nulls.Statement.{statement}
 use Rattle.judge.proofs.reading.lexical_nulls.Tie as tie
 
 abbrev Inv-loop : tie.InvT-loop
-Inv-loop image pairing n count₀ i₀ count i = Counted (grammarOf image .lexical) pairing count i
+Inv-loop image h pairing n count₀ i₀ count i = Counted (grammarOf image .lexical) pairing count i
 
 abbrev μ-loop : tie.MeasureT-loop
-μ-loop image pairing n count₀ i₀ count i = n - i
+μ-loop image h pairing n count₀ i₀ count i = n - i
 
 loop-holds : tie.Need-loop-holds Inv-loop μ-loop
 loop-holds c = let a = c .before .before .args in counted-none (grammarOf (a .image .now) .lexical) (a .pairing .now)
@@ -24,7 +25,7 @@ lexical-side-requires : tie.Need-lexical-side-requires Inv-loop μ-loop
 lexical-side-requires c κs =
     let at = c .before .before in
     let s = at .before .before .before in
-    (s .pre .0, omega (arith, listed-at (s .args .image .now) (s .args .pairing .now) (at .loop .i) (s .pre .1) (c .before .loop-test .taken), c .byte-at .ensures .0))
+    (s .pre .0, omega (arith, laid-pairs (s .pre .0), listed-at (s .args .image .now) (s .args .pairing .now) (at .loop .i) (s .pre .1) (c .before .loop-test .taken), c .byte-at .ensures .0))
 
 add-count : tie.Need-add-count Inv-loop μ-loop
 add-count c = search needs

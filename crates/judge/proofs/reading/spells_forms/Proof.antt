@@ -10,7 +10,7 @@ use lib.Dec.{eqb}
 use Rattle.model.specs.Lists.{sameList}
 use Rattle.model.specs.GrammarOf.{grammarOf}
 use Rattle.model.specs.Readings.{spelled}
-use Rattle.letters.proofs.Laws.{laid-here}
+use Rattle.letters.proofs.Laws.{laid-pairs}
 use Rattle.rules.specs.Paths.{formsOf}
 use Rattle.rules.proofs.PathLaws.{forms-letters}
 use Rattle.judge.proofs.PairingLaws.{listed-at, lexical-is, spells-null, spells-other, spells-letter, spells-end}
@@ -47,7 +47,7 @@ lexical-side-requires : tie.Need-lexical-side-requires Inv-loop μ-loop
 lexical-side-requires c κs =
     let at = c .before .before in
     let s = at .before .before .before .before in
-    (laid-here (s .pre .0 .laid), omega (arith, listed-at (s .args .image .now) (s .args .pairing .now) (at .loop .i) (s .pre .1 .1) (c .before .loop-test .taken), c .byte-at .ensures .0))
+    (s .pre .0 .laid, omega (arith, laid-pairs (s .pre .0 .laid), listed-at (s .args .image .now) (s .args .pairing .now) (at .loop .i) (s .pre .1 .1) (c .before .loop-test .taken), c .byte-at .ensures .0))
 
 letter-at-requires : tie.Need-letter-at-requires Inv-loop μ-loop
 letter-at-requires c κs = let s = start (c .before .before) in (s .pre .0, s .pre .1 .0)

@@ -3,37 +3,34 @@ use borrow.Author.Needs.{needs}
 use native.Mathlib.Omega.{arith}
 use mathlib.Core.Path.{_≡_, ap, _∙_}
 use mathlib.Core.List.{List}
-use Prim.Native.Nat.{ℕ, _-_, _<_, _≤_}
+use Prim.Native.Nat.{ℕ, _-_, _≤_}
 use lib.ListN.{set}
-use Rattle.model.specs.Blocks.{header, kinds}
+use Rattle.model.specs.Lists.{byte}
+use Rattle.model.specs.Blocks.{header}
+use Rattle.image.specs.Header.{headerOf}
 use Rattle.letters.specs.Marks.{marksOf}
-use Rattle.letters.proofs.Laws.{laid-here, laid-pairs, pair-start, pair-inside, lexical-byte}
+use Rattle.letters.proofs.Laws.{laid-pairs, pair-wide, pair-inside, lexical-byte}
 use Rattle.letters.proofs.MarkLaws.{lexicalBefore, sides-start, sides-more, sides-all}
 use Rattle.letters.proofs.marks.lexical_marks.Statement.{statement}
 use Rattle.letters.proofs.marks.lexical_marks.Tie as tie
 
 abbrev Inv-loop : tie.InvT-loop
-Inv-loop image count marks₀ p₀ marks p = (p ≤ count) × (marks ≡ marksOf (lexicalBefore image p))
+Inv-loop image h count marks₀ p₀ marks p = (p ≤ count) × (marks ≡ marksOf (lexicalBefore image p))
 
 abbrev μ-loop : tie.MeasureT-loop
-μ-loop image count marks₀ p₀ marks p = count - p
+μ-loop image h count marks₀ p₀ marks p = count - p
 
 loop-holds : tie.Need-loop-holds Inv-loop μ-loop
 loop-holds c = (omega arith, sides-start (c .before .args .image .now))
 
-mul-lexical-at : tie.Need-mul-lexical-at Inv-loop μ-loop
-mul-lexical-at c = search needs
-
-add-lexical-at : tie.Need-add-lexical-at Inv-loop μ-loop
-add-lexical-at c = search needs
+side-start-requires : tie.Need-side-start-requires Inv-loop μ-loop
+side-start-requires c κs = let s = c .before .before .before in (s .pre .limits, (omega arith, omega (arith, pair-wide (headerOf (s .args .h)))))
 
 lexical-at-requires : tie.Need-lexical-at-requires Inv-loop μ-loop
-unfolding kinds
 lexical-at-requires c κs =
-    let l = laid-here (c .before .before .before .pre) in
-    let p = c .before .loop .p in
-    let there : p < header (c .before .before .before .args .image .now) .pairs = omega (arith, laid-pairs (c .before .before .before .pre)) in
-    omega (arith, pair-inside l p there, pair-start l p there)
+    let b = c .before .before in
+    let s = b .before .before in
+    omega (arith, pair-inside (s .pre) (b .loop .p) (omega arith) 0 (omega (arith, pair-wide (headerOf (s .args .h)))))
 
 cast-marks : tie.Need-cast-marks Inv-loop μ-loop
 cast-marks c = search needs
@@ -48,14 +45,13 @@ loop-less : tie.Need-loop-less Inv-loop μ-loop
 loop-less c = omega arith
 
 loop-again : tie.Need-loop-again Inv-loop μ-loop
-unfolding kinds
 loop-again c =
-    let b = c .before .before .before in
+    let m = c .before in
+    let b = m .before .before .before in
     let s = b .before .before in
     let image = s .args .image .now in
-    let there : b .loop .p < header image .pairs = omega (arith, laid-pairs (s .pre)) in
-    let side = c .before .lexical-at .ensures ∙ lexical-byte (laid-here (s .pre)) (b .loop .p) _ there (omega (arith, pair-start (laid-here (s .pre)) (b .loop .p) there)) in
-    (omega arith, ap (λ (m : List ℕ). set m (c .before .lexical-at .result .0) 1) (b .loop .inv .1) ∙ sides-more image (b .loop .p) (c .before .lexical-at .result .0) there side (search needs))
+    let side = m .lexical-at .ensures ∙ ap (byte image) (m .before .side-start .ensures) ∙ lexical-byte (s .pre) (b .loop .p) (omega arith) in
+    (omega arith, ap (λ (l : List ℕ). set l (m .lexical-at .result .0) 1) (b .loop .inv .1) ∙ sides-more image (b .loop .p) (m .lexical-at .result .0) (omega (arith, laid-pairs (s .pre))) side (search needs))
 
 array-write-marks-2 : tie.Need-array-write-marks-2 Inv-loop μ-loop
 array-write-marks-2 c = omega arith
@@ -75,8 +71,7 @@ lexical-marks-spec =
     Inv-loop
     μ-loop
     loop-holds
-    mul-lexical-at
-    add-lexical-at
+    side-start-requires
     lexical-at-requires
     cast-marks
     array-write-marks

@@ -10,7 +10,7 @@ use Rattle.image.specs.Header.{headerOf}
 use Rattle.listing.specs.Asked.{wordPattern, wordQuery}
 use Rattle.listing.specs.declared.place.Place.{Place}
 use Rattle.listing.specs.Places.{withLast}
-use Rattle.listing.proofs.Taking.{side-there, image-short, nullsLet, levelLets, rulesLet, SpellsOn, refused-nulls, refused-level, refused-rules, took}
+use Rattle.listing.proofs.Taking.{image-short, nullsLet, levelLets, rulesLet, SpellsOn, refused-nulls, refused-level, refused-rules, took}
 use Rattle.listing.proofs.pairing.take.Statement.{statement}
 use Rattle.listing.proofs.pairing.take.Tie as tie
 
@@ -75,7 +75,7 @@ rules-passed : (c : tie.Else3) → rules (start (lexical (surface (c .before))))
 rules-passed c = sym (rules-test (c .before)) ∙ not-false (c .before .before .step-all .result .alive) (c .if3 .left)
 
 lexical-side-requires : tie.Need-lexical-side-requires
-lexical-side-requires c κs = let s = c .before .before .before .before .before in side-there (s .args .image .now) (headerOf (s .args .h)) (s .pre .0) (s .args .p) (s .pre .1 .1 .1 .0)
+lexical-side-requires c κs = let s = c .before .before .before .before .before in (s .pre .0 .laid, s .pre .1 .1 .1 .0)
 
 spell-requires : tie.Need-spell-requires
 spell-requires c κs =
@@ -90,7 +90,7 @@ returns c t =
     (sym (nulls-test (c .before)) ∙ not-true (c .before .before .spell .result .may) (c .if1 .taken))
 
 surface-side-requires : tie.Need-surface-side-requires
-surface-side-requires c κs = let s = start (c .before) in side-there (s .args .image .now) (headerOf (s .args .h)) (s .pre .0) (s .args .p) (s .pre .1 .1 .1 .0)
+surface-side-requires c κs = let s = start (c .before) in (s .pre .0 .laid, s .pre .1 .1 .1 .0)
 
 pass-requires : tie.Need-pass-requires
 pass-requires c κs = search needs

@@ -8,6 +8,7 @@ use lib.ListN.{length, take}
 use lib.Seq.{take-all}
 use Rattle.model.specs.Lists.{count}
 use Rattle.model.specs.RuleTables.{boundaryPair, pairsAndBoundary, matches}
+use Rattle.letters.proofs.Laws.{laid-pairs}
 use Rattle.tables.specs.Sides.{sidesOf, pairNumber}
 use Rattle.tables.proofs.Lists.{count-more, count-same}
 use Rattle.tables.proofs.Pairs.{length-pairsAndBoundary}
@@ -15,10 +16,10 @@ use Rattle.tables.proofs.columns.breadth_of.Statement.{statement}
 use Rattle.tables.proofs.columns.breadth_of.Tie as tie
 
 abbrev Inv-loop : tie.InvT-loop
-Inv-loop image pairs column n₀ p₀ n p = (p ≤ pairs + 1) × ((n ≤ p) × (n ≡ count (matches (sidesOf column)) (take p (pairsAndBoundary image))))
+Inv-loop image h column pairs n₀ p₀ n p = (p ≤ pairs + 1) × ((n ≤ p) × (n ≡ count (matches (sidesOf column)) (take p (pairsAndBoundary image))))
 
 abbrev μ-loop : tie.MeasureT-loop
-μ-loop image pairs column n₀ p₀ n p = pairs + 1 - p
+μ-loop image h column pairs n₀ p₀ n p = pairs + 1 - p
 
 -- the test of the pair read in a turn
 module _ (c : tie.After-column-matches Inv-loop μ-loop) where
@@ -29,7 +30,7 @@ module _ (c : tie.After-column-matches Inv-loop μ-loop) where
   tested = c .column-matches .ensures ∙ ap (matches (sidesOf (start .args .column))) (c .before .pair-at .ensures)
 
   there : c .before .before .before .loop .p < length (pairsAndBoundary (start .args .image .now))
-  there = let q = start .pre .count in omega (arith, length-pairsAndBoundary (start .args .image .now))
+  there = let q = laid-pairs (start .pre) in omega (arith, length-pairsAndBoundary (start .args .image .now))
 
 loop-holds : tie.Need-loop-holds Inv-loop μ-loop
 loop-holds c = (search needs, (search needs, refl))
@@ -66,7 +67,7 @@ returns c =
     let b = c .before in
     let s = b .before .before in
     let l = pairsAndBoundary (s .args .image .now) in
-    let q = s .pre .count in
+    let q = laid-pairs (s .pre) in
     let h : length l ≤ b .loop .p = omega (arith, length-pairsAndBoundary (s .args .image .now)) in
     b .loop .inv .1 .1 ∙ ap (count (matches (sidesOf (s .args .column)))) (take-all (b .loop .p) l h)
 

@@ -11,10 +11,10 @@ use Rattle.tables.proofs.columns.breadths_of.Statement.{statement}
 use Rattle.tables.proofs.columns.breadths_of.Tie as tie
 
 abbrev Inv-loop : tie.InvT-loop
-Inv-loop image pairs t columns all₀ c₀ all c = (c ≤ columns) × ((length all ≡ 16) × Broad image t c all)
+Inv-loop image h t columns all₀ c₀ all c = (c ≤ columns) × ((length all ≡ 16) × Broad image t c all)
 
 abbrev μ-loop : tie.MeasureT-loop
-μ-loop image pairs t columns all₀ c₀ all c = columns - c
+μ-loop image h t columns all₀ c₀ all c = columns - c
 
 loop-holds : tie.Need-loop-holds Inv-loop μ-loop
 loop-holds c = (search needs, (search needs, broad-none _ _ _))

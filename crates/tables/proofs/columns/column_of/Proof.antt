@@ -14,11 +14,11 @@ use Rattle.tables.proofs.columns.column_of.Statement.{statement}
 use Rattle.tables.proofs.columns.column_of.Tie as tie
 
 abbrev Inv-loop : tie.InvT-loop
-Inv-loop image pairs t columns breadths p pair best₀ least₀ c₀ best least c =
+Inv-loop image t columns breadths p pair best₀ least₀ c₀ best least c =
     (c ≤ columns) × NarrowestSoFar (matching (pairsAndBoundary image) t (pairOf pair)) (broad (pairsAndBoundary image) t (pairOf pair)) columns 252 c best least
 
 abbrev μ-loop : tie.MeasureT-loop
-μ-loop image pairs t columns breadths p pair best₀ least₀ c₀ best least c = columns - c
+μ-loop image t columns breadths p pair best₀ least₀ c₀ best least c = columns - c
 
 -- the column read in a turn
 module _ (c : tie.After-column-matches Inv-loop μ-loop) where
@@ -41,7 +41,7 @@ module _ (c : tie.After-column-matches Inv-loop μ-loop) where
   wide = start .pre .1 .1 .0 .each (at .loop .c) (c .before .before .loop-test .taken)
 
   small : breadth-by (at .loop .c) < 252
-  small = breadth-most (start .args .image .now) (start .args .pairs) (start .pre .0) (column (start .args .t .now) (at .loop .c))
+  small = breadth-most (start .pre .0) (column (start .args .t .now) (at .loop .c))
 
 pair-at-requires : tie.Need-pair-at-requires Inv-loop μ-loop
 pair-at-requires c κs = search needs

@@ -12,6 +12,7 @@ use lib.Seq.{take-all}
 use borrow.Author.Tests.{lt-ltb, le-ltb}
 use Rattle.model.specs.Lists.{every}
 use Rattle.model.specs.RuleTables.{pairsAndBoundary, columnCount}
+use Rattle.letters.proofs.Laws.{laid-pairs}
 use Rattle.tables.specs.Sides.{pairNumber}
 use Rattle.tables.specs.Breadths.{columnsBy}
 use Rattle.tables.proofs.Lists.{front-more, every-take-more, every-take-fails}
@@ -23,11 +24,11 @@ abbrev isColumn : List ℕ → ℕ → Bool
 isColumn t c = ltb c (columnCount t)
 
 abbrev Inv-loop : tie.InvT-loop
-Inv-loop image pairs t columns breadths out₀ count all₀ p₀ out all p =
+Inv-loop image h t columns breadths out₀ count all₀ p₀ out all p =
     (p ≤ count) × ((length out ≡ length out₀) × ((out ≡ take p (columnsBy image t) ++ drop p out₀) × (all ≡ every (isColumn t) (take p (columnsBy image t)))))
 
 abbrev μ-loop : tie.MeasureT-loop
-μ-loop image pairs t columns breadths out₀ count all₀ p₀ out all p = count - p
+μ-loop image h t columns breadths out₀ count all₀ p₀ out all p = count - p
 
 -- the column taken in a turn
 module _ (c : tie.After-column-of Inv-loop μ-loop) where
@@ -35,7 +36,7 @@ module _ (c : tie.After-column-of Inv-loop μ-loop) where
   at = c .before .before
 
   abbrev start : tie.Start Inv-loop μ-loop
-  start = at .before .before .before .before
+  start = at .before .before .before .before .before
 
   abbrev all-columns : List ℕ
   all-columns = columnsBy (start .args .image .now) (start .args .t .now)
@@ -50,7 +51,7 @@ module _ (c : tie.After-column-of Inv-loop μ-loop) where
   most = let e = c .column-of .ensures in omega (arith, taken-most (pairsAndBoundary (start .args .image .now)) (start .args .t .now) (pairNumber (start .args .image .now) (at .loop .p)))
 
   there : at .loop .p < length all-columns
-  there = let q = start .pre .0 .count in omega (arith, length-columns (start .args .image .now) (start .args .t .now))
+  there = let q = laid-pairs (start .pre .0) in omega (arith, length-columns (start .args .image .now) (start .args .t .now))
 
 add-count : tie.Need-add-count Inv-loop μ-loop
 add-count c = search needs
@@ -59,7 +60,7 @@ loop-holds : tie.Need-loop-holds Inv-loop μ-loop
 loop-holds c = (search needs, (refl, (refl, refl)))
 
 column-of-requires : tie.Need-column-of-requires Inv-loop μ-loop
-column-of-requires c κs = let s = c .before .before .before .before .before in (s .pre .0, (s .pre .1 .0, (s .pre .1 .1 .0, omega arith)))
+column-of-requires c κs = let s = c .before .before .before .before .before .before in (s .pre .0, (s .pre .1 .0, (s .pre .1 .1 .0, omega arith)))
 
 cast-out : tie.Need-cast-out Inv-loop μ-loop
 cast-out c = let q = start c .pre .1 .0 in omega (arith, most c)
@@ -105,10 +106,10 @@ same-length c = c .before .loop .inv .1 .0
 returns : tie.Need-returns Inv-loop μ-loop
 returns c =
     let b = c .before in
-    let s = b .before .before .before .before in
+    let s = b .before .before .before .before .before in
     let l = columnsBy (s .args .image .now) (s .args .t .now) in
-    let q = s .pre .0 .count in
-    let e : b .loop .p ≡ s .args .pairs + 1 = omega arith in
+    let q = laid-pairs (s .pre .0) in
+    let e : b .loop .p ≡ s .args .h .pairs + 1 = omega arith in
     let h : length l ≤ b .loop .p = omega (arith, length-columns (s .args .image .now) (s .args .t .now)) in
     let a = take-all (b .loop .p) l h in
     (b .loop .inv .1 .1 .0 ∙ ap₂ (λ (k : List ℕ) (n : ℕ). k ++ drop n (s .args .out .now)) a e, b .loop .inv .1 .1 .1 ∙ ap (every (isColumn (s .args .t .now))) a)
