@@ -1,7 +1,6 @@
--- Loops that try fewer than all numbers below a bound, and lose nothing: a range, or those that pass a test.
+-- Loops that try fewer than all numbers below a bound, and lose nothing: those that pass a test.
 use Prim.Native.Nat.{ℕ, zero, suc, _+_, _<_, _≤_}
 use native.Mathlib.Omega.{arith}
-use native.Mathlib.Decide.{decLt}
 use mathlib.Core.Bool.{Bool, true, false}
 use mathlib.Core.Path.{_≡_, refl, sym, ap, ap₂, _∙_}
 use mathlib.Core.List.{List, [], _∷_, _++_, append-nil}
@@ -40,28 +39,10 @@ module _ {B : Type 0} (f : ℕ → List B) where
       go true t r = ap (λ (l : List B). f x ++ l) r
       go false t r = ap₂ (λ (k l : List B). k ++ l) (e x t) r
 
-  -- nothing is found below low or from high on
+  -- nothing is found below a bound
   pub below-low : (low n : ℕ) → ((x : ℕ) → x < low → f x ≡ []) → n ≤ low → flatMap f (below n) ≡ []
   below-low low zero e h = refl
   below-low low (suc n) e h = flatMap-below f n ∙ ap₂ (λ (k l : List B). k ++ l) (below-low low n e (omega arith)) (e n h)
-
-  same-below : (k m : ℕ) → k ≡ m → flatMap f (below k) ≡ flatMap f (below m)
-  same-below k m e = ap (λ (k : ℕ). flatMap f (below k)) e
-
-  pub below-range : (low n m : ℕ) → ((x : ℕ) → x < low → f x ≡ []) → ((x : ℕ) → low + n ≤ x → f x ≡ []) → low + n ≤ m → flatMap f (below m) ≡ flatMap (λ i. f (low + i)) (below n)
-  below-range low n m before after h = top m h ∙ middle n
-    where
-      middle : (i : ℕ) → flatMap f (below (low + i)) ≡ flatMap (λ i. f (low + i)) (below i)
-      middle zero = same-below (low + 0) low (omega arith) ∙ below-low low low before (omega arith)
-      middle (suc i) = same-below (low + suc i) (suc (low + i)) (omega arith) ∙ flatMap-below f (low + i) ∙ ap (λ (l : List B). l ++ f (low + i)) (middle i) ∙ sym (flatMap-below (λ i. f (low + i)) i)
-
-      step : (k : ℕ) → Dec (k < low + n) → low + n ≤ suc k → (low + n ≤ k → flatMap f (below k) ≡ flatMap f (below (low + n))) → flatMap f (below (suc k)) ≡ flatMap f (below (low + n))
-      step k (yes l) h r = same-below (suc k) (low + n) (omega arith)
-      step k (no l) h r = flatMap-below f k ∙ ap₂ (λ (x y : List B). x ++ y) (r (omega arith)) (after k (omega arith)) ∙ append-nil (flatMap f (below (low + n)))
-
-      top : (k : ℕ) → low + n ≤ k → flatMap f (below k) ≡ flatMap f (below (low + n))
-      top zero h = same-below 0 (low + n) (omega arith)
-      top (suc k) h = step k (decLt k (low + n)) h (top k)
 
 -- each of those that pass a test passes it
 pub only-passes : (test : ℕ → Bool) (xs : List ℕ) (i : ℕ) → i < length (only test xs) → test (getD (only test xs) i 0) ≡ true

@@ -67,10 +67,6 @@ module _ (image : List ℕ) (h : Header) (a : Accepted image h) (e : ℕ) (insid
     unfolding grammarOf
     form-is = rest-is
 
-    rules-are : grammarOf image .rules ≡ header image .rules
-    unfolding grammarOf
-    rules-are = refl
-
     pub entered-node : (q : Query) (n p : ℕ) → nodeOf image (entered at len place) (suc n) p ≡ goAt (grammarOf image) q true (nodeOf image place n p) (suc e)
     unfolding nodeOf goAt
     entered-node q n p = λ i.

@@ -5,6 +5,7 @@ use mathlib.Core.Path.{_≡_}
 use mathlib.Core.List.{List}
 use Rattle.model.specs.Lexicon.{inLexicon}
 use Rattle.model.specs.Query.{Pattern}
+use Rattle.listing.specs.declared.opening.Range.{Range}
 use Rattle.listing.specs.Places.{waysAfter}
 
 -- entry e may open after entry `last`, with n entries read, where this is asked of the path
@@ -22,6 +23,10 @@ pub record Ranged (may : ℕ → Bool) (bound low high : ℕ) : Type 0 where
   pub inside : (e : ℕ) → low ≤ e → e < high → may e ≡ true
   pub before : (e : ℕ) → e < low → may e ≡ false
   pub past : (e : ℕ) → high ≤ e → may e ≡ false
+
+-- what is told of the entries that may open at a place: today all of them, as a range; none opens before its low end
+abbrev pub WaysOf : (ℕ → Bool) → ℕ → Range → Type 0
+WaysOf may bound ways = Ranged may bound (ways .low) (ways .high)
 
 -- e is the first from some number on that passes a test, or the bound where none does
 pub record NextOf (may : ℕ → Bool) (bound from e : ℕ) : Type 0 where

@@ -10,7 +10,7 @@ ghost use Rattle.image.specs.Accepted.{Accepted};
 ghost use Rattle.image.specs.Index.{indexOf};
 ghost use Rattle.listing.specs.Asked.{pathPattern};
 ghost use Rattle.listing.specs.Places.{root};
-ghost use Rattle.listing.specs.Opening.{mayEnter, mayEnterIn, Ranged, NextOf};
+ghost use Rattle.listing.specs.Opening.{mayEnter, mayEnterIn, Ranged, WaysOf, NextOf};
 use crate::asked::PathAsked;
 use crate::place::ROOT;
 use image::Header;
@@ -85,7 +85,7 @@ pub fn ways_on(
     requires { ⌜ Accepted (now image) (headerOf h) ⌝ }
     requires { ⌜ now index ≡ indexOf (now image) ⌝ }
     requires { ⌜ (last ≡ root) ⊎ (last < h .entries) ⌝ }
-    ensures { λ r. ⌜ Ranged (mayEnter (now (image .entry)) (pathPattern asked (now (path .entry))) last n) (header (now (image .entry)) .entries) (r .low) (r .high) ⌝ }
+    ensures { λ r. ⌜ WaysOf (mayEnter (now (image .entry)) (pathPattern asked (now (path .entry))) last n) (header (now (image .entry)) .entries) r ⌝ }
 {
     if last == ROOT {
         return open_range(image, index, h, asked, path, 0, n);
@@ -100,7 +100,7 @@ pub fn ways_on(
 // The next entry that may open, from one on that is not before the first of them; the number of entries where there is none.
 pub fn next_entry(h: Header, ways: Range, from: usize) -> usize
     requires { ⌜ (ways .low ≤ from) × (from ≤ h .entries) ⌝ }
-    ensures { λ r. ⌜ ((may : ℕ → Bool) → Ranged may (h .entries) (ways .low) (ways .high) → NextOf may (h .entries) from r) ⌝ }
+    ensures { λ r. ⌜ ((may : ℕ → Bool) → WaysOf may (h .entries) ways → NextOf may (h .entries) from r) ⌝ }
 {
     let high = ways.high;
     if from < high {

@@ -62,7 +62,8 @@ pub fn may_stop(image: &[u8], h: Header, place: Place) -> bool
     lexicon::continuation_of(image, h, last) == 255
 }
 
-// Whether the path can only end here: then it is ended without looking for entries. An entry of form 1 has one way on.
+// True only where the path can only end here: then it is ended without looking for entries. An entry of form 1 has one way on. Where it is false, time
+// is lost and nothing else.
 pub fn only_stops(image: &[u8], h: Header, place: Place) -> bool
     requires { ⌜ Accepted (now image) (headerOf h) ⌝ }
     requires { ⌜ Standing (now image) place ⌝ }

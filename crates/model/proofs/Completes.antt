@@ -1,10 +1,10 @@
 -- What follows a node: the paths and pairings that complete it, there and back for each kind of step.
 use Prim.Native.Nat.{ℕ, zero, suc, _+_, _<_, _≤_}
-use mathlib.Core.Bool.{Bool, true, false, _&&_, not, true≢false, false≢true}
-use mathlib.Core.Path.{_≡_, refl, sym, ap, _∙_, subst}
+use mathlib.Core.Bool.{Bool, true, false, _&&_, not, true≢false}
+use mathlib.Core.Path.{_≡_, refl, sym, ap}
 use mathlib.Core.List.{List, [], _∷_, _++_, map, head-eq-of-cons-eq, tail-eq-of-cons-eq}
 use lib.ListN.{length}
-use lib.Dec.{T, leb, ltb, eqb, leb→le, le→leb, ltb→lt, lt→ltb, eqb→eq}
+use lib.Dec.{T, leb, ltb, leb→le, le→leb, ltb→lt, lt→ltb, eqb→eq}
 use native.Mathlib.Omega.{arith}
 use Rattle.model.specs.Lists.{every, joined}
 use Rattle.model.specs.Lexicon.{linked}
@@ -12,7 +12,7 @@ use Rattle.model.specs.Grammar.{Grammar}
 use Rattle.model.specs.Readings.{nulls, withoutNulls, spelled}
 use Rattle.model.specs.Query.{Query, fits}
 use Rattle.model.specs.Tree.{Node, opens, isNil, spells, left, nullsAnd, levelMay, levelEnds, stepAll, alive, finish, countAt, mayAt, goAt, complete}
-use Rattle.model.proofs.Booleans.{and-out, and-in, out3, in3, out4, in4, out5, in5, eq→eqb, not-out, true-of, of-true}
+use Rattle.model.proofs.Booleans.{and-out, and-in, out3, in3, out5, in5, eq→eqb, not-out, true-of, of-true}
 use Rattle.model.proofs.Rules.{passesFrom, passes-alive, passes-from, passes-to, finish-from, finish-to}
 use Rattle.model.proofs.Levels.{LevelSane, LevelDone, level-to, level-from, level-end-to, level-end-from, level-sane, nulls-step}
 

@@ -1,9 +1,9 @@
 -- Where no entry both ends a path and goes on, the order of the step lists with endings is that of document 01's step lists. So it is for every image of form 1.
-use Prim.Native.Nat.{ℕ, zero, suc, _+_, _<_, _≤_}
-use mathlib.Core.Bool.{Bool, true, false, _&&_, not}
-use mathlib.Core.Path.{_≡_, refl, sym, ap, ap₂, _∙_, subst}
-use mathlib.Core.Logic.{_⊎_, inl, inr}
-use mathlib.Core.List.{List, [], _∷_, _++_, map, List·Memᴰ, List·Memᴰ·head, List·Memᴰ·tail, Memᴰ·map, Memᴰ·cast}
+use Prim.Native.Nat.{ℕ, zero, suc, _+_}
+use mathlib.Core.Bool.{Bool, true, false, not}
+use mathlib.Core.Path.{_≡_, refl, sym, ap, _∙_, subst}
+use mathlib.Core.Logic.{inl, inr}
+use mathlib.Core.List.{List, [], _∷_, _++_, map, List·Memᴰ, List·Memᴰ·head, List·Memᴰ·tail, Memᴰ·map}
 use lib.ListN.{length, length-append}
 use lib.Dec.{T, ltb, eqb}
 use native.Mathlib.Omega.{arith}
@@ -33,10 +33,10 @@ module _ (g : Grammar) where
   total es = length (joined (map (g .form) es))
 
   -- what is to be shown of two paths from one place, for all pairings that spell them
-  abbrev Keeps : List ℕ → List ℕ → Type 0
-  Keeps es fs = (ps qs : List ℕ) → letters ps ≡ total es → letters qs ≡ total fs → Before (endingList g es ps) (endingList g fs qs) → Before (stepList g es ps) (stepList g fs qs)
+  abbrev KeepsOrder : List ℕ → List ℕ → Type 0
+  KeepsOrder es fs = (ps qs : List ℕ) → letters ps ≡ total es → letters qs ≡ total fs → Before (endingList g es ps) (endingList g fs qs) → Before (stepList g es ps) (stepList g fs qs)
 
-  keeps-split : (es fs : List ℕ) → Keeps es fs → (k : ℕ) (ps qs : List ℕ) → letters ps ≡ k + total es → letters qs ≡ k + total fs
+  keeps-split : (es fs : List ℕ) → KeepsOrder es fs → (k : ℕ) (ps qs : List ℕ) → letters ps ≡ k + total es → letters qs ≡ k + total fs
       → Before (upTo g k ps ++ endingList g es (beyond g k ps)) (upTo g k qs ++ endingList g fs (beyond g k qs))
       → Before (upTo g k ps ++ stepList g es (beyond g k ps)) (upTo g k qs ++ stepList g fs (beyond g k qs))
   unfolding upTo beyond
@@ -56,7 +56,7 @@ module _ (g : Grammar) where
             (keeps-split es fs r m ps qs (letters-left (g .lexical q) k (total es) (map (g .lexical) ps) (rw e at a)) (letters-left (g .lexical q) k (total fs) (map (g .lexical) qs) b) (rw e at (h .1))),
       )
 
-  pub keeps : OneWay g → (may : ℕ → Bool) (stop : Bool) → ((f : ℕ) → T stop → T (may f) → ⊥) → (es fs : List ℕ) → T (linked (g .entries) (g .follows) (g .ends) may stop es) → T (linked (g .entries) (g .follows) (g .ends) may stop fs) → Keeps es fs
+  pub keeps : OneWay g → (may : ℕ → Bool) (stop : Bool) → ((f : ℕ) → T stop → T (may f) → ⊥) → (es fs : List ℕ) → T (linked (g .entries) (g .follows) (g .ends) may stop es) → T (linked (g .entries) (g .follows) (g .ends) may stop fs) → KeepsOrder es fs
   unfolding stepList endingList linked
   keeps w may stop none [] [] s t ps qs a b (inl h) = absurd (omega arith)
   keeps w may stop none [] [] s t ps qs a b (inr h) = h .1
@@ -103,7 +103,7 @@ module _ (g : Grammar) where
   plain-listing w q = record { only = (listing g q) .only; every-one = (listing g q) .every-one; in-order = plain-order w q }
 
   -- "the last and only the last with 255": an entry that ends a path stands last
-  pub ends-last : OneWay g → (may : ℕ → Bool) (stop : Bool) (es : List ℕ) (e f : ℕ) (fs : List ℕ) → T (linked (g .entries) (g .follows) (g .ends) may stop (es ++ (e ∷ f ∷ fs))) → T (g .ends e) → ⊥
+  ends-last : OneWay g → (may : ℕ → Bool) (stop : Bool) (es : List ℕ) (e f : ℕ) (fs : List ℕ) → T (linked (g .entries) (g .follows) (g .ends) may stop (es ++ (e ∷ f ∷ fs))) → T (g .ends e) → ⊥
   unfolding linked
   ends-last w may stop [] e f fs t s =
       let u = out3 (may e) (ltb e (g .entries)) (onward e (f ∷ fs)) t in
@@ -120,6 +120,9 @@ image-one-way image e f s t = let u = and-out (not (eqb (continuation (entry ima
     never : (b : Bool) → T b → T (not b) → ⊥
     never true s t = t
     never false s t = s
+
+pub image-ends-last : (image es : List ℕ) (e f : ℕ) (fs : List ℕ) → T (isLinked (grammarOf image) (es ++ (e ∷ f ∷ fs))) → T (grammarOf image .ends e) → ⊥
+image-ends-last image es e f fs = ends-last (grammarOf image) (image-one-way image) (grammarOf image .begins) false es e f fs
 
 pub image-listing : (image : List ℕ) (q : Query) → IsListing (grammarOf image) q (readings (grammarOf image) q)
 image-listing image q = plain-listing (grammarOf image) (image-one-way image) q

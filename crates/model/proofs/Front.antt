@@ -1,8 +1,8 @@
 -- The front of a word: a rule that fails on the boundary pair there leaves no reading, and rules that stay in state 1 there read as if they were fed the
 -- boundary pair at the end alone.
 use Prim.Native.Nat.{ℕ, _<_}
-use mathlib.Core.Bool.{Bool, false, _&&_, not}
-use mathlib.Core.Path.{_≡_, refl, ap, _∙_, subst}
+use mathlib.Core.Bool.{false, _&&_, not}
+use mathlib.Core.Path.{_≡_, ap, _∙_, subst}
 use mathlib.Core.List.{List, [], _∷_, _++_, map}
 use lib.ListN.{getD}
 use lib.Dec.{T, ltb}

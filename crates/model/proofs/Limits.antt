@@ -1,11 +1,11 @@
 -- Each limit and each place of a layout, at it and past it: a changed number in a definition fails here. Rows of tests: the answers, in order.
 use Prim.Native.Nat.{ℕ, _+_, _-_, _*_}
-use mathlib.Core.Bool.{Bool, true, false}
+use mathlib.Core.Bool.{true, false}
 use mathlib.Core.Path.{_≡_, refl}
 use mathlib.Core.List.{List, [], _∷_, _++_, map}
-use lib.ListN.{length, take, drop, replicate, set}
-use Rattle.model.specs.Lists.{below, joined, flatMap, numberBytes}
-use Rattle.model.specs.Blocks.{Header, checkOf, header, laidOut, withinLimits, inAll, recordWidth, perBlock, firstBlock, recordStart, blockTotal, kindAt, recordsAt, sealedImage}
+use lib.ListN.{take, replicate, set}
+use Rattle.model.specs.Lists.{below, numberBytes}
+use Rattle.model.specs.Blocks.{Header, checkOf, laidOut, withinLimits, inAll, recordWidth, perBlock, firstBlock, recordStart, blockTotal, kindAt, recordsAt}
 use Rattle.model.specs.RuleTables.{Pair, Sides, codePoints, isCodePoint, pairs, isPair, table, column, isTable, nextState, isFinal, pairsAndBoundary, breadth, columnsOf}
 use Rattle.model.specs.Lexicon.{entryCount, firstEntry, entry, formOf, continuation, gloss, isEntry, pathLength}
 use Rattle.model.specs.Readings.{wordLength, pairingLength}

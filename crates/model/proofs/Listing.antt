@@ -1,7 +1,7 @@
 -- The listing theorem: for every grammar and query, `readings` has only readings that answer the query, has every one of them, and ascends strictly by
 -- the step lists with endings, so each stands once; and any list with these properties equals it. Document 01's step lists are proofs/Endings.antt's.
 use Prim.Native.Nat.{ℕ, zero, suc, _+_, _<_, _≤_}
-use mathlib.Core.Bool.{Bool, true, false, true≢false}
+use mathlib.Core.Bool.{Bool, true, false}
 use mathlib.Core.Path.{_≡_, refl, sym, ap, _∙_, subst}
 use mathlib.Core.Logic.{_↔_}
 use mathlib.Core.List.{List, [], _∷_, map, List·Memᴰ, List·Memᴰ·head, List·Memᴰ·tail, Memᴰ·map, Memᴰ·cast}

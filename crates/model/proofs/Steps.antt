@@ -1,5 +1,5 @@
 -- The step list, one step on: what a node with letters left has still to list.
-use Prim.Native.Nat.{ℕ, zero, suc, _+_, _≤_}
+use Prim.Native.Nat.{ℕ, zero, suc, _+_}
 use mathlib.Core.Bool.{Bool, true, false}
 use mathlib.Core.Path.{_≡_, refl, sym, ap, ap₂, _∙_}
 use mathlib.Core.List.{List, [], _∷_, _++_}
@@ -19,11 +19,12 @@ after-none zero = refl
 after-none (suc a) = refl
 
 module _ (g : Grammar) where
-  -- the steps of these entries and pairs, with k letters of the last entry left
+  -- what comes after the last entry's letters, by whether the path has ended
   abbrev pub tailSteps : Bool → List ℕ → List ℕ → List ℕ
   tailSteps true es ps = ps
   tailSteps false es ps = endingList g es ps
 
+  -- the steps of these entries and pairs, with k letters of the last entry left
   abbrev pub stepsLeft : Bool → ℕ → List ℕ → List ℕ → List ℕ
   stepsLeft d k es ps = upTo g k ps ++ tailSteps d es (beyond g k ps)
 

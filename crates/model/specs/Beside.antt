@@ -6,7 +6,7 @@ use lib.ListN.{take, drop}
 use Rattle.model.specs.Blocks.{header, recordStart}
 use Rattle.model.specs.Lexicon.{entry, formLength}
 use Rattle.model.specs.GrammarOf.{grammarOf}
-use Rattle.model.specs.Readings.{Reading, isReading}
+use Rattle.model.specs.Readings.{isReading}
 use Rattle.model.specs.Query.{entryNumbers}
 use Rattle.model.specs.Refusals.{Verdict, firstFailing, judgeTests, viewTests}
 

@@ -1,6 +1,6 @@
 -- Document 01, "Lexicon": entries of an image, the entries of a lexicon, and paths.
 use Prim.Native.Nat.{ℕ, _+_}
-use mathlib.Core.Bool.{Bool, _&&_, _||_, not}
+use mathlib.Core.Bool.{Bool, _&&_, _||_}
 use mathlib.Core.List.{List, [], _∷_, map}
 use lib.ListN.{length, take, drop}
 use lib.Dec.{leb, ltb, eqb}
@@ -48,7 +48,8 @@ module _ (entry : List ℕ) where
   isEntry letters lexicons = isEntryOf (within 2 letters) lexicons
 
 -- "A path is 1-16 entries, the first from lexicon 0, each next from its predecessor's continuation, the last and only the last with 255."
--- By the number of entries, which may begin, which may follow which, and which may end a path.
+-- By the number of entries, which may begin, which may follow which, and which may end a path. "only the last" is a matter of which may follow: `follows` in
+-- GrammarOf, and `image-ends-last` in proofs/Endings.antt.
 module _ (entries : ℕ) (follows : ℕ → ℕ → Bool) (ends : ℕ → Bool) where
   -- from a place where these entries may open, or the path may stop
   unfoldable pub linked : (ℕ → Bool) → Bool → List ℕ → Bool

@@ -1,11 +1,11 @@
 -- Document 01, "Readings and step order": readings of a grammar, their step lists, and the order of step lists.
 use Prim.Native.Nat.{ℕ, zero, suc, _<_}
-use mathlib.Core.Bool.{Bool, true, false, _&&_, _||_}
+use mathlib.Core.Bool.{Bool, false, _&&_}
 use mathlib.Core.Path.{_≡_}
 use mathlib.Core.Logic.{_⊎_}
 use mathlib.Core.List.{List, [], _∷_, _++_, map, List·Memᴰ}
 use lib.ListN.{length}
-use lib.Dec.{leb, ltb, eqb}
+use lib.Dec.{leb, ltb}
 use Rattle.model.specs.Lists.{below, every, joined, sameList, within}
 use Rattle.model.specs.RuleTables.{fed, accepts}
 use Rattle.model.specs.Lexicon.{linked, pathLength}

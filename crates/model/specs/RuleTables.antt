@@ -1,10 +1,10 @@
 -- Document 01, "Letters, pairs, rule tables": letters and pairs of an image, the column that a pair takes, states, and when a rule accepts.
 use Prim.Native.Nat.{ℕ, zero, suc, _+_, _*_}
-use mathlib.Core.Bool.{Bool, true, false, _&&_, _||_, not}
+use mathlib.Core.Bool.{Bool, false, _&&_, _||_, not}
 use mathlib.Core.List.{List, [], _∷_, _++_, map}
-use lib.ListN.{getD, take, drop}
+use lib.ListN.{take, drop}
 use lib.Dec.{leb, ltb, eqb}
-use Rattle.model.specs.Lists.{below, every, count, first, distinct, within, isZero, byte, number}
+use Rattle.model.specs.Lists.{below, every, count, first, within, isZero, byte, number}
 use Rattle.model.specs.Blocks.{header, recordAt}
 
 -- a pair: "The two levels have their own letters"

@@ -32,7 +32,7 @@ abbrev pub isNil : List ℕ → Bool
 isNil [] = true
 isNil (x ∷ xs) = false
 
--- the next entry opens as soon as the last letter of the one before is paired
+-- the next entry opens, or the path ends, as soon as the last letter of the one before is paired
 abbrev pub opens : Node → Bool
 opens n = isNil (n .rest) && not (n .ended)
 

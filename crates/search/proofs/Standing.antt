@@ -2,11 +2,11 @@
 use Prim.Native.Nat.{ℕ, suc, _<_, _≤_}
 use native.Mathlib.Omega.{arith}
 use native.Mathlib.Decide.{decLt}
-use mathlib.Core.Bool.{Bool, true, false, not, true≢false}
-use mathlib.Core.Path.{_≡_, refl, sym, ap, _∙_}
+use mathlib.Core.Bool.{false}
+use mathlib.Core.Path.{_≡_, refl, sym, ap}
 use mathlib.Core.List.{List, [], _∷_}
-use lib.Dec.{T, eqb}
-use borrow.Author.Tests.{le-leb, lt-leb, eqb-true}
+use lib.Dec.{T}
+use borrow.Author.Tests.{le-leb, lt-leb}
 use Rattle.model.specs.Lists.{every, within, byte}
 use Rattle.model.specs.Blocks.{header}
 use Rattle.model.specs.GrammarOf.{grammarOf}
@@ -14,7 +14,7 @@ use Rattle.model.specs.Query.{Query}
 use Rattle.model.specs.Tree.{opens, complete}
 use Rattle.model.proofs.Booleans.{and-out, within-out}
 use Rattle.listing.specs.declared.place.Place.{Place}
-use Rattle.listing.specs.Places.{ended, restOf, nodeOf, Standing}
+use Rattle.listing.specs.Places.{restOf, nodeOf, Standing}
 use Rattle.listing.specs.Search.{headOf}
 use Rattle.listing.proofs.Taking.{part-nil, part-cons}
 use Rattle.search.specs.Here.{opensAt}

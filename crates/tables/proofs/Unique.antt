@@ -1,14 +1,14 @@
 -- A rule of an image that passes test 7 has exactly one narrowest column for each pair and the boundary: the one that it takes.
-use Prim.Native.Nat.{ℕ, _<_, _≤_}
+use Prim.Native.Nat.{ℕ, _<_}
 use native.Mathlib.Omega.{arith}
-use mathlib.Core.Bool.{Bool, true, false, _&&_, _||_, not, cond}
-use mathlib.Core.Path.{_≡_, refl, sym, ap, subst, _∙_}
+use mathlib.Core.Bool.{Bool, true, false, _||_, not, cond}
+use mathlib.Core.Path.{_≡_, refl, sym}
 use mathlib.Core.Logic.{_⊎_, inl, inr, ⊎-elim}
 use mathlib.Core.List.{List, [], _∷_}
 use lib.Dec.{T, ltb, eqb, ltb→lt, eqb→eq}
 use Rattle.model.specs.Lists.{below, every, first}
 use Rattle.model.specs.RuleTables.{Pair, matches, breadth, column, columnCount, takesColumn, columnFor}
-use Rattle.model.proofs.Booleans.{and-out, not-both, true-of, of-true}
+use Rattle.model.proofs.Booleans.{and-out, not-both, of-true}
 use Rattle.model.proofs.Lists.{every-at, below-has}
 
 or-out : (a b : Bool) → T (a || b) → T a ⊎ T b

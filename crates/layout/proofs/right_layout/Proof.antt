@@ -1,7 +1,7 @@
 -- `right_layout` meets its contract: the four parts of the test, in their order.
 use borrow.Author.Needs.{needs}
 use borrow.Author.Tests.{not-true, not-false}
-use mathlib.Core.Bool.{true, false}
+use mathlib.Core.Bool.{true}
 use mathlib.Core.Path.{_≡_, sym, _∙_}
 use Rattle.model.specs.Blocks.{withinLimits}
 use Rattle.model.proofs.Sealing.{right-some}

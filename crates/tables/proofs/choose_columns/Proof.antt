@@ -2,7 +2,6 @@
 use borrow.Author.Needs.{needs}
 use Prim.Native.Nat.{_+_}
 use lib.ListN.{drop}
-use Rattle.model.specs.RuleTables.{table}
 use Rattle.image.specs.Header.{headerOf}
 use Rattle.tables.specs.Breadths.{Columned}
 use Rattle.tables.proofs.Laws.{read-columned, columns-written, columns-tested}

@@ -1,7 +1,7 @@
 -- `pass` meets its contract: a null, a letter that is not asked for, or one that is.
 use borrow.Author.Needs.{needs}
 use borrow.Author.Tests.{not-true, not-false}
-use mathlib.Core.Bool.{true, false, false≢true}
+use mathlib.Core.Bool.{false≢true}
 use mathlib.Core.Path.{sym, _∙_}
 use Rattle.listing.specs.Asked.{wordPattern}
 use Rattle.listing.proofs.Levels.{null-may, null-go, null-bounded, letter-not, letter-may, letter-go, letter-bounded}

@@ -9,31 +9,31 @@ use mathlib.Core.Logic.{⊎-elim}
 use mathlib.Core.Path.{_≡_, refl, sym, ap, _∙_, subst}
 use mathlib.Core.List.{List, []}
 use lib.ListN.{length, set}
-use Rattle.model.specs.Blocks.{Header, header}
+use Rattle.model.specs.Blocks.{Header}
 use Rattle.model.specs.Query.{Query}
 use Rattle.model.specs.Readings.{Reading}
 use Rattle.image.specs.Header.{headerOf}
-use Rattle.rows.specs.declared.Trail.{Trail}
 use Rattle.rows.specs.Trail.{readingOf, withEntry, Holds}
 use Rattle.rows.specs.Fill.{put}
 use Rattle.rows.specs.Offering.{offerAll}
 use Rattle.rows.proofs.Longer.{longer-entry}
 use Rattle.rows.proofs.Offering.{offer-none}
 use Rattle.rows.proofs.Fill.{put-keeps}
+use Rattle.listing.specs.declared.opening.Range.{Range}
 use Rattle.listing.specs.Asked.{pathPattern, queryBy}
-use Rattle.listing.specs.Opening.{mayEnter, Ranged, NextOf}
+use Rattle.listing.specs.Opening.{mayEnter, WaysOf, NextOf}
 use Rattle.listing.proofs.Searching.{stopOne, stop-none, entryOne}
-use Rattle.search.proofs.Turns.{Turns, turns-none, turns-more, turns-skip, turns-far, turns-stop, turns-all, turns-is, state-is}
+use Rattle.search.proofs.Turns.{turns-none, turns-more, turns-skip, turns-far, turns-stop, turns-all, turns-is, state-is}
 use Rattle.search.proofs.Heads.{Opening, last-in, stop-fills, stop-underway, stop-less, stop-turn, open-last, entry-few, open-offered, entry-none, open-underway, open-less, open-turn}
 use Rattle.search.proofs.FirstLetters.{Known, known-none, known-more}
 use Rattle.search.proofs.+open+pair.Lts-open as lts
 use Rattle.search.proofs.+open+pair.Proof.Shared.{OfOpen}
 
 -- none may open before the next one
-before-next : {may : ℕ → Bool} {bound low high e : ℕ} → Ranged may bound low high → NextOf may bound low e → (k : ℕ) → k < e → may k ≡ false
-before-next {may} {bound} {low} r next k h = go (decLt k low)
+before-next : {may : ℕ → Bool} {bound e : ℕ} {ways : Range} → WaysOf may bound ways → NextOf may bound (ways .low) e → (k : ℕ) → k < e → may k ≡ false
+before-next {may} {bound} {e} {ways} r next k h = go (decLt k (ways .low))
   where
-    go : Dec (k < low) → may k ≡ false
+    go : Dec (k < ways .low) → may k ≡ false
     go (yes l) = r .before k l
     go (no l) = next .passed k (omega arith) h
 
@@ -144,11 +144,11 @@ module _ (t : ℕ) where
       (underway .accepted, (underway .indexed, last-in underway (s .pre .1 .1 .0)))
 
   -- the entries that may open
-  ways : (w : OfOpen t lts.After-ways-on) → let a = first (w .before .before .before) .args in Ranged (mayEnter (a .image .now) (query (first (w .before .before .before)) .entries) (a .place .last) (a .trail .entries)) (a .h .entries) (w .ways-on .result .low) (w .ways-on .result .high)
+  ways : (w : OfOpen t lts.After-ways-on) → let a = first (w .before .before .before) .args in WaysOf (mayEnter (a .image .now) (query (first (w .before .before .before)) .entries) (a .place .last) (a .trail .entries)) (a .h .entries) (w .ways-on .result)
   ways w =
       let s = first (w .before .before .before) in
       let a = s .args in
-      subst (λ (n : ℕ). Ranged (mayEnter (a .image .now) (query s .entries) (a .place .last) (a .trail .entries)) n (w .ways-on .result .low) (w .ways-on .result .high)) (ap (λ (g : Header). g .entries) (sym (s .pre .1 .0 .accepted .laid .header-is))) (w .ways-on .ensures)
+      subst (λ (n : ℕ). WaysOf (mayEnter (a .image .now) (query s .entries) (a .place .last) (a .trail .entries)) n (w .ways-on .result)) (ap (λ (g : Header). g .entries) (sym (s .pre .1 .0 .accepted .laid .header-is))) (w .ways-on .ensures)
 
   pub next-entry-requires : OfOpen t lts.Need-next-entry-requires
   next-entry-requires c κs = (omega arith, ways c .low-in)
