@@ -118,7 +118,7 @@ module _ (h : Header) (limits : Limited h) (kind i : ℕ) (there : i < inAll h k
   unfolding recordStart
   record-end = omega (arith, record-block, record-before)
 
--- one more than i, by quotient and remainder: the remainder is one more, or where it would be m the quotient is
+-- quotient and remainder of i + 1 by those of i
 module _ (i m : ℕ) (some : 1 ≤ m) where
   one-more : i + 1 ≡ i % m + 1 + i / m * m
   one-more = omega (arith, div-add-mod' i m)
@@ -129,8 +129,8 @@ module _ (i m : ℕ) (some : 1 ≤ m) where
   more-mod : (i + 1) % m ≡ (i % m + 1) % m
   more-mod = ap (λ (n : ℕ). n % m) one-more ∙ add-mul-mod-self-right (i % m + 1) (i / m) m
 
--- from record i to the next: a width further is its end, where the next begins; where it was its block's last, what lies between that block's records and the
--- next one's comes besides
+-- where record i + 1 begins, and at which place of its block: a width after record i, and where that is its block's last, after what lies between that block's
+-- records and the next one's besides
 module _ (h : Header) (kind i : ℕ) where
   abbrev next-begins : ℕ → ℕ → Type 0
   next-begins gap slot = (recordStart h kind (i + 1) ≡ recordStart h kind i + recordWidth h kind + gap) × ((i + 1) % perBlock h kind ≡ slot)

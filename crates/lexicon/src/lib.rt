@@ -105,7 +105,7 @@ fn are_entries(image: &[u8], h: Header, marked: &[u8; 256]) -> bool
 {
     let wide = kinds::width(h, 6);
     let most = kinds::per_block(h, 6);
-    // From the end of a block's last entry to the next block's first.
+    // From the end of a block's last entry to the next block's first: unused bytes, the check, and the next block's number, kind and count.
     let between = 512 - wide * most;
     let mut left = h.entries;
     let mut at = entry_start(h, 0);
