@@ -20,8 +20,6 @@ pub const TABLE_WIDTH: usize = WIDTH[4];
 
 pub const LEXICON_WIDTH: usize = WIDTH[5];
 
-pub const ENTRIES_PER_BLOCK: usize = PER_BLOCK[6];
-
 // The first letter and the first pair: no count moves their blocks.
 pub const LETTERS_START: usize = 512 + 4;
 

@@ -148,8 +148,8 @@ fn block_total(h: Header) -> usize
     requires { ⌜ Limited (headerOf h) ⌝ }
     ensures { λ r. ⌜ r ≡ blockTotal (headerOf h) ⌝ }
 {
-    kinds::first_block(h, 6)
-        + (h.entries + (kinds::ENTRIES_PER_BLOCK - 1)) / kinds::ENTRIES_PER_BLOCK
+    let most = kinds::per_block(h, 6);
+    kinds::first_block(h, 6) + (h.entries + (most - 1)) / most
 }
 
 // Test 3.

@@ -77,6 +77,10 @@ fitting width = 506 / width
 abbrev pub filling : ℕ → ℕ → ℕ
 filling width n = (n + (fitting width - 1)) / fitting width
 
+-- a kind with as many blocks as its records fill
+abbrev filled : ℕ → ℕ → ℕ → Kind
+filled kind width n = row kind (filling width n) width n
+
 -- the rows "in this order", which is that of the blocks; the header decides, so that a form or a count can
 unfoldable pub kinds : Header → List Kind
 kinds h =
@@ -85,7 +89,7 @@ kinds h =
     ∷ row 3 1 2 (h .pairs)
     ∷ row 4 (h .rules) 506 (h .rules)
     ∷ row 5 1 2 (h .lexicons)
-    ∷ row 6 (filling 16 (h .entries)) 16 (h .entries)
+    ∷ filled 6 16 (h .entries)
     ∷ []
 
 -- the row of a kind; nothing, where there is none
