@@ -24,7 +24,7 @@ pub record Ranged (may : ℕ → Bool) (bound low high : ℕ) : Type 0 where
   pub before : (e : ℕ) → e < low → may e ≡ false
   pub past : (e : ℕ) → high ≤ e → may e ≡ false
 
--- what is told of the entries that may open at a place: today all of them, as a range; none opens before its low end
+-- what is told of the entries that may open at a place: all of them, as a range; none opens before its low end
 abbrev pub WaysOf : (ℕ → Bool) → ℕ → Range → Type 0
 WaysOf may bound ways = Ranged may bound (ways .low) (ways .high)
 

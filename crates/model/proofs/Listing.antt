@@ -21,7 +21,7 @@ use Rattle.model.proofs.Order.{Once, ascending-once, ascending-unique}
 use Rattle.model.proofs.Walk.{walk-from, walk-has, walk-ascending}
 use Rattle.model.proofs.Rules.{passes-alive, start-to, start-from}
 use Rattle.model.proofs.Levels.{line-from, line-to}
-use Rattle.model.proofs.Steps.{stepsLeft, steps-zero, steps-end, steps-enter, steps-pair, steps-none, steps-length, left-length}
+use Rattle.model.proofs.Steps.{stepsToCome, steps-zero, steps-end, steps-enter, steps-pair, steps-none, steps-length, left-length}
 use Rattle.model.proofs.Completes.{Sane, Completes, nil-from, opens-true, opens-false, stop-to, stop-from, end-ended, enter-to, enter-from, pair-to, pair-from, no-entry, end-to, end-rest, end-from, sane-step}
 
 -- a list of all readings that answer the query, each before those after it by its step list
@@ -61,7 +61,7 @@ map-back f h (l ∷ ls) e =
 module _ (g : Grammar) (q : Query) where
   -- the steps that a reading has left at a node
   abbrev stepsAt : Node → Reading → List ℕ
-  stepsAt n r = stepsLeft g (n .ended) (length (n .rest)) (r .path) (r .pairing)
+  stepsAt n r = stepsToCome g (n .ended) (length (n .rest)) (r .path) (r .pairing)
 
   abbrev Step : Node → ℕ → List ℕ → Bool → Type 0
   Step n x l b = (x < countAt g q b n) × T (mayAt g q b n x) × Accepts (tree g q) (goAt g q b n x) l
@@ -126,7 +126,7 @@ module _ (g : Grammar) (q : Query) where
       whole-put n true (suc e) (record { path = es; pairing = ps }) o t (r (goAt g q true n (suc e)) es ps (omega arith) (t .2))
   whole-step n false [] [] o c r =
       subst (λ (l : List ℕ). Accepts (tree g q) n l × (readingAt g q n l ≡ record { path = []; pairing = [] }))
-      (sym (ap (λ (d : Bool). stepsLeft g d (length (n .rest)) [] []) (opens-false n o (end-rest g q n [] c)) ∙ steps-none g (length (n .rest)))) (end-from g q n o c, refl)
+      (sym (ap (λ (d : Bool). stepsToCome g d (length (n .rest)) [] []) (opens-false n o (end-rest g q n [] c)) ∙ steps-none g (length (n .rest)))) (end-from g q n o c, refl)
   whole-step n false (e ∷ es) [] o c r = let d = no-entry g q n (e ∷ es) [] o c (end-rest g q n (e ∷ es) c) in let z : _≡_ {A = ℕ} 0 1 = cc in absurd (omega arith)
   whole-step n false es (p ∷ ps) o c r =
       let t = pair-from g q n p es ps o c in

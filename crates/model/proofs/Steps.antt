@@ -25,8 +25,8 @@ module _ (g : Grammar) where
   tailSteps false es ps = endingList g es ps
 
   -- the steps of these entries and pairs, with k letters of the last entry left
-  abbrev pub stepsLeft : Bool → ℕ → List ℕ → List ℕ → List ℕ
-  stepsLeft d k es ps = upTo g k ps ++ tailSteps d es (beyond g k ps)
+  abbrev pub stepsToCome : Bool → ℕ → List ℕ → List ℕ → List ℕ
+  stepsToCome d k es ps = upTo g k ps ++ tailSteps d es (beyond g k ps)
 
   upTo-zero : (ps : List ℕ) → upTo g 0 ps ≡ []
   unfolding upTo
@@ -38,25 +38,25 @@ module _ (g : Grammar) where
   beyond-zero [] = refl
   beyond-zero (p ∷ ps) = refl
 
-  pub steps-zero : (d : Bool) (es ps : List ℕ) → stepsLeft d 0 es ps ≡ tailSteps d es ps
+  pub steps-zero : (d : Bool) (es ps : List ℕ) → stepsToCome d 0 es ps ≡ tailSteps d es ps
   steps-zero d es ps = ap₂ (λ (x y : List ℕ). x ++ tailSteps d es y) (upTo-zero ps) (beyond-zero ps)
 
   -- the ending
-  pub steps-end : (ps : List ℕ) → stepsLeft false 0 [] ps ≡ 0 ∷ stepsLeft true 0 [] ps
+  pub steps-end : (ps : List ℕ) → stepsToCome false 0 [] ps ≡ 0 ∷ stepsToCome true 0 [] ps
   unfolding endingList
   steps-end ps = steps-zero false [] ps ∙ ap {B = List ℕ} (λ l. 0 ∷ l) (sym (steps-zero true [] ps))
 
-  pub steps-enter : (e : ℕ) (es ps : List ℕ) → stepsLeft false 0 (e ∷ es) ps ≡ suc e ∷ stepsLeft false (length (g .form e)) es ps
+  pub steps-enter : (e : ℕ) (es ps : List ℕ) → stepsToCome false 0 (e ∷ es) ps ≡ suc e ∷ stepsToCome false (length (g .form e)) es ps
   unfolding endingList
   steps-enter e es ps = steps-zero false (e ∷ es) ps
 
   -- with no letter left, a pair comes only after the ending
-  pub steps-pair : (d : Bool) (k p : ℕ) (es ps : List ℕ) → (k ≡ 0 → d ≡ true) → stepsLeft d k es (p ∷ ps) ≡ p ∷ stepsLeft d (afterLetter (g .lexical p) k) es ps
+  pub steps-pair : (d : Bool) (k p : ℕ) (es ps : List ℕ) → (k ≡ 0 → d ≡ true) → stepsToCome d k es (p ∷ ps) ≡ p ∷ stepsToCome d (afterLetter (g .lexical p) k) es ps
   unfolding upTo beyond endingList
   steps-pair d zero p es ps f = rw (f refl, after-none (g .lexical p)) (ap {B = List ℕ} (λ l. p ∷ l) (sym (steps-zero true es ps)))
   steps-pair d (suc k) p es ps f = refl
 
-  pub steps-none : (k : ℕ) → stepsLeft true k [] [] ≡ []
+  pub steps-none : (k : ℕ) → stepsToCome true k [] [] ≡ []
   unfolding upTo beyond endingList
   steps-none k = refl
 
@@ -74,5 +74,5 @@ module _ (g : Grammar) where
       let h = list-length es (beyond g k ps) in
       omega (arith, upTo-beyond k ps, length-append (upTo g k ps) (endingList g es (beyond g k ps)))
 
-  pub steps-length : (es ps : List ℕ) → length (stepsLeft false 0 es ps) ≡ suc (length es + length ps)
+  pub steps-length : (es ps : List ℕ) → length (stepsToCome false 0 es ps) ≡ suc (length es + length ps)
   steps-length es ps = ap length (steps-zero false es ps) ∙ list-length es ps
