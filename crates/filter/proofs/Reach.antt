@@ -1,0 +1,111 @@
+-- Sets kept for each lexicon leave nothing out: all positions do not, and they still do not after one lexicon's set is replaced.
+use Prim.Native.Nat.{ℕ, zero, suc, _≤_, _<_}
+use native.Mathlib.Omega.{arith}
+use native.Mathlib.Decide.{ℕ-discrete}
+use mathlib.Core.Bool.{Bool, true, false, cond, not}
+use mathlib.Core.Path.{_≡_, refl, sym, ap, _∙_, subst}
+use mathlib.Core.Logic.{_⊎_, inl, inr}
+use mathlib.Core.List.{List, [], _∷_}
+use lib.Dec.{T, leb, eqb, eqb→eq, leb→le, le→leb}
+use borrow.Author.Tests.{eqb-false, eq-eqb, ne-eqb}
+use Rattle.model.specs.Lists.{any}
+use Rattle.model.specs.Blocks.{header}
+use Rattle.model.specs.Lexicon.{inLexicon, entry, formOf, continuation}
+use Rattle.model.specs.GrammarOf.{grammarOf}
+use Rattle.model.specs.Query.{Query}
+use Rattle.model.proofs.Booleans.{and-out, not-out}
+use Rattle.filter.specs.Positions.{Feasible, Over, Inserted, Leads, back}
+use Rattle.filter.specs.Reach.{Onward, Sound}
+use Rattle.filter.specs.Lexicons.{afterIn, Reaches, replaced}
+use Rattle.filter.proofs.Leads.{leads-map}
+use Rattle.filter.proofs.Runs.{leads-back, back-leads}
+
+-- what leads to positions up to n stands at one of them
+module _ (f : Feasible) (n : ℕ) where
+  pub inserted-within : (t : ℕ) (S : ℕ → Type 0) → ((k : ℕ) → S k → k ≤ n) → (i : ℕ) → Inserted f t S i → i ≤ n
+  inserted-within zero S h i s = h i s
+  inserted-within (suc t) S h i (inl s) = h i s
+  inserted-within (suc t) S h i (inr s) = let b = inserted-within t S h (suc i) (s .1) in omega arith
+
+  over-within : (a : ℕ) (S : ℕ → Type 0) → ((k : ℕ) → S k → k ≤ n) → (i : ℕ) → Over f a S i → i ≤ n
+  over-within a S h i (inl s) = let b = h (suc i) (s .1) in omega arith
+  over-within a S h i (inr s) = h i (s .1)
+
+  pub leads-within : (xs : List ℕ) (S : ℕ → Type 0) → ((k : ℕ) → S k → k ≤ n) → (i : ℕ) → Leads f xs S i → i ≤ n
+  leads-within [] S h i s = h i s
+  leads-within (a ∷ xs) S h i s = inserted-within 8 (Over f a (Leads f xs S)) (over-within a (Leads f xs S) (leads-within xs S h)) i s
+
+module _ (image : List ℕ) (q : Query) (f : Feasible) where
+  -- an entry goes on with a lexicon, or ends
+  abbrev pub Continues : Type 0
+  Continues = (e : ℕ) → e < header image .entries → (continuation (entry image e) < 64) ⊎ (continuation (entry image e) ≡ 255)
+
+  lexicon-of : {x : ℕ} → (x < 64) ⊎ (x ≡ 255) → (x ≡ 255 → ⊥) → x < 64
+  lexicon-of (inl l) h = l
+  lexicon-of (inr e) h = absurd (h e)
+
+  inside-is : {e : ℕ} → e < grammarOf image .entries → e < header image .entries
+  unfolding grammarOf
+  inside-is h = h
+
+  -- by entry, as the law asks
+  pub reaches-sound : (reach : ℕ → ℕ → Bool) → Reaches image q f reach → Sound (grammarOf image) q f (afterIn image q f reach)
+  unfolding grammarOf
+  reaches-sound reach r e inside i (inl s) = subst (λ (x : ℕ). T (reach x i)) (sym (eqb→eq (continuation (entry image e)) 255 (s .0))) (r .at-end i (s .1))
+  reaches-sound reach r e inside i (inr s) =
+      let u = and-out (not (eqb (continuation (entry image e)) 255)) (inLexicon image (continuation (entry image e)) (s .0)) (s .1 .1 .0) in
+      r .onward (continuation (entry image e)) (lexicon-of (r .continues e (inside-is inside)) (eqb-false (continuation (entry image e)) 255 (not-out (eqb (continuation (entry image e)) 255) (u .0)))) (s .0) (s .1 .0) (u .1) i (s .1 .1 .1)
+
+  -- all positions up to where a word may end
+  pub all-reach : Continues → (n : ℕ) → ((k : ℕ) → T (q .letters .mayEnd k) → k ≤ n) → Reaches image q f (λ x i. leb i n)
+  all-reach c n ends = record {
+    continues = c;
+    at-end = λ i s. le→leb i n (inserted-within f n 8 (λ k. T (q .letters .mayEnd k)) ends i s);
+    onward = λ x other e inside has i s. le→leb i n (leads-within f n (formOf (entry image e)) (λ k. T (leb k n)) (λ k t. leb→le k n t) i s);
+  }
+
+  pub everywhere-reach : Continues → Reaches image q f (λ x i. true)
+  everywhere-reach c = record { continues = c; at-end = λ i s. tt; onward = λ x other e inside has i s. tt }
+
+  module _ (reach : ℕ → ℕ → Bool) (r : Reaches image q f reach) (y : ℕ) (m : ℕ → Bool) where
+    replaced-same : (i : ℕ) → replaced reach y m y i ≡ m i
+    unfolding replaced
+    replaced-same i = rw (eq-eqb y y refl) refl
+
+    replaced-other : (x i : ℕ) → (x ≡ y → ⊥) → replaced reach y m x i ≡ reach x i
+    unfolding replaced
+    replaced-other x i h = rw (ne-eqb x y h) refl
+
+    -- replaced by a part of itself that holds what its entries lead on to
+    module _ (lexicon : y < 64) (part : (i : ℕ) → T (m i) → T (reach y i))
+        (holds : (e : ℕ) → e < header image .entries → T (inLexicon image y e) → (i : ℕ) → Leads f (formOf (entry image e)) (λ k. T (afterIn image q f reach e k)) i → T (m i)) where
+      less : (x i : ℕ) → T (replaced reach y m x i) → T (reach x i)
+      less x i t = go (ℕ-discrete x y)
+        where
+          go : Dec (x ≡ y) → T (reach x i)
+          go (yes e) = subst (λ (z : ℕ). T (reach z i)) (sym e) (part i (subst (λ (b : Bool). T b) (ap (λ (z : ℕ). replaced reach y m z i) e ∙ replaced-same i) t))
+          go (no h) = subst (λ (b : Bool). T b) (replaced-other x i h) t
+
+      pub replaced-reach : Reaches image q f (replaced reach y m)
+      replaced-reach = record {
+        continues = r .continues;
+        at-end = λ i s. subst (λ (b : Bool). T b) (sym (replaced-other 255 i (λ e. omega arith))) (r .at-end i s);
+        onward = λ x other e inside has i s. go x other e inside has i (leads-map f (formOf (entry image e)) (λ k. T (afterIn image q f (replaced reach y m) e k)) (λ k. T (afterIn image q f reach e k)) (λ k. less (continuation (entry image e)) k) i s) (ℕ-discrete x y);
+      }
+        where
+          go : (x : ℕ) → x < 64 → (e : ℕ) → e < header image .entries → T (inLexicon image x e) → (i : ℕ) → Leads f (formOf (entry image e)) (λ k. T (afterIn image q f reach e k)) i → Dec (x ≡ y) → T (replaced reach y m x i)
+          go x other e inside has i s (yes h) =
+              subst (λ (z : ℕ). T (replaced reach y m z i)) (sym h)
+              (subst (λ (b : Bool). T b) (sym (replaced-same i)) (holds e inside (subst (λ (z : ℕ). T (inLexicon image z e)) h has) i s))
+          go x other e inside has i s (no h) = subst (λ (b : Bool). T b) (sym (replaced-other x i h)) (r .onward x other e inside has i s)
+
+    -- by the union of the sets run backwards over its entries, which is a part of it
+    abbrev pub Union : Type 0
+    Union = (i : ℕ) → (T (m i) → (e : ℕ) × ((e < header image .entries) × (T (inLexicon image y e) × T (back f (formOf (entry image e)) (afterIn image q f reach e) i))))
+        × ((e : ℕ) → e < header image .entries → T (inLexicon image y e) → T (back f (formOf (entry image e)) (afterIn image q f reach e) i) → T (m i))
+
+    pub union-reach : y < 64 → Union → Reaches image q f (replaced reach y m)
+    union-reach lexicon u =
+        replaced-reach lexicon
+        (λ i t. let w = u i .0 t in r .onward y lexicon (w .0) (w .1 .0) (w .1 .1 .0) i (back-leads f (formOf (entry image (w .0))) (afterIn image q f reach (w .0)) i (w .1 .1 .1)))
+        (λ e inside has i s. u i .1 e inside has (leads-back f (formOf (entry image e)) (afterIn image q f reach e) i s))

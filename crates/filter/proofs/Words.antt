@@ -1,0 +1,141 @@
+-- Analysis of a word: what its sets have to hold, and what is kept of each lexicon to begin with.
+use Prim.Native.Nat.{ℕ, zero, suc, _+_, _*_, _-_, _/_, _%_, _^_, _<_, _≤_}
+use native.Mathlib.Omega.{arith}
+use native.Mathlib.Nat.{pow-suc}
+use native.Mathlib.Decide.{ℕ-discrete}
+use mathlib.Core.Bool.{Bool, true, false, _&&_, not, cond}
+use mathlib.Core.Logic.{_⊎_, inl, inr, ⊎-elim}
+use mathlib.Core.Path.{_≡_, refl, sym, ap, _∙_, subst}
+use mathlib.Core.List.{List, [], _∷_}
+use lib.ListN.{length, getD}
+use lib.Pow.{pow-pos}
+use lib.Dec.{T, leb, ltb, eqb, eqb→eq, eqb-refl, ltb→lt, leb→le, le→leb, not-T}
+use borrow.Author.Tests.{ne-eqb, eq-eqb}
+use Rattle.model.specs.Lists.{isZero}
+use Rattle.model.specs.Blocks.{header}
+use Rattle.model.specs.RuleTables.{pairs, boundaryPair}
+use Rattle.model.specs.Lexicon.{inLexicon, entry, formOf, continuation}
+use Rattle.model.specs.GrammarOf.{grammarOf}
+use Rattle.model.specs.Query.{Pattern, Query, exactly}
+use Rattle.model.proofs.Booleans.{and-out, of-true, eq→eqb}
+use Rattle.filter.specs.Positions.{Feasible, Inserted, Leads}
+use Rattle.filter.specs.Reach.{Covers}
+use Rattle.filter.specs.Lexicons.{afterIn, Reaches}
+use Rattle.filter.specs.Masks.{bit, backSpreadMask}
+use Rattle.filter.specs.Stack.{setOf, deletesOf, feasibleOf, reachPlace, reachSet, reachOf}
+use Rattle.filter.specs.Letters.{rowCount, rowLetter, Wrote}
+use Rattle.filter.proofs.Backwards.{Means, spread-means}
+use Rattle.filter.proofs.Reach.{Continues, leads-within, inserted-within}
+
+-- this word, whatever is asked of the path
+abbrev pub asksWord : List ℕ → Pattern → Query
+asksWord word path = record { entries = path; letters = exactly word }
+
+module _ (image word masks flags : List ℕ) where
+  abbrev lexical : ℕ → ℕ
+  lexical p = getD (pairs image) p boundaryPair .lexical
+
+  abbrev surface : ℕ → ℕ
+  surface p = getD (pairs image) p boundaryPair .surface
+
+  -- each pair whose surface side stands in the word is in its letter's set, and each that deletes has its flag
+  pub record Spells : Type 0 where
+    pub stands : (p : ℕ) → p < header image .pairs → (i : ℕ) → i < length word → surface p ≡ getD word i 0 → T (bit (getD masks (lexical p) 0) i)
+    pub deletes : (p : ℕ) → p < header image .pairs → surface p ≡ 0 → getD flags (lexical p) 0 ≡ 0 → ⊥
+
+  pub word-covers : (path : Pattern) → Spells → Covers (grammarOf image) (asksWord word path) (feasibleOf masks flags)
+  unfolding grammarOf
+  word-covers path s = record {
+    paired = λ p inside i few some allows.
+        let u = and-out (ltb i (length word)) (eqb (getD word i 0) (surface p)) allows in
+        s .stands p inside i (ltb→lt i (length word) (u .0)) (sym (eqb→eq (getD word i 0) (surface p) (u .1)));
+    deleted = λ p inside e. not-T (isZero (getD flags (lexical p) 0)) (λ z. s .deletes p inside e (eqb→eq (getD flags (lexical p) 0) 0 z));
+  }
+
+-- by rows that have each pair
+module _ (image word masks flags rows : List ℕ) (paired : (p : ℕ) → p < header image .pairs → (surface image word masks flags p ≡ 0 → ⊥) → (k : ℕ) × ((k < rowCount rows (surface image word masks flags p)) × (rowLetter rows (surface image word masks flags p) k ≡ lexical image word masks flags p))) where
+  pub wrote-stands : ((i : ℕ) → i < length word → getD word i 0 ≡ 0 → ⊥) → Wrote rows word masks (length word) → (p : ℕ) → p < header image .pairs → (i : ℕ) → i < length word → surface image word masks flags p ≡ getD word i 0 → T (bit (getD masks (lexical image word masks flags p) 0) i)
+  wrote-stands letters w p inside i h e =
+      let u = paired p inside (λ z. letters i h (sym e ∙ z)) in
+      subst (λ (a : ℕ). T (bit (getD masks a 0) i)) (ap (λ (s : ℕ). rowLetter rows s (u .0)) (sym e) ∙ u .1 .1) (w .stands i h (u .0) (subst (λ (s : ℕ). u .0 < rowCount rows s) e (u .1 .0)))
+
+-- all positions up to n
+ones-half : (n : ℕ) → (2 ^ suc n - 1) / 2 ≡ 2 ^ n - 1
+ones-half n = ap (λ (x : ℕ). (x - 1) / 2) (pow-suc 2 n) ∙ half (2 ^ n) (pow-pos n)
+  where
+    half : (x : ℕ) → 0 < x → (x * 2 - 1) / 2 ≡ x - 1
+    half x h = omega arith
+
+ones-odd : (n : ℕ) → (2 ^ suc n - 1) % 2 ≡ 1
+ones-odd n = ap (λ (x : ℕ). (x - 1) % 2) (pow-suc 2 n) ∙ odd (2 ^ n) (pow-pos n)
+  where
+    odd : (x : ℕ) → 0 < x → (x * 2 - 1) % 2 ≡ 1
+    odd x h = omega arith
+
+pub ones-has : (n i : ℕ) → i ≤ n → T (bit (2 ^ suc n - 1) i)
+ones-has n zero h = subst (λ (x : ℕ). T (eqb x 1)) (sym (ones-odd n)) tt
+ones-has zero (suc i) h = absurd (omega arith)
+ones-has (suc n) (suc i) h = subst (λ (x : ℕ). T (bit x i)) (sym (ones-half (suc n))) (ones-has n i (omega arith))
+
+ones-only : (n i : ℕ) → T (bit (2 ^ suc n - 1) i) → i ≤ n
+ones-only n zero t = omega arith
+ones-only zero (suc i) t = absurd (none i t)
+  where
+    none : (i : ℕ) → T (bit 0 i) → ⊥
+    none zero t = t
+    none (suc i) t = none i t
+ones-only (suc n) (suc i) t = let b = ones-only n i (subst (λ (x : ℕ). T (bit x i)) (ones-half (suc n)) t) in omega arith
+
+-- one position alone
+one-only : (j i : ℕ) → T (bit (2 ^ j) i) → i ≡ j
+one-only zero zero t = refl
+one-only zero (suc i) t = absurd (none i t)
+  where
+    none : (i : ℕ) → T (bit 0 i) → ⊥
+    none zero t = t
+    none (suc i) t = none i t
+one-only (suc j) zero t = absurd (subst (λ (x : ℕ). T (eqb x 1)) even t)
+  where
+    even : 2 ^ suc j % 2 ≡ 0
+    even = ap (λ (x : ℕ). x % 2) (pow-suc 2 j) ∙ omega arith
+one-only (suc j) (suc i) t = let e : 2 ^ suc j / 2 ≡ 2 ^ j = ap (λ (x : ℕ). x / 2) (pow-suc 2 j) ∙ omega arith in ap suc (one-only j i (subst (λ (x : ℕ). T (bit x i)) e t))
+
+one-has : (j : ℕ) → T (bit (2 ^ j) j)
+one-has zero = tt
+one-has (suc j) = let e : 2 ^ suc j / 2 ≡ 2 ^ j = ap (λ (x : ℕ). x / 2) (pow-suc 2 j) ∙ omega arith in subst (λ (x : ℕ). T (bit x j)) (sym e) (one-has j)
+
+-- to begin with: every position up to the word's end for each lexicon, and the end spread backwards
+module _ (image word masks flags reach : List ℕ) (path : Pattern) where
+  abbrev f : Feasible
+  f = feasibleOf masks flags
+
+  pub record Begins : Type 0 where
+    pub lexicons : (x : ℕ) → x < 64 → getD reach x 0 ≡ 2 ^ suc (length word) - 1
+    pub end : getD reach 64 0 ≡ backSpreadMask 8 (setOf masks flags 0) (2 ^ length word)
+
+  ends-at : Means (setOf masks flags) (deletesOf masks flags) (2 ^ length word) (λ k. T (eqb k (length word)))
+  ends-at = record { only = λ i t. eq→eqb i (length word) (one-only (length word) i t); all = λ i t. subst (λ (x : ℕ). T (bit (2 ^ length word) x)) (sym (eqb→eq i (length word) t)) (one-has (length word)) }
+
+  end-means : Means (setOf masks flags) (deletesOf masks flags) (backSpreadMask 8 (setOf masks flags 0) (2 ^ length word)) (Inserted f 8 (λ k. T (eqb k (length word))))
+  end-means = spread-means (setOf masks flags) (deletesOf masks flags) 8 (2 ^ length word) (λ k. T (eqb k (length word))) ends-at
+
+  -- whatever is kept stands within the word
+  kept-within : Begins → (x : ℕ) → (x < 64) ⊎ (x ≡ 255) → (k : ℕ) → T (reachOf reach x k) → k ≤ length word
+  kept-within b x (inl l) k t =
+      let end : x ≡ 255 → ⊥ = λ z. omega arith in
+      ones-only (length word) k (subst (λ (m : ℕ). T (bit m k)) (b .lexicons x l) (subst (λ (c : Bool). T (bit (getD reach (cond c 64 x) 0) k)) (ne-eqb x 255 end) t))
+  kept-within b x (inr e) k t =
+      inserted-within f (length word) 8 (λ k. T (eqb k (length word))) (λ k z. omega (arith, eqb→eq k (length word) z)) k
+      (end-means .only k (subst (λ (m : ℕ). T (bit m k)) (b .end) (subst (λ (y : ℕ). T (reachOf reach y k)) e t)))
+
+  pub word-reaches : Begins → Continues image (asksWord word path) f → Reaches image (asksWord word path) f (reachOf reach)
+  word-reaches b c = record {
+    continues = c;
+    at-end = λ i s. subst (λ (m : ℕ). T (bit m i)) (sym (b .end)) (end-means .all i s);
+    onward = λ x l e inside has i s. place x l i (leads-within f (length word) (formOf (entry image e)) (λ k. T (afterIn image (asksWord word path) f (reachOf reach) e k)) (λ k t. kept-within b (continuation (entry image e)) (c e inside) k t) i s);
+  }
+    where
+      place : (x : ℕ) → x < 64 → (i : ℕ) → i ≤ length word → T (reachOf reach x i)
+      place x l i h =
+          let end : x ≡ 255 → ⊥ = λ z. omega arith in
+          subst (λ (c : Bool). T (bit (getD reach (cond c 64 x) 0) i)) (sym (ne-eqb x 255 end)) (subst (λ (m : ℕ). T (bit m i)) (sym (b .lexicons x l)) (ones-has (length word) i h))
