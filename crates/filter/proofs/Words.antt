@@ -13,7 +13,6 @@ use lib.Dec.{T, leb, ltb, eqb, eqb→eq, eqb-refl, ltb→lt, leb→le, le→leb,
 use borrow.Author.Tests.{ne-eqb, eq-eqb}
 use Rattle.model.specs.Lists.{isZero}
 use Rattle.model.specs.Blocks.{header}
-use Rattle.model.specs.RuleTables.{pairs, boundaryPair}
 use Rattle.model.specs.Lexicon.{inLexicon, entry, formOf, continuation}
 use Rattle.model.specs.GrammarOf.{grammarOf}
 use Rattle.model.specs.Query.{Pattern, Query, exactly}
@@ -22,8 +21,10 @@ use Rattle.filter.specs.Positions.{Feasible, Inserted, Leads}
 use Rattle.filter.specs.Reach.{Covers}
 use Rattle.filter.specs.Lexicons.{afterIn, Reaches}
 use Rattle.filter.specs.Masks.{bit, backSpreadMask}
-use Rattle.filter.specs.Stack.{setOf, deletesOf, feasibleOf, reachPlace, reachSet, reachOf}
-use Rattle.filter.specs.Letters.{rowCount, rowLetter, Wrote}
+use Rattle.filter.specs.Stack.{setOf, deletesOf, feasibleOf, reachPlace, reachSet, reachOf, Begins}
+use Rattle.forms.specs.Letters.{rowCount, rowLetter}
+use Rattle.forms.specs.Forms.{rowsIn, flagsIn, FormsOf}
+use Rattle.filter.specs.Letters.{Wrote}
 use Rattle.filter.proofs.Backwards.{Means, spread-means}
 use Rattle.filter.proofs.Reach.{Continues, leads-within, inserted-within}
 
@@ -31,33 +32,26 @@ use Rattle.filter.proofs.Reach.{Continues, leads-within, inserted-withi
 abbrev pub asksWord : List ℕ → Pattern → Query
 asksWord word path = record { entries = path; letters = exactly word }
 
-module _ (image word masks flags : List ℕ) where
-  abbrev lexical : ℕ → ℕ
-  lexical p = getD (pairs image) p boundaryPair .lexical
+-- the sets that rows by surface letter make of a word's letters
+module _ (image forms word masks : List ℕ) (path : Pattern) (f : FormsOf image forms) (w : Wrote (rowsIn forms) word masks (length word)) where
+  wrote-paired : (p : ℕ) → p < header image .pairs → (i : ℕ) → (grammarOf image .surface p ≡ 0 → ⊥) → T (ltb i (length word) && eqb (getD word i 0) (grammarOf image .surface p)) → T (bit (getD masks (grammarOf image .lexical p) 0) i)
+  wrote-paired p inside i some allows =
+      let s = grammarOf image .surface p in
+      let u = and-out (ltb i (length word)) (eqb (getD word i 0) s) allows in
+      let same : getD word i 0 ≡ s = eqb→eq (getD word i 0) s (u .1) in
+      let r = f .paired p inside some in
+      subst (λ (a : ℕ). T (bit (getD masks a 0) i)) (ap (λ (x : ℕ). rowLetter (rowsIn forms) x (r .0)) same ∙ r .1 .1)
+      (w .stands i (ltb→lt i (length word) (u .0)) (r .0) (subst (λ (x : ℕ). r .0 < rowCount (rowsIn forms) x) (sym same) (r .1 .0)))
 
-  abbrev surface : ℕ → ℕ
-  surface p = getD (pairs image) p boundaryPair .surface
-
-  -- each pair whose surface side stands in the word is in its letter's set, and each that deletes has its flag
-  pub record Spells : Type 0 where
-    pub stands : (p : ℕ) → p < header image .pairs → (i : ℕ) → i < length word → surface p ≡ getD word i 0 → T (bit (getD masks (lexical p) 0) i)
-    pub deletes : (p : ℕ) → p < header image .pairs → surface p ≡ 0 → getD flags (lexical p) 0 ≡ 0 → ⊥
-
-  pub word-covers : (path : Pattern) → Spells → Covers (grammarOf image) (asksWord word path) (feasibleOf masks flags)
+  inside-is : {p : ℕ} → p < grammarOf image .pairs → p < header image .pairs
   unfolding grammarOf
-  word-covers path s = record {
-    paired = λ p inside i few some allows.
-        let u = and-out (ltb i (length word)) (eqb (getD word i 0) (surface p)) allows in
-        s .stands p inside i (ltb→lt i (length word) (u .0)) (sym (eqb→eq (getD word i 0) (surface p) (u .1)));
-    deleted = λ p inside e. not-T (isZero (getD flags (lexical p) 0)) (λ z. s .deletes p inside e (eqb→eq (getD flags (lexical p) 0) 0 z));
-  }
+  inside-is h = h
 
--- by rows that have each pair
-module _ (image word masks flags rows : List ℕ) (paired : (p : ℕ) → p < header image .pairs → (surface image word masks flags p ≡ 0 → ⊥) → (k : ℕ) × ((k < rowCount rows (surface image word masks flags p)) × (rowLetter rows (surface image word masks flags p) k ≡ lexical image word masks flags p))) where
-  pub wrote-stands : ((i : ℕ) → i < length word → getD word i 0 ≡ 0 → ⊥) → Wrote rows word masks (length word) → (p : ℕ) → p < header image .pairs → (i : ℕ) → i < length word → surface image word masks flags p ≡ getD word i 0 → T (bit (getD masks (lexical image word masks flags p) 0) i)
-  wrote-stands letters w p inside i h e =
-      let u = paired p inside (λ z. letters i h (sym e ∙ z)) in
-      subst (λ (a : ℕ). T (bit (getD masks a 0) i)) (ap (λ (s : ℕ). rowLetter rows s (u .0)) (sym e) ∙ u .1 .1) (w .stands i h (u .0) (subst (λ (s : ℕ). u .0 < rowCount rows s) e (u .1 .0)))
+  pub word-covers : Covers (grammarOf image) (asksWord word path) (feasibleOf masks (flagsIn forms))
+  word-covers = record {
+    paired = λ p inside i few some allows. wrote-paired p (inside-is inside) i some allows;
+    deleted = λ p inside e. not-T (isZero (getD (flagsIn forms) (grammarOf image .lexical p) 0)) (λ z. f .deleted p (inside-is inside) e (eqb→eq (getD (flagsIn forms) (grammarOf image .lexical p) 0) 0 z));
+  }
 
 -- all positions up to n
 ones-half : (n : ℕ) → (2 ^ suc n - 1) / 2 ≡ 2 ^ n - 1
@@ -109,9 +103,9 @@ module _ (image word masks flags reach : List ℕ) (path : Pattern) where
   abbrev f : Feasible
   f = feasibleOf masks flags
 
-  pub record Begins : Type 0 where
-    pub lexicons : (x : ℕ) → x < 64 → getD reach x 0 ≡ 2 ^ suc (length word) - 1
-    pub end : getD reach 64 0 ≡ backSpreadMask 8 (setOf masks flags 0) (2 ^ length word)
+  module _ (begins : Begins masks (2 ^ length word) reach) where
+    lexicons : (x : ℕ) → x < 64 → getD reach x 0 ≡ 2 ^ suc (length word) - 1
+    lexicons x l = begins .lexicons x l ∙ ap (λ (m : ℕ). m - 1) (omega (arith, pow-suc 2 (length word)))
 
   ends-at : Means (setOf masks flags) (deletesOf masks flags) (2 ^ length word) (λ k. T (eqb k (length word)))
   ends-at = record { only = λ i t. eq→eqb i (length word) (one-only (length word) i t); all = λ i t. subst (λ (x : ℕ). T (bit (2 ^ length word) x)) (sym (eqb→eq i (length word) t)) (one-has (length word)) }
@@ -120,22 +114,22 @@ module _ (image word masks flags reach : List ℕ) (path : Pattern) where
   end-means = spread-means (setOf masks flags) (deletesOf masks flags) 8 (2 ^ length word) (λ k. T (eqb k (length word))) ends-at
 
   -- whatever is kept stands within the word
-  kept-within : Begins → (x : ℕ) → (x < 64) ⊎ (x ≡ 255) → (k : ℕ) → T (reachOf reach x k) → k ≤ length word
+  kept-within : Begins masks (2 ^ length word) reach → (x : ℕ) → (x < 64) ⊎ (x ≡ 255) → (k : ℕ) → T (reachOf reach x k) → k ≤ length word
   kept-within b x (inl l) k t =
       let end : x ≡ 255 → ⊥ = λ z. omega arith in
-      ones-only (length word) k (subst (λ (m : ℕ). T (bit m k)) (b .lexicons x l) (subst (λ (c : Bool). T (bit (getD reach (cond c 64 x) 0) k)) (ne-eqb x 255 end) t))
+      ones-only (length word) k (subst (λ (m : ℕ). T (bit m k)) (lexicons b x l) (subst (λ (c : Bool). T (bit (getD reach (cond c 64 x) 0) k)) (ne-eqb x 255 end) t))
   kept-within b x (inr e) k t =
       inserted-within f (length word) 8 (λ k. T (eqb k (length word))) (λ k z. omega (arith, eqb→eq k (length word) z)) k
-      (end-means .only k (subst (λ (m : ℕ). T (bit m k)) (b .end) (subst (λ (y : ℕ). T (reachOf reach y k)) e t)))
+      (end-means .only k (subst (λ (m : ℕ). T (bit m k)) (b .ends) (subst (λ (y : ℕ). T (reachOf reach y k)) e t)))
 
-  pub word-reaches : Begins → Continues image (asksWord word path) f → Reaches image (asksWord word path) f (reachOf reach)
+  pub word-reaches : Begins masks (2 ^ length word) reach → Continues image (asksWord word path) f → Reaches image (asksWord word path) f (reachOf reach)
   word-reaches b c = record {
     continues = c;
-    at-end = λ i s. subst (λ (m : ℕ). T (bit m i)) (sym (b .end)) (end-means .all i s);
+    at-end = λ i s. subst (λ (m : ℕ). T (bit m i)) (sym (b .ends)) (end-means .all i s);
     onward = λ x l e inside has i s. place x l i (leads-within f (length word) (formOf (entry image e)) (λ k. T (afterIn image (asksWord word path) f (reachOf reach) e k)) (λ k t. kept-within b (continuation (entry image e)) (c e inside) k t) i s);
   }
     where
       place : (x : ℕ) → x < 64 → (i : ℕ) → i ≤ length word → T (reachOf reach x i)
       place x l i h =
           let end : x ≡ 255 → ⊥ = λ z. omega arith in
-          subst (λ (c : Bool). T (bit (getD reach (cond c 64 x) 0) i)) (sym (ne-eqb x 255 end)) (subst (λ (m : ℕ). T (bit m i)) (sym (b .lexicons x l)) (ones-has (length word) i h))
+          subst (λ (c : Bool). T (bit (getD reach (cond c 64 x) 0) i)) (sym (ne-eqb x 255 end)) (subst (λ (m : ℕ). T (bit m i)) (sym (lexicons b x l)) (ones-has (length word) i h))

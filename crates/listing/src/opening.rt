@@ -22,7 +22,7 @@ pub struct Range {
 }
 
 // The entries of lexicon x.
-fn lexicon_range(image: &[u8], index: &[u8], h: Header, x: usize) -> Range
+pub fn lexicon_range(image: &[u8], index: &[u8], h: Header, x: usize) -> Range
     requires { ⌜ Accepted (now image) (headerOf h) ⌝ }
     requires { ⌜ now index ≡ indexOf (now image) ⌝ }
     requires { ⌜ x < h .lexicons ⌝ }

@@ -35,6 +35,9 @@ pub fn open(
     asked: Asked,
     path: &[u8],
     word: &[u8],
+    forms: &[u8],
+    masks: &[u64],
+    reach: &[u64],
     place: Place,
     trail: Trail,
     out: &mut [u8],
@@ -42,6 +45,7 @@ pub fn open(
     found: usize,
 ) -> usize
     requires { ⌜ Underway (now image) (now index) (headerOf h) place trail ⌝ }
+    requires { ⌜ Sieve (now image) (queryBy asked (now path) (now word)) (now forms) (now masks) (now reach) ⌝ }
     requires { ⌜ opensAt place ≡ true ⌝ }
     requires { ⌜ (capacity ≡ rowCount (now out)) × (found ≤ capacity) ⌝ }
     ensures { λ r. ⌜ (now (out .exit), r) ≡ offerAll (put capacity) (now (out .entry), found) (foundAt (now (image .entry)) (queryBy asked (now (path .entry)) (now (word .entry))) place trail) ⌝ }
@@ -56,6 +60,9 @@ pub fn open(
             asked,
             path,
             word,
+            forms,
+            masks,
+            reach,
             stopped,
             trail,
             out,
@@ -71,6 +78,41 @@ pub fn open(
     }
     let path_asked = asked.path;
     let word_asked = asked.word;
+    let level = place.surface;
+    let mut list = [0u16; 64];
+    let many = filter::choose(
+        image,
+        index,
+        h,
+        path_asked,
+        path,
+        forms,
+        masks,
+        reach,
+        place.last,
+        level.letters,
+        &mut list,
+    );
+    if many < 65 {
+        return open_listed(
+            image,
+            index,
+            h,
+            asked,
+            path,
+            word,
+            forms,
+            masks,
+            reach,
+            place,
+            trail,
+            &list,
+            many,
+            out,
+            capacity,
+            n,
+        );
+    }
     let ways = listing::opening::ways_on(
         image,
         index,
@@ -102,6 +144,9 @@ pub fn open(
                 asked,
                 path,
                 word,
+                forms,
+                masks,
+                reach,
                 next,
                 longer,
                 out,
@@ -117,6 +162,64 @@ pub fn open(
     n
 }
 
+// The first entries of a list open, one after the other, where it leaves out only what finds nothing.
+pub fn open_listed(
+    image: &[u8],
+    index: &[u8],
+    h: Header,
+    asked: Asked,
+    path: &[u8],
+    word: &[u8],
+    forms: &[u8],
+    masks: &[u64],
+    reach: &[u64],
+    place: Place,
+    trail: Trail,
+    list: &[u16],
+    many: usize,
+    out: &mut [u8],
+    capacity: usize,
+    found: usize,
+) -> usize
+    requires { ⌜ Opening (now image) (now index) (headerOf h) place trail ⌝ }
+    requires { ⌜ Sieve (now image) (queryBy asked (now path) (now word)) (now forms) (now masks) (now reach) ⌝ }
+    requires { ⌜ (many ≤ length (now list)) × Listed (now image) (queryBy asked (now path) (now word)) place trail (take many (now list)) ⌝ }
+    requires { ⌜ (capacity ≡ rowCount (now out)) × (found ≤ capacity) ⌝ }
+    ensures { λ r. ⌜ (now (out .exit), r) ≡ offerAll (put capacity) (now (out .entry), found) (flatMap (entryOne (now (image .entry)) (queryBy asked (now (path .entry)) (now (word .entry))) place trail) (below (h .entries))) ⌝ }
+{
+    let mut n = found;
+    let mut k: usize = 0;
+    while k < many {
+        let e = list[k] as usize;
+        let next = listing::place::enter(image, h, place, e);
+        let mut longer = trail;
+        let end = longer.entries;
+        longer.path[end] = e as u16;
+        longer.entries = end + 1;
+        n = pair(
+            image,
+            index,
+            h,
+            asked,
+            path,
+            word,
+            forms,
+            masks,
+            reach,
+            next,
+            longer,
+            out,
+            capacity,
+            n,
+        );
+        if capacity < n {
+            return n;
+        }
+        k += 1;
+    }
+    n
+}
+
 // Where a letter is left or the path has ended: the reading that ends here, and then each pair that may come next. Where the path can only end, it does
 // so without a call; where an entry may open, `open` goes on.
 pub fn pair(
@@ -126,6 +229,9 @@ pub fn pair(
     asked: Asked,
     path: &[u8],
     word: &[u8],
+    forms: &[u8],
+    masks: &[u64],
+    reach: &[u64],
     place: Place,
     trail: Trail,
     out: &mut [u8],
@@ -133,6 +239,7 @@ pub fn pair(
     found: usize,
 ) -> usize
     requires { ⌜ Underway (now image) (now index) (headerOf h) place trail ⌝ }
+    requires { ⌜ Sieve (now image) (queryBy asked (now path) (now word)) (now forms) (now masks) (now reach) ⌝ }
     requires { ⌜ (capacity ≡ rowCount (now out)) × (found ≤ capacity) ⌝ }
     ensures { λ r. ⌜ (now (out .exit), r) ≡ offerAll (put capacity) (now (out .entry), found) (foundAt (now (image .entry)) (queryBy asked (now (path .entry)) (now (word .entry))) place trail) ⌝ }
 {
@@ -147,6 +254,9 @@ pub fn pair(
                 asked,
                 path,
                 word,
+                forms,
+                masks,
+                reach,
                 place,
                 trail,
                 out,
@@ -183,6 +293,9 @@ pub fn pair(
                 asked,
                 path,
                 word,
+                forms,
+                masks,
+                reach,
                 next,
                 longer,
                 out,
@@ -206,10 +319,12 @@ pub fn search(
     asked: Asked,
     path: &[u8],
     word: &[u8],
+    forms: &[u8],
     out: &mut [u8],
 ) -> usize
     requires { ⌜ Accepted (now image) (headerOf h) ⌝ }
     requires { ⌜ now index ≡ indexOf (now image) ⌝ }
+    requires { ⌜ Sifts (now image) (now word) (now forms) ⌝ }
     ensures { λ r. ⌜ (now (out .exit), r) ≡ offerAll (put (rowCount (now (out .entry)))) (now (out .entry), 0) (readings (grammarOf (now (image .entry))) (queryBy asked (now (path .entry)) (now (word .entry)))) ⌝ }
 {
     let capacity = out.len() / 116;
@@ -232,6 +347,9 @@ pub fn search(
         states: states,
     };
     let trail = rows::no_trail();
+    let mut masks = [0u64; 128];
+    let mut reach = [0u64; 65];
+    let sieve = crate::here::sieve(image, index, h, asked.word, word, forms, &mut masks, &mut reach);
     open(
         image,
         index,
@@ -239,6 +357,9 @@ pub fn search(
         asked,
         path,
         word,
+        &forms[..sieve],
+        &masks,
+        &reach,
         place,
         trail,
         out,

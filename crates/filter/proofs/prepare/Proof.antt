@@ -1,0 +1,110 @@
+-- `filter::prepare` meets its contract.
+use Prim.Native.Nat.{ℕ, _<_, _≤_, _^_}
+use native.Mathlib.Omega.{arith}
+use native.Mathlib.Decide.{decLt}
+use borrow.Author.Needs.{needs}
+use mathlib.Core.Logic.{_⊎_, inl, inr, ⊎-elim}
+use mathlib.Core.Path.{_≡_, refl, sym, ap, _∙_, subst}
+use mathlib.Core.List.{List}
+use lib.ListN.{length, getD, replicate, getD-replicate, List·getD-eq-default}
+use lib.Pow.{pow-pos, pow-mono}
+use Rattle.model.specs.Blocks.{Header, header}
+use Rattle.model.specs.Lexicon.{entry, continuation}
+use Rattle.model.specs.Refusals.{rightEntries}
+use Rattle.model.proofs.Booleans.{of-true}
+use Rattle.image.specs.Accepted.{Accepted}
+use Rattle.lexicon.proofs.Laws.{continuation-right}
+use Rattle.forms.specs.Forms.{rowsIn, flagsIn, FormsOf}
+use Rattle.filter.specs.Letters.{Wrote}
+use Rattle.listing.specs.Asked.{wordPattern}
+use Rattle.filter.specs.Stack.{Filled, Begins}
+use Rattle.filter.proofs.Parts.{part-long}
+use Rattle.filter.proofs.Words.{asksWord, word-covers, word-reaches}
+use Rattle.filter.proofs.prepare.Statement.{statement}
+use Rattle.filter.proofs.prepare.Tie as tie
+
+-- no letter has a set yet
+none : {masks : List ℕ} → masks ≡ replicate 128 0 → (a : ℕ) → getD masks a 0 < 2 ^ 32
+none e a = rw e (go (decLt a 128))
+  where
+    go : Dec (a < 128) → getD (replicate 128 0) a 0 < 2 ^ 32
+    go (yes h) = omega (arith, getD-replicate {A = ℕ} 128 a 0 0 h)
+    go (no h) = omega (arith, List·getD-eq-default {A = ℕ} (replicate 128 0) 0 {n = a} (omega arith))
+
+filled : {image forms word masks : List ℕ} {n : ℕ} → FormsOf image forms → Wrote (rowsIn forms) word masks n → Filled masks (flagsIn forms)
+filled {image} {forms} f w = record { long = w .long; flags-long = part-long forms 30976 128 (omega (arith, f .long)); letters-in = w .few }
+
+-- an entry goes on with a lexicon, or ends
+continues : {image : List ℕ} {h : Header} → Accepted image h → (e : ℕ) → e < header image .entries → (continuation (entry image e) < 64) ⊎ (continuation (entry image e) ≡ 255)
+continues {image} {h} a e inside =
+    let l = a .laid in
+    ⊎-elim (λ k. inl (omega (arith, k, l .limits .lexicons-most))) inr
+    (continuation-right image h l (of-true (rightEntries image) (a .entries-right)) e (omega (arith, inside, ap (λ (g : Header). g .entries) (l .header-is))))
+
+sub-fill : tie.Need-sub-fill
+sub-fill c = search needs
+
+part-fill-start : tie.Need-part-fill-start
+part-fill-start c = search needs
+
+part-fill-end : tie.Need-part-fill-end
+part-fill-end c = search needs
+
+fill-requires : tie.Need-fill-requires
+fill-requires c κs = 
+    let s = c .before .before .before .before .before .before .before .before in
+    let word = s .pre .1 .1 .1 .0 in
+    (λ i h. s .pre .1 .1 .0 .rowed (getD (s .args .word .now) i 0) (word .1 i h), ((word .0, ap length (s .pre .1 .1 .1 .1 .0)), none (s .pre .1 .1 .1 .1 .0)))
+
+begin-requires : tie.Need-begin-requires
+begin-requires c κs = 
+    let s = c .before .before .before .before .before .before .before .before .before .before .before .before .before in
+    let w = c .before .before .before .before .fill .ensures in
+    ((w .1 .long, s .pre .1 .1 .1 .1 .1), (w .1 .few 0, (omega (arith, w .0, pow-pos (length (s .args .word .now))), omega (arith, w .0, pow-mono {i = length (s .args .word .now)} {j = 32} (s .pre .1 .1 .1 .0 .0)))))
+
+narrow-requires : tie.Need-narrow-requires
+narrow-requires c κs = 
+    let s = c .before .before .before .before .before .before .before .before .before .before .before .before .before .before .before .before .before .before in
+    let w = c .before .before .before .before .before .before .before .before .before .fill .ensures in
+    (s .pre .0, (s .pre .1 .0, (s .pre .1 .1 .0, (filled (s .pre .1 .1 .0) (w .1), c .before .before .before .before .begin .ensures .1))))
+
+same-length : tie.Need-same-length
+same-length c = search needs
+
+same-length-2 : tie.Need-same-length-2
+same-length-2 c = search needs
+
+returns : tie.Need-returns
+unfolding wordPattern
+returns c = λ path.
+    let s = c .before .before .before .before .before .before .before .before .before .before .before .before .before .before .before .before .before .before .before .before .before in
+    let w = c .before .before .before .before .before .before .before .before .before .before .before .before .fill in
+    let b = c .before .before .before .before .before .before .before .begin in
+    let done = c .before .before .narrow .ensures in
+    let forms = s .pre .1 .1 .0 in
+    let image = s .args .image .now in
+    let word = s .args .word .now in
+    let masks = w .last .1 .1 .0 in
+    let flags = flagsIn (s .args .forms .now) in
+    let reach = b .last .1 .1 .0 in
+    record {
+      forms-of = forms;
+      filled = filled forms (w .ensures .1);
+      reached = done .reached;
+      covers = word-covers image (s .args .forms .now) word masks path forms (w .ensures .1);
+      reaches = done .reaches (asksWord word path) (word-reaches image word masks flags reach path (subst (λ (n : ℕ). Begins masks n reach) (w .ensures .0) (b .ensures .0)) (continues (s .pre .0)));
+    }
+
+pub prepare-spec : {M : Type 1} → statement M
+prepare-spec =
+    tie.close
+    (tie.spec
+    sub-fill
+    part-fill-start
+    part-fill-end
+    fill-requires
+    begin-requires
+    narrow-requires
+    same-length
+    same-length-2
+    returns)

@@ -1,0 +1,1 @@
+// The index of an image's forms.
