@@ -5,6 +5,7 @@ use native.Mathlib.Decide.{ℕ-discrete}
 use mathlib.Core.Logic.{_⊎_, inl, inr}
 use mathlib.Core.Path.{_≡_, refl, sym, ap, ap₂, _∙_, subst}
 use mathlib.Core.List.{List, [], _∷_, _++_, List·Memᴰ, List·Memᴰ·head, List·Memᴰ·tail, List·Memᴰ·not-nil}
+use lib.ListN.{length, getD}
 use Rattle.model.specs.Lists.{below, flatMap}
 use Rattle.model.proofs.Lists.{flatMap-append, flatMap-below}
 use Rattle.model.proofs.Parts.{flatMap-same}
@@ -87,3 +88,9 @@ rising-within low high xs r bound h = go 0 low xs (omega arith) r
     go : (k low : ℕ) (xs : List ℕ) → k ≤ low → Rising low high xs → Rising k bound xs
     go k low [] l r = tt
     go k low (x ∷ xs) l r = (omega (arith, r .0), (omega (arith, r .1 .0), go (suc x) (suc x) xs (omega arith) (r .1 .1)))
+
+-- each of them is in the range
+pub rising-in : (low high : ℕ) (xs : List ℕ) → Rising low high xs → (k : ℕ) → k < length xs → (low ≤ getD xs k 0) × (getD xs k 0 < high)
+rising-in low high [] r k h = absurd (omega arith)
+rising-in low high (x ∷ xs) r zero h = (r .0, r .1 .0)
+rising-in low high (x ∷ xs) r (suc k) h = let u = rising-in (suc x) high xs (r .1 .1) k (omega arith) in (omega (arith, u .0, r .0), u .1)

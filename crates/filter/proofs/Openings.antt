@@ -20,9 +20,9 @@ use Rattle.rows.specs.Trail.{readingOf}
 use Rattle.listing.specs.declared.place.Place.{Place}
 use Rattle.listing.specs.Gather.{grow, gather, stepsFrom}
 use Rattle.listing.specs.Places.{nodeOf}
-use Rattle.listing.specs.Search.{nodeAt}
+use Rattle.listing.specs.Search.{nodeAt, entryOne}
 use Rattle.listing.specs.Opening.{mayEnter, Ranged}
-use Rattle.listing.proofs.Searching.{entryOne, entry-none}
+use Rattle.listing.proofs.Searching.{entry-none}
 use Rattle.listing.proofs.Loops.{flatMap-places}
 use Rattle.filter.specs.Positions.{Feasible, Leads}
 use Rattle.filter.specs.Reach.{Covers, HopeAt, Sound}

@@ -94,7 +94,7 @@ one-only (suc j) zero t = absurd (subst (λ (x : ℕ). T (eqb x 1)) even t)
     even = ap (λ (x : ℕ). x % 2) (pow-suc 2 j) ∙ omega arith
 one-only (suc j) (suc i) t = let e : 2 ^ suc j / 2 ≡ 2 ^ j = ap (λ (x : ℕ). x / 2) (pow-suc 2 j) ∙ omega arith in ap suc (one-only j i (subst (λ (x : ℕ). T (bit x i)) e t))
 
-one-has : (j : ℕ) → T (bit (2 ^ j) j)
+pub one-has : (j : ℕ) → T (bit (2 ^ j) j)
 one-has zero = tt
 one-has (suc j) = let e : 2 ^ suc j / 2 ≡ 2 ^ j = ap (λ (x : ℕ). x / 2) (pow-suc 2 j) ∙ omega arith in subst (λ (x : ℕ). T (bit x j)) (sym e) (one-has j)
 

@@ -18,6 +18,10 @@ use Rattle.filter.specs.Survivors.{Surviving}
 abbrev pub MayBe : List ℕ → List ℕ → Type 0
 MayBe image forms = (length forms ≡ 0) ⊎ FormsOf image forms
 
+-- a word that has a set for each of its letters and places
+abbrev pub Writable : List ℕ → Type 0
+Writable word = (length word ≤ 32) × ((i : ℕ) → i < length word → getD word i 0 ≤ 120)
+
 pub record Sieved (image : List ℕ) (q : Query) (forms masks reach : List ℕ) : Type 0 where
   pub forms-of : FormsOf image forms
   pub filled : Filled masks (flagsIn forms)
@@ -31,6 +35,7 @@ Sieve image q forms masks reach = (length forms ≡ 0) ⊎ Sieved image q forms 
 
 -- xs are the survivors of the entries that may open after entry `last`
 pub record Chosen (image : List ℕ) (path : Pattern) (forms masks reach : List ℕ) (last first : ℕ) (xs : List ℕ) : Type 0 where
+  pub some : length forms ≡ 0 → ⊥
   pub low : ℕ
   pub high : ℕ
   pub ranged : (n : ℕ) → Ranged (mayEnter image path last n) (header image .entries) low high

@@ -23,7 +23,7 @@ use Rattle.listing.specs.declared.place.Place.{Place}
 use Rattle.listing.specs.Gather.{grow, gather, stepsLeft, stepsFrom}
 use Rattle.listing.specs.Places.{ended, stopsAfter, restOf, nodeOf, OnlyStops}
 use Rattle.listing.specs.Opening.{mayEnter}
-use Rattle.listing.specs.Search.{nodeAt, headOf, foundAt}
+use Rattle.listing.specs.Search.{nodeAt, headOf, foundAt, entryOne}
 use Rattle.listing.proofs.Gather.{branch, gather-open, gather-pair, gather-last, stepsFrom-stop, stepsFrom-enter, stepsFrom-pair}
 use Rattle.listing.proofs.Loops.{flatMap-only, below-low}
 
@@ -77,12 +77,9 @@ module _ (image : List ℕ) (q : Query) (place : Place) (trail : Trail) where
           ∙ ap (λ (l : List Reading). given (complete g q n) (r ∷ []) ++ l) (all-empty (branch g q k n r false) (g .pairs) (λ x. same-none (mayAt g q false n x) (gather g q k (goAt g q false n x) (grow false r x)) (pair-shut h x)))
           ∙ append-nil (given (complete g q n) (r ∷ []))
 
-  -- what is found where the path ends here, and by entry e
+  -- what is found where the path ends here
   abbrev pub stopOne : List Reading
   stopOne = branch g q (pred (stepsFrom n)) n r true 0
-
-  abbrev pub entryOne : ℕ → List Reading
-  entryOne e = branch g q (pred (stepsFrom n)) n r true (suc e)
 
   -- a path that may not end, and an entry that may not open, find nothing
   pub stop-none : stopsAfter image (place .last) ≡ false → stopOne ≡ []
@@ -93,15 +90,15 @@ module _ (image : List ℕ) (q : Query) (place : Place) (trail : Trail) where
   unfolding mayAt nodeOf
   entry-may spare e b may = rw (lt-ltb (trail .entries) 16 spare) may
 
-  pub entry-none : trail .entries < 16 → (e : ℕ) → mayEnter image (q .entries) (place .last) (trail .entries) e ≡ false → entryOne e ≡ []
+  pub entry-none : trail .entries < 16 → (e : ℕ) → mayEnter image (q .entries) (place .last) (trail .entries) e ≡ false → entryOne image q place trail e ≡ []
   entry-none spare e may = same-none (mayAt g q true n (suc e)) _ (entry-may spare e false may)
 
   -- with no entry to spare, none opens
-  full-none : 16 ≤ trail .entries → (e : ℕ) → entryOne e ≡ []
+  full-none : 16 ≤ trail .entries → (e : ℕ) → entryOne image q place trail e ≡ []
   unfolding mayAt nodeOf
   full-none h e = same-none (mayAt g q true n (suc e)) _ (rw (le-ltb (trail .entries) 16 h) refl)
 
-  shut-none : OnlyStops image (place .last) → (e : ℕ) → entryOne e ≡ []
+  shut-none : OnlyStops image (place .last) → (e : ℕ) → entryOne image q place trail e ≡ []
   unfolding mayAt nodeOf
   shut-none only e = same-none (mayAt g q true n (suc e)) _ (rw (only .none-next e) (go (ltb (trail .entries) 16) (q .entries .allows (trail .entries) e)))
     where
@@ -118,15 +115,15 @@ module _ (image : List ℕ) (q : Query) (place : Place) (trail : Trail) where
   entries-are = refl
 
   module _ (o : opens n ≡ true) where
-    pub open-all : foundAt image q place trail ≡ stopOne ++ flatMap entryOne (below (header image .entries))
+    pub open-all : foundAt image q place trail ≡ stopOne ++ flatMap (entryOne image q place trail) (below (header image .entries))
     unfolding foundAt
     open-all =
         let k = pred (stepsFrom n) in
         let s : stepsFrom n ≡ suc k = stepsFrom-stop g q n o ∙ ap (λ (m : ℕ). suc (pred m)) (sym (stepsFrom-stop g q n o)) in
-        ap (λ (m : ℕ). gather g q m n r) s ∙ gather-open g q k n r o ∙ ap (λ (m : ℕ). stopOne ++ flatMap entryOne (below m)) entries-are
+        ap (λ (m : ℕ). gather g q m n r) s ∙ gather-open g q k n r o ∙ ap (λ (m : ℕ). stopOne ++ flatMap (entryOne image q place trail) (below m)) entries-are
 
     pub open-full : 16 ≤ trail .entries → foundAt image q place trail ≡ stopOne
-    open-full h = open-all ∙ ap (λ (l : List Reading). stopOne ++ l) (all-empty entryOne (header image .entries) (full-none h)) ∙ append-nil stopOne
+    open-full h = open-all ∙ ap (λ (l : List Reading). stopOne ++ l) (all-empty (entryOne image q place trail) (header image .entries) (full-none h)) ∙ append-nil stopOne
 
     -- and by the code's calls
     pub stop-one : stopsAfter image (place .last) ≡ true → (next : Place) → nodeAt image next trail ≡ goAt g q true n 0 → foundAt image q next trail ≡ stopOne
@@ -141,9 +138,9 @@ module _ (image : List ℕ) (q : Query) (place : Place) (trail : Trail) where
     pub only-stop : OnlyStops image (place .last) → (next : Place) → nodeAt image next trail ≡ goAt g q true n 0 → foundAt image q next trail ≡ foundAt image q place trail
     only-stop only next e =
         stop-one (only .stops) next e
-        ∙ sym (open-all ∙ ap (λ (l : List Reading). stopOne ++ l) (all-empty entryOne (header image .entries) (shut-none only)) ∙ append-nil stopOne)
+        ∙ sym (open-all ∙ ap (λ (l : List Reading). stopOne ++ l) (all-empty (entryOne image q place trail) (header image .entries) (shut-none only)) ∙ append-nil stopOne)
 
-    pub entry-one : (spare : trail .entries < 16) (e : ℕ) → mayEnter image (q .entries) (place .last) (trail .entries) e ≡ true → (next : Place) (longer : Trail) → nodeAt image next longer ≡ goAt g q true n (suc e) → readingOf longer ≡ grow true r (suc e) → foundAt image q next longer ≡ entryOne e
+    pub entry-one : (spare : trail .entries < 16) (e : ℕ) → mayEnter image (q .entries) (place .last) (trail .entries) e ≡ true → (next : Place) (longer : Trail) → nodeAt image next longer ≡ goAt g q true n (suc e) → readingOf longer ≡ grow true r (suc e) → foundAt image q next longer ≡ entryOne image q place trail e
     unfolding foundAt
     entry-one spare e may next longer f h =
         let s : stepsFrom (goAt g q true n (suc e)) ≡ pred (stepsFrom n) = ap pred (sym (stepsFrom-enter g q n e o (entries-few spare))) in

@@ -28,9 +28,9 @@ use Rattle.rows.specs.Trail.{readingOf}
 use Rattle.listing.specs.declared.place.Place.{Place}
 use Rattle.listing.specs.Gather.{grow, gather, stepsFrom}
 use Rattle.listing.specs.Places.{restOf, nodeOf, Took}
-use Rattle.listing.specs.Search.{nodeAt, headOf}
+use Rattle.listing.specs.Search.{nodeAt, headOf, entryOne}
 use Rattle.listing.proofs.Gather.{branch, gather-last}
-use Rattle.listing.proofs.Searching.{entryOne, full-shut, gather-candidates}
+use Rattle.listing.proofs.Searching.{full-shut, gather-candidates}
 use Rattle.search.specs.FirstLetters.{startsAt, seenAt}
 use Rattle.search.proofs.Standing.{head-within}
 use Rattle.search.proofs.Candidates.{Candidate}

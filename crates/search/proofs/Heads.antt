@@ -24,10 +24,10 @@ use Rattle.listing.specs.declared.place.Place.{Place}
 use Rattle.listing.specs.Gather.{stepsLeft}
 use Rattle.listing.specs.Places.{root, ended, stopsAfter, restOf, withLast, nodeOf, Standing, Took, OnlyStops}
 use Rattle.listing.specs.Opening.{mayEnter}
-use Rattle.listing.specs.Search.{nodeAt, headOf, foundAt}
+use Rattle.listing.specs.Search.{nodeAt, headOf, foundAt, entryOne}
 use Rattle.listing.proofs.Loops.{flatMap-places}
 use Rattle.listing.proofs.Places.{stopped-node, stopped-stands}
-use Rattle.listing.proofs.Searching.{stopOne, entryOne, pairOne}
+use Rattle.listing.proofs.Searching.{stopOne, pairOne}
 use Rattle.model.proofs.Booleans.{and-out, not-out, of-true, right-false}
 use Rattle.listing.proofs.Searching as found
 use Rattle.search.specs.Here.{opensAt, Underway}

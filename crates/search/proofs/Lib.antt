@@ -4,3 +4,4 @@ pub mod Candidates
 pub mod Heads
 pub mod Starting
 pub mod FirstLetters
+pub mod Choosing

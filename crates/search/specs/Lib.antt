@@ -1,2 +1,3 @@
 pub mod Here
 pub mod FirstLetters
+pub mod Listed

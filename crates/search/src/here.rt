@@ -3,8 +3,8 @@ ghost use mathlib.Core.Bool.{true, false};
 ghost use mathlib.Core.Logic.{_⊎_};
 ghost use mathlib.Core.Path.{_≡_};
 ghost use mathlib.Core.List.{[], _∷_};
-ghost use Prim.Native.Nat.{_≤_, _<_};
-ghost use lib.ListN.{length, getD};
+ghost use Prim.Native.Nat.{ℕ, _≤_, _<_};
+ghost use lib.ListN.{length, getD, take, replicate};
 ghost use Rattle.model.specs.Lists.{given};
 ghost use Rattle.model.specs.Blocks.{header};
 ghost use Rattle.model.specs.GrammarOf.{grammarOf};
@@ -16,13 +16,16 @@ ghost use Rattle.image.specs.Index.{indexOf, candidates};
 ghost use Rattle.rows.specs.Trail.{readingOf};
 ghost use Rattle.rows.specs.Offering.{offerAll};
 ghost use Rattle.rows.specs.Fill.{put};
-ghost use Rattle.listing.specs.Asked.{queryBy};
+ghost use Rattle.model.specs.Query.{Pattern};
+ghost use Rattle.listing.specs.Asked.{wordQuery, queryBy};
+ghost use Rattle.filter.specs.Sieve.{MayBe, Writable, Sieve};
 ghost use Rattle.listing.specs.Places.{ended, restOf, withLast, Standing, OnlyStops};
 ghost use Rattle.listing.specs.Search.{nodeAt, headOf};
 ghost use Rattle.search.specs.Here.{opensAt, Underway};
 use image::Header;
 use letters::Lexical;
 use listing::asked::Asked;
+use listing::asked::WordAsked;
 use listing::place::ENDED;
 use listing::place::Place;
 use rows::Trail;
@@ -94,4 +97,34 @@ pub fn candidate(image: &[u8], index: &[u8], h: Header, a: Lexical, k: usize) ->
     ensures { λ r. ⌜ (r ≡ getD (candidates (now (image .entry)) (a .0)) k 0) × (r < h .pairs) ⌝ }
 {
     image::byte_at(index, 256 * (32 + a.0 as usize) + 1 + k)
+}
+
+// The filter's sets, where there is an index of forms and a word is asked for: how many bytes of that index the search goes by.
+pub fn prepare(
+    image: &[u8],
+    index: &[u8],
+    h: Header,
+    asked: WordAsked,
+    word: &[u8],
+    forms: &[u8],
+    masks: &mut [u64],
+    reach: &mut [u64],
+) -> usize
+    requires { ⌜ Accepted (now image) (headerOf h) ⌝ }
+    requires { ⌜ now index ≡ indexOf (now image) ⌝ }
+    requires { ⌜ MayBe (now image) (now forms) × Writable (now word) ⌝ }
+    requires { ⌜ (now masks ≡ replicate 128 0) × (length (now reach) ≡ 65) ⌝ }
+    ensures { λ r. ⌜ (r ≤ length (now (forms .entry))) × ((path : Pattern) → Sieve (now (image .entry)) (wordQuery asked (now (word .entry)) path) (take r (now (forms .entry))) (now (masks .exit)) (now (reach .exit))) ⌝ }
+{
+    let many = forms.len();
+    if many == 0 {
+        return 0;
+    }
+    match asked {
+        WordAsked::Anything => 0,
+        WordAsked::Exactly => {
+            filter::prepare(image, index, h, forms, word, masks, reach);
+            many
+        }
+    }
 }

@@ -5,7 +5,9 @@ pub mod starts;
 
 ghost use mathlib.Core.Bool.{true};
 ghost use mathlib.Core.Path.{_≡_};
-ghost use Prim.Native.Nat.{_≤_};
+ghost use Prim.Native.Nat.{_<_, _≤_};
+ghost use lib.ListN.{length, take};
+ghost use Rattle.model.specs.Lists.{below, flatMap};
 ghost use Rattle.model.specs.GrammarOf.{grammarOf};
 ghost use Rattle.model.specs.Rows.{rowCount};
 ghost use Rattle.model.specs.Tree.{readings};
@@ -15,7 +17,9 @@ ghost use Rattle.image.specs.Index.{indexOf};
 ghost use Rattle.rows.specs.Offering.{offerAll};
 ghost use Rattle.rows.specs.Fill.{put};
 ghost use Rattle.listing.specs.Asked.{queryBy};
-ghost use Rattle.listing.specs.Search.{foundAt};
+ghost use Rattle.listing.specs.Search.{foundAt, entryOne};
+ghost use Rattle.filter.specs.Sieve.{MayBe, Writable, Sieve};
+ghost use Rattle.search.specs.Listed.{Listed};
 ghost use Rattle.search.specs.Here.{opensAt, Underway};
 use image::Header;
 use listing::asked::Asked;
@@ -25,9 +29,7 @@ use listing::place::Place;
 use listing::place::ROOT;
 use rows::Trail;
 
-// Where every letter is paired: the path ends, where it may, and then each entry that may open does, and its letters are paired. Whether a pair may be
-// taken at once is the same for all entries that begin with one letter: `known` keeps what was seen of each, 0 before it is looked at, and where that
-// is 1 an entry is passed over.
+// Where every letter is paired: the path ends, where it may, and then each entry that may open does, or each that the filter leaves.
 pub fn open(
     image: &[u8],
     index: &[u8],
@@ -77,7 +79,6 @@ pub fn open(
         return n;
     }
     let path_asked = asked.path;
-    let word_asked = asked.word;
     let level = place.surface;
     let mut list = [0u16; 64];
     let many = filter::choose(
@@ -93,8 +94,8 @@ pub fn open(
         level.letters,
         &mut list,
     );
-    if many < 65 {
-        return open_listed(
+    if many == 65 {
+        return open_each(
             image,
             index,
             h,
@@ -106,13 +107,57 @@ pub fn open(
             reach,
             place,
             trail,
-            &list,
-            many,
             out,
             capacity,
             n,
         );
     }
+    open_listed(
+        image,
+        index,
+        h,
+        asked,
+        path,
+        word,
+        forms,
+        masks,
+        reach,
+        place,
+        trail,
+        &list,
+        many,
+        out,
+        capacity,
+        n,
+    )
+}
+
+// Each entry that may open does, and its letters are paired. Whether a pair may be taken at once is the same for all entries that begin with one letter:
+// `known` keeps what was seen of each, 0 before it is looked at, and where that is 1 an entry is passed over.
+pub fn open_each(
+    image: &[u8],
+    index: &[u8],
+    h: Header,
+    asked: Asked,
+    path: &[u8],
+    word: &[u8],
+    forms: &[u8],
+    masks: &[u64],
+    reach: &[u64],
+    place: Place,
+    trail: Trail,
+    out: &mut [u8],
+    capacity: usize,
+    found: usize,
+) -> usize
+    requires { ⌜ Underway (now image) (now index) (headerOf h) place trail ⌝ }
+    requires { ⌜ Sieve (now image) (queryBy asked (now path) (now word)) (now forms) (now masks) (now reach) ⌝ }
+    requires { ⌜ (opensAt place ≡ true) × (trail .entries < 16) ⌝ }
+    requires { ⌜ (capacity ≡ rowCount (now out)) × (found ≤ capacity) ⌝ }
+    ensures { λ r. ⌜ (now (out .exit), r) ≡ offerAll (put capacity) (now (out .entry), found) (flatMap (entryOne (now (image .entry)) (queryBy asked (now (path .entry)) (now (word .entry))) place trail) (below (h .entries))) ⌝ }
+{
+    let path_asked = asked.path;
+    let word_asked = asked.word;
     let ways = listing::opening::ways_on(
         image,
         index,
@@ -123,6 +168,7 @@ pub fn open(
         trail.entries,
     );
     let entries = h.entries;
+    let mut n = found;
     let mut known = [0u8; 128];
     let mut e = listing::opening::next_entry(h, ways, ways.low);
     while e < entries {
@@ -181,9 +227,10 @@ pub fn open_listed(
     capacity: usize,
     found: usize,
 ) -> usize
-    requires { ⌜ Opening (now image) (now index) (headerOf h) place trail ⌝ }
+    requires { ⌜ Underway (now image) (now index) (headerOf h) place trail ⌝ }
     requires { ⌜ Sieve (now image) (queryBy asked (now path) (now word)) (now forms) (now masks) (now reach) ⌝ }
-    requires { ⌜ (many ≤ length (now list)) × Listed (now image) (queryBy asked (now path) (now word)) place trail (take many (now list)) ⌝ }
+    requires { ⌜ (opensAt place ≡ true) × (trail .entries < 16) ⌝ }
+    requires { ⌜ ((many ≤ 64) × (many ≤ length (now list))) × Listed (now image) (queryBy asked (now path) (now word)) place trail (take many (now list)) ⌝ }
     requires { ⌜ (capacity ≡ rowCount (now out)) × (found ≤ capacity) ⌝ }
     ensures { λ r. ⌜ (now (out .exit), r) ≡ offerAll (put capacity) (now (out .entry), found) (flatMap (entryOne (now (image .entry)) (queryBy asked (now (path .entry)) (now (word .entry))) place trail) (below (h .entries))) ⌝ }
 {
@@ -324,7 +371,7 @@ pub fn search(
 ) -> usize
     requires { ⌜ Accepted (now image) (headerOf h) ⌝ }
     requires { ⌜ now index ≡ indexOf (now image) ⌝ }
-    requires { ⌜ Sifts (now image) (now word) (now forms) ⌝ }
+    requires { ⌜ MayBe (now image) (now forms) × Writable (now word) ⌝ }
     ensures { λ r. ⌜ (now (out .exit), r) ≡ offerAll (put (rowCount (now (out .entry)))) (now (out .entry), 0) (readings (grammarOf (now (image .entry))) (queryBy asked (now (path .entry)) (now (word .entry)))) ⌝ }
 {
     let capacity = out.len() / 116;
@@ -347,9 +394,19 @@ pub fn search(
         states: states,
     };
     let trail = rows::no_trail();
+    let word_asked = asked.word;
     let mut masks = [0u64; 128];
     let mut reach = [0u64; 65];
-    let sieve = crate::here::sieve(image, index, h, asked.word, word, forms, &mut masks, &mut reach);
+    let many = crate::here::prepare(
+        image,
+        index,
+        h,
+        word_asked,
+        word,
+        forms,
+        &mut masks,
+        &mut reach,
+    );
     open(
         image,
         index,
@@ -357,7 +414,7 @@ pub fn search(
         asked,
         path,
         word,
-        &forms[..sieve],
+        &forms[..many],
         &masks,
         &reach,
         place,

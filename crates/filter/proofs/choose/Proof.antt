@@ -62,7 +62,7 @@ returns-3 : tie.Need-returns-3
 returns-3 c = inl refl
 
 among-requires : tie.Need-among-requires
-among-requires c κs = 
+among-requires c κs =
     let s = c .before .before .before .before .before .before .before .before .before .before .before .before .before .before .before in
     let range = c .before .before in
     let sieved = known s (c .before .before .before .before .before .before .before .if1 .left) in
@@ -75,14 +75,14 @@ same-length : tie.Need-same-length
 same-length c = search needs
 
 returns-5 : tie.Need-returns-5
-returns-5 c = 
+returns-5 c =
     let s = c .before .before .before .before .before .before .before .before .before .before .before .before .before .before .before .before .before .before in
     let range = c .before .before .before .before .before in
     let a = s .args in
     let on = range .before .before .lexicon-on in
     let other = range .before .if2 .left in
     ⊎-elim inl
-    (λ r. inr (r .0, record { low = range .lexicon-range .result .low; high = range .lexicon-range .result .high; ranged = λ n. rw (told s (range .before .before .before .enum-told2 .given .1)) (ranged-as (on .ensures .ways other anything n) (anything-range (a .image .now) (headerOf (a .h)) (s .pre .0) (on .result) (inside s (on .ensures .inside other)) (range .lexicon-range .result .low) (range .lexicon-range .result .high) (range .lexicon-range .ensures .0) (range .lexicon-range .ensures .1) n)); surviving = r .1 }))
+    (λ r. inr (r .0, record { some = c .before .before .before .before .before .before .before .before .before .before .if1 .left; low = range .lexicon-range .result .low; high = range .lexicon-range .result .high; ranged = λ n. rw (told s (range .before .before .before .enum-told2 .given .1)) (ranged-as (on .ensures .ways other anything n) (anything-range (a .image .now) (headerOf (a .h)) (s .pre .0) (on .result) (inside s (on .ensures .inside other)) (range .lexicon-range .result .low) (range .lexicon-range .result .high) (range .lexicon-range .ensures .0) (range .lexicon-range .ensures .1) n)); surviving = r .1 }))
     (c .before .before .among .ensures)
 
 pub choose-spec : {M : Type 1} → statement M

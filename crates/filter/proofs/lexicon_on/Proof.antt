@@ -22,7 +22,7 @@ continuation-of-requires : tie.Need-continuation-of-requires
 continuation-of-requires c κs = (c .before .before .pre .0 .laid, entry c)
 
 returns-2 : tie.Need-returns-2
-returns-2 c = 
+returns-2 c =
     let at = c .before in
     let s = c .before .before .before in
     let image = s .args .image .now in

@@ -51,19 +51,19 @@ part-fill-end : tie.Need-part-fill-end
 part-fill-end c = search needs
 
 fill-requires : tie.Need-fill-requires
-fill-requires c κs = 
+fill-requires c κs =
     let s = c .before .before .before .before .before .before .before .before in
     let word = s .pre .1 .1 .1 .0 in
     (λ i h. s .pre .1 .1 .0 .rowed (getD (s .args .word .now) i 0) (word .1 i h), ((word .0, ap length (s .pre .1 .1 .1 .1 .0)), none (s .pre .1 .1 .1 .1 .0)))
 
 begin-requires : tie.Need-begin-requires
-begin-requires c κs = 
+begin-requires c κs =
     let s = c .before .before .before .before .before .before .before .before .before .before .before .before .before in
     let w = c .before .before .before .before .fill .ensures in
     ((w .1 .long, s .pre .1 .1 .1 .1 .1), (w .1 .few 0, (omega (arith, w .0, pow-pos (length (s .args .word .now))), omega (arith, w .0, pow-mono {i = length (s .args .word .now)} {j = 32} (s .pre .1 .1 .1 .0 .0)))))
 
 narrow-requires : tie.Need-narrow-requires
-narrow-requires c κs = 
+narrow-requires c κs =
     let s = c .before .before .before .before .before .before .before .before .before .before .before .before .before .before .before .before .before .before in
     let w = c .before .before .before .before .before .before .before .before .before .fill .ensures in
     (s .pre .0, (s .pre .1 .0, (s .pre .1 .1 .0, (filled (s .pre .1 .1 .0) (w .1), c .before .before .before .before .begin .ensures .1))))

@@ -4,11 +4,12 @@ use borrow.Author.Tests.{not-true, not-false}
 use native.Mathlib.Omega.{arith}
 use mathlib.Core.Bool.{Bool, true, false}
 use mathlib.Core.Path.{_≡_, refl, sym, ap, _∙_, subst}
+use lib.Seq.{length-take-le}
 use Rattle.model.specs.Rows.{rowCount}
 use Rattle.rules.specs.Live.{BegunOf}
 use Rattle.rows.specs.Offering.{offerAll}
 use Rattle.rows.specs.Fill.{put}
-use Rattle.listing.specs.Asked.{queryBy}
+use Rattle.listing.specs.Asked.{pathPattern, queryBy}
 use Rattle.search.specs.Here.{opensAt}
 use Rattle.search.proofs.Starting.{start-underway, start-found, dead-found}
 use Rattle.search.proofs.search.Statement.{statement}
@@ -17,7 +18,7 @@ use Rattle.search.proofs.search.Tie as tie
 -- the front
 module _ (c : tie.After-begin-all) where
   abbrev start : tie.Start
-  start = c .before .before .before .before .before .before
+  start = c .before .before .before .before .before .before .before
 
   front : (b : Bool) → c .begin-all .result .alive ≡ b → BegunOf (start .args .image .now) b (c .begin-all .result .states)
   front b e = subst (λ (b : Bool). BegunOf (start .args .image .now) b (c .begin-all .result .states)) e (c .begin-all .ensures)
@@ -43,23 +44,56 @@ returns c =
 no-trail-requires : tie.Need-no-trail-requires
 no-trail-requires c κs = search needs
 
+slice-aggregate-prepare : tie.Need-slice-aggregate-prepare
+slice-aggregate-prepare c = search needs
+
+slice-aggregate-prepare-2 : tie.Need-slice-aggregate-prepare-2
+slice-aggregate-prepare-2 c = search needs
+
+prepare-requires : tie.Need-prepare-requires
+prepare-requires c κs = let s = c .before .before .before .before .before .before .before .before .before .before .before .before in (s .pre .0, (s .pre .1 .0, (s .pre .1 .1, (refl, refl))))
+
+slice-aggregate-open : tie.Need-slice-aggregate-open
+slice-aggregate-open c = sym (length-take-le (c .before .before .before .prepare .result) (c .before .before .before .before .before .before .before .before .before .before .before .before .before .before .before .before .args .forms .now) (c .before .before .before .prepare .ensures .0))
+
+slice-aggregate-open-2 : tie.Need-slice-aggregate-open-2
+slice-aggregate-open-2 c = search needs
+
+slice-aggregate-open-3 : tie.Need-slice-aggregate-open-3
+slice-aggregate-open-3 c = search needs
+
 open-requires : tie.Need-open-requires
 unfolding opensAt
 open-requires c κs =
-    let t = c .before in
+    let t = c .before .before .before .before .before .before .before .before .before in
     let s = start (beginning t) in
-    (start-underway (s .pre .0) (s .pre .1) (begun t) (t .no-trail .ensures), (refl, (refl, omega arith)))
+    let a = s .args in
+    (start-underway (s .pre .0) (s .pre .1 .0) (begun t) (t .no-trail .ensures), (c .before .before .before .before .before .before .prepare .ensures .1 (pathPattern (a .asked .path) (a .path .now)), (refl, (refl, omega arith))))
 
 same-length : tie.Need-same-length
 same-length c = search needs
 
 returns-2 : tie.Need-returns-2
 returns-2 c =
-    let t = c .before .before .before .before in
+    let t = c .before .before .before .before .before .before .before .before .before .before .before .before in
     let s = start (beginning t) in
     let a = s .args in
     c .before .before .«open» .ensures
-    ∙ ap (offerAll (put (rowCount (a .out .now))) (a .out .now, 0)) (start-found (s .pre .0) (s .pre .1) (begun t) (t .no-trail .ensures) (queryBy (a .asked) (a .path .now) (a .word .now)))
+    ∙ ap (offerAll (put (rowCount (a .out .now))) (a .out .now, 0)) (start-found (s .pre .0) (s .pre .1 .0) (begun t) (t .no-trail .ensures) (queryBy (a .asked) (a .path .now) (a .word .now)))
 
 pub search-spec : {M : Type 1} → statement M
-search-spec = tie.close (tie.spec begin-all-requires returns no-trail-requires open-requires same-length returns-2)
+search-spec =
+    tie.close
+    (tie.spec
+    begin-all-requires
+    returns
+    no-trail-requires
+    slice-aggregate-prepare
+    slice-aggregate-prepare-2
+    prepare-requires
+    slice-aggregate-open
+    slice-aggregate-open-2
+    slice-aggregate-open-3
+    open-requires
+    same-length
+    returns-2)

@@ -84,7 +84,7 @@ same-length : tie.Need-same-length Inv-loop μ-loop
 same-length c = length-set (c .before .before .before .loop .reach) 64 (c .spread-back .result) ∙ c .before .before .before .loop .inv .1 .long ∙ sym (c .before .before .before .before .before .before .pre .0 .1)
 
 returns : tie.Need-returns Inv-loop μ-loop
-returns c = 
+returns c =
     let at = c .before .before .before in
     let s = c .before .before .before .before .before .before in
     let all : at .loop .x ≡ 64 = omega (arith, c .before .before .loop-test .left, at .loop .inv .0) in

@@ -53,7 +53,7 @@ byte-at-requires-2 : tie.Need-byte-at-requires-2 Inv-loop μ-loop
 byte-at-requires-2 c κs = omega (arith, few c, c .before .before .before .before .before .before .before .before .pre .1 .1 .0 .long)
 
 renew-requires : tie.Need-renew-requires Inv-loop μ-loop
-renew-requires c κs = 
+renew-requires c κs =
     let s = c .before .before .before .before .before .before .before .before .before .before in
     (s .pre .0, (s .pre .1 .0, (s .pre .1 .1 .0, (s .pre .1 .1 .1 .0, (c .before .before .before .loop .inv .1 .reached, named (c .before .before) (c .before .byte-at2 .ensures .0))))))
 

@@ -52,7 +52,7 @@ part-replace-end-4 : tie.Need-part-replace-end-4
 part-replace-end-4 c = omega (arith, c .before .before .before .before .before .before .before .before .before .pre .1 .1 .0 .long)
 
 replace-requires : tie.Need-replace-requires
-replace-requires c κs = 
+replace-requires c κs =
     let s = c .before .before .before .before .before .before .before .before .before .before .before in
     let y = s .pre .1 .1 .1 .1 .1 in
     let range = c .before .before .before .before .before .lexicon-range .ensures in

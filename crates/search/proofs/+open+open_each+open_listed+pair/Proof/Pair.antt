@@ -28,8 +28,8 @@ use Rattle.search.proofs.Standing.{not-ended}
 use Rattle.search.proofs.Candidates.{Candidate, candidate-spells}
 use Rattle.search.proofs.Turns.{turns-none, turns-more, turns-skip, turns-stop, turns-all, turns-is, state-is}
 use Rattle.search.proofs.Heads.{Pairing, Settled, end-fills, settled-left, settled-over, candidateOne, letter-in, pair-last, pair-offered, pair-none, pair-underway, pair-less, pair-turn}
-use Rattle.search.proofs.+open+pair.Lts-pair as lts
-use Rattle.search.proofs.+open+pair.Proof.Shared.{OfPair}
+use Rattle.search.proofs.+open+open_each+open_listed+pair.Lts-pair as lts
+use Rattle.search.proofs.+open+open_each+open_listed+pair.Proof.Shared.{OfPair}
 
 module _ (t : ℕ) where
   -- the places that the needs speak of: where the place is settled and the reading that ends has been offered, where the candidates are counted, a turn,
@@ -51,7 +51,7 @@ module _ (t : ℕ) where
 
   -- from each of them back to the one before
   abbrev first : Joined → OfPair t lts.Start
-  first w = w .before .before .before .before .before .before .before
+  first w = w .before .before .before .before .before .before .before .before .before .before
 
   abbrev joined : Head → Joined
   joined w = w .before .before .before .before
@@ -74,13 +74,13 @@ module _ (t : ℕ) where
 
   -- an entry may open
   pub goes-on-requires : OfPair t lts.Need-goes-on-requires
-  goes-on-requires c κs = let underway = c .before .before .before .before .before .before .before .pre .1 .0 in (underway .accepted, (underway .stands, c .if1 .taken))
+  goes-on-requires c κs = let underway = c .before .before .before .before .before .before .before .before .before .before .pre .1 .0 in (underway .accepted, (underway .stands, c .if1 .taken))
 
   pub open-requires : OfPair t lts.Need-open-requires
   open-requires c κs =
       let test = c .before .before in
-      let s = test .before .before .before .before .before .before .before .before in
-      (omega (arith, s .pre .0), (s .pre .1 .0, (test .goes-on .ensures .0 (c .before .if2 .taken), s .pre .1 .1)))
+      let s = test .before .before .before .before .before .before .before .before .before .before .before in
+      (omega (arith, s .pre .0), (s .pre .1 .0, (s .pre .1 .1 .0, (test .goes-on .ensures .0 (c .before .if2 .taken), s .pre .1 .1 .1))))
 
   pub same-length : OfPair t lts.Need-same-length
   same-length c = search needs
@@ -92,8 +92,8 @@ module _ (t : ℕ) where
   pub put-ended-requires : OfPair t lts.Need-put-ended-requires
   put-ended-requires c κs =
       let test = c .before .before .before in
-      let s = test .before .before .before .before .before .before .before in
-      (s .pre .1 .0, (test .if1 .taken, omega (arith, s .pre .1 .1)))
+      let s = test .before .before .before .before .before .before .before .before .before .before in
+      (s .pre .1 .0, (test .if1 .taken, omega (arith, s .pre .1 .1 .1)))
 
   -- what is complete here fills the rows
   pub same-length-2 : OfPair t lts.Need-same-length-2
@@ -103,11 +103,11 @@ module _ (t : ℕ) where
   returns-2 c =
       let made = c .before .before .before in
       let test = made .before .before .before in
-      let s = test .before .before .before .before .before .before .before .before in
+      let s = test .before .before .before .before .before .before .before .before .before .before .before in
       let a = s .args in
       let over = settled-over (s .pre .1 .0) (query s) (test .before .if1 .taken) (test .goes-on .ensures .1 (made .before .before .if2 .left)) in
       end-fills (over .underway) (query s) (put (a .capacity)) (a .out .now, a .found) (put-keeps (a .capacity)) (c .if3 .taken) (over .shut)
-      (made .put-ended .ensures ∙ offer-by (ap put (sym (s .pre .1 .1 .0))) _ _)
+      (made .put-ended .ensures ∙ offer-by (ap put (sym (s .pre .1 .1 .1 .0))) _ _)
       ∙ ap (offerAll (put (a .capacity)) (a .out .now, a .found)) (over .same (query s))
 
   settled : (w : Joined) → let a = first w .args in Settled (a .image .now) (a .index .now) (headerOf (a .h)) (a .place) (a .trail) (w .if1 .last)
@@ -129,7 +129,7 @@ module _ (t : ℕ) where
       let offered : Bool → List ℕ × ℕ = λ b. offerAll (put (a .capacity)) (a .out .now, a .found) (given b (readingOf (a .trail) ∷ [])) in
       let done : ℕ → Bool = λ last. complete g (query s) (nodeAt (a .image .now) (withLast (a .place) last) (a .trail)) in
       ⊎-elim
-      (λ v. state-is (v .4 .ensures ∙ offer-by (ap put (sym (s .pre .1 .1 .0))) _ _ ∙ ap (λ (last : ℕ). offered (done last)) (sym (v .9))) (v .8) (v .10))
+      (λ v. state-is (v .4 .ensures ∙ offer-by (ap put (sym (s .pre .1 .1 .1 .0))) _ _ ∙ ap (λ (last : ℕ). offered (done last)) (sym (v .9))) (v .8) (v .10))
       (λ v.
       let none = not-ended (a .image .now) (a .place) (s .pre .1 .0 .stands) (query s) (a .trail .entries) (a .trail .pairs) (v .0 .left) in
       state-is (sym (ap (λ (last : ℕ). offered (done last)) (v .2) ∙ ap offered none ∙ offer-none _ _)) (v .1) (v .3))
@@ -139,7 +139,7 @@ module _ (t : ℕ) where
   kept w = ⊎-elim (λ v. ap length (v .8) ∙ v .4 .kept .1 .1 .1 .1 .1 .1 .1 .1 .0) (λ v. ap length (v .1)) (w .if1 .came)
 
   room : (w : Joined) → w .if1 .n ≤ first w .args .capacity
-  room w = ⊎-elim (λ v. omega (arith, v .10, v .7 .left)) (λ v. omega (arith, v .3, first w .pre .1 .1 .1)) (w .if1 .came)
+  room w = ⊎-elim (λ v. omega (arith, v .10, v .7 .left)) (λ v. omega (arith, v .3, first w .pre .1 .1 .1 .1)) (w .if1 .came)
 
   pairing : (w : Head) → let a = start w .args in Pairing (a .image .now) (a .index .now) (headerOf (a .h)) (here (joined w)) (a .trail) (letter w)
   pairing w =
@@ -218,7 +218,7 @@ module _ (t : ℕ) where
   longer c =
       let w = head (c .before) in
       let a = start w .args in
-      let good = start w .good .1 .1 .1 .1 .1 .1 .1 .0 in
+      let good = start w .good .1 .1 .1 .1 .1 .1 .1 .1 .1 .1 .0 in
       let spare = pairing w .spare in
       let room : a .trail .pairs < length (a .trail .pairing) = search needs in
       longer-pair (a .trail) (pairing w .underway .short) spare room (c .candidate .result)
@@ -233,14 +233,14 @@ module _ (t : ℕ) where
       let may = c .before .before .if5 .taken in
       let holds = longer (tried .before) in
       let less = pair-less o (chosen (tried .before)) (tried .take .ensures (path tried)) may holds in
-      (omega (arith, s .pre .0, less, settled (joined w) .no-more), (pair-underway o (chosen (tried .before)) (tried .take .ensures (path tried)) may holds, (rw (here .before .loop .inv .1 .0 .0, kept (joined w)) (s .pre .1 .1 .0), here .before .loop .inv .1 .0 .1)))
+      (omega (arith, s .pre .0, less, settled (joined w) .no-more), (pair-underway o (chosen (tried .before)) (tried .take .ensures (path tried)) may holds, (s .pre .1 .1 .0, (rw (here .before .loop .inv .1 .0 .0, kept (joined w)) (s .pre .1 .1 .1 .0), here .before .loop .inv .1 .0 .1))))
 
   -- the rows are full
   pub same-length-4 : OfPair t lts.Need-same-length-4
   same-length-4 c =
       let made = c .before .before .before in
       let here = made .before .before .before .before .before .before in
-      made .pair .kept .1 .1 .1 .1 .1 .1 .1 .1 .0 ∙ here .before .loop .inv .1 .0 .0 ∙ kept (joined (head here))
+      made .pair .kept .1 .1 .1 .1 .1 .1 .1 .1 .1 .1 .1 .0 ∙ here .before .loop .inv .1 .0 .0 ∙ kept (joined (head here))
 
   pub returns-4 : OfPair t lts.Need-returns-4
   returns-4 c =
@@ -271,7 +271,7 @@ module _ (t : ℕ) where
         omega (arith, here .loop-test .taken),
         (
           (
-            ⊎-elim (λ v. ap length (v .7) ∙ v .3 .kept .1 .1 .1 .1 .1 .1 .1 .1 .0 ∙ loop .inv .1 .0 .0) (λ v. ap length (v .1) ∙ loop .inv .1 .0 .0) (c .if5 .came),
+            ⊎-elim (λ v. ap length (v .7) ∙ v .3 .kept .1 .1 .1 .1 .1 .1 .1 .1 .1 .1 .1 .0 ∙ loop .inv .1 .0 .0) (λ v. ap length (v .1) ∙ loop .inv .1 .0 .0) (c .if5 .came),
             ⊎-elim (λ v. omega (arith, v .8, v .6 .left)) (λ v. omega (arith, v .2, loop .inv .1 .0 .1)) (c .if5 .came),
           ),
           ⊎-elim
