@@ -1,4 +1,4 @@
-// Analysis and generation for callers that have checked the image and made its index: same reply, same bytes.
+// Analysis and generation for callers that have checked the image and made its index, or the larger one: same reply, same bytes.
 ghost use mathlib.Core.Path.{_≡_};
 ghost use Rattle.model.specs.Blocks.{header};
 ghost use Rattle.model.specs.Query.{analysis, generation};
@@ -6,9 +6,9 @@ ghost use Rattle.model.specs.Refusals.{accepted, imageVerdict};
 ghost use Rattle.model.specs.Rows.{rowCount};
 ghost use Rattle.model.specs.Calls.{listingReply, afterListing};
 ghost use Rattle.image.specs.Header.{headerOf};
-ghost use Rattle.image.specs.Index.{indexOf};
 ghost use Rattle.rows.specs.Fill.{replyOf};
 ghost use Rattle.analyser.specs.Request.{requestOf};
+ghost use Rattle.analyser.specs.Indexed.{Indexed};
 use crate::request::Direction;
 use grammar::Verdict;
 use image::Header;
@@ -17,7 +17,7 @@ use rows::Reply;
 pub fn analyse(image: &[u8], index: &[u8], h: Header, word: &[u8], out: &mut [u8]) -> Reply
     requires { ⌜ imageVerdict (now image) ≡ accepted ⌝ }
     requires { ⌜ headerOf h ≡ header (now image) ⌝ }
-    requires { ⌜ now index ≡ indexOf (now image) ⌝ }
+    requires { ⌜ Indexed (now image) (now index) ⌝ }
     ensures reply { λ r. ⌜ replyOf r ≡ listingReply (now (image .entry)) (analysis (now (word .entry))) (rowCount (now (out .entry))) ⌝ }
     ensures bytes { λ r. ⌜ now (out .exit) ≡ afterListing (now (image .entry)) (analysis (now (word .entry))) (now (out .entry)) ⌝ }
 {
@@ -27,7 +27,7 @@ pub fn analyse(image: &[u8], index: &[u8], h: Header, word: &[u8], out: &mut [u8
 pub fn generate(image: &[u8], index: &[u8], h: Header, path: &[u8], out: &mut [u8]) -> Reply
     requires { ⌜ imageVerdict (now image) ≡ accepted ⌝ }
     requires { ⌜ headerOf h ≡ header (now image) ⌝ }
-    requires { ⌜ now index ≡ indexOf (now image) ⌝ }
+    requires { ⌜ Indexed (now image) (now index) ⌝ }
     ensures reply { λ r. ⌜ replyOf r ≡ listingReply (now (image .entry)) (generation (now (path .entry))) (rowCount (now (out .entry))) ⌝ }
     ensures bytes { λ r. ⌜ now (out .exit) ≡ afterListing (now (image .entry)) (generation (now (path .entry))) (now (out .entry)) ⌝ }
 {
@@ -45,7 +45,7 @@ pub fn list(
 ) -> Reply
     requires { ⌜ imageVerdict (now image) ≡ accepted ⌝ }
     requires { ⌜ headerOf h ≡ header (now image) ⌝ }
-    requires { ⌜ now index ≡ indexOf (now image) ⌝ }
+    requires { ⌜ Indexed (now image) (now index) ⌝ }
     ensures reply { λ r. ⌜ replyOf r ≡ listingReply (now (image .entry)) (requestOf d (now (asked .entry))) (rowCount (now (out .entry))) ⌝ }
     ensures bytes { λ r. ⌜ now (out .exit) ≡ afterListing (now (image .entry)) (requestOf d (now (asked .entry))) (now (out .entry)) ⌝ }
 {
@@ -54,7 +54,15 @@ pub fn list(
         Verdict::Refused(k) => Reply::Refused(k),
         Verdict::Accepted => {
             let capacity = out.len() / 116;
-            let found = crate::request::search_for(image, index, h, d, asked, out);
+            let found = crate::request::search_for(
+                image,
+                &index[..39424],
+                h,
+                d,
+                asked,
+                &index[39424..],
+                out,
+            );
             rows::reply_for(found, capacity)
         }
     }

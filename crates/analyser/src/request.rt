@@ -1,5 +1,6 @@
 // What a call asks for: analysis the readings of a word, generation those of a path.
 ghost use mathlib.Core.Path.{_≡_};
+ghost use Rattle.model.specs.Refusals.{accepted, firstFailing, ownTests};
 ghost use Rattle.model.specs.Rows.{rowCount};
 ghost use Rattle.model.specs.Calls.{allReadings};
 ghost use Rattle.image.specs.Header.{headerOf};
@@ -7,6 +8,7 @@ ghost use Rattle.image.specs.Accepted.{Accepted};
 ghost use Rattle.image.specs.Index.{indexOf};
 ghost use Rattle.rows.specs.Offering.{offerAll};
 ghost use Rattle.rows.specs.Fill.{put};
+ghost use Rattle.filter.specs.Sieve.{MayBe};
 ghost use Rattle.analyser.specs.Request.{requestOf};
 use image::Header;
 use listing::asked::Asked;
@@ -25,10 +27,13 @@ pub fn search_for(
     h: Header,
     d: Direction,
     asked: &[u8],
+    forms: &[u8],
     out: &mut [u8],
 ) -> usize
     requires { ⌜ Accepted (now image) (headerOf h) ⌝ }
     requires { ⌜ now index ≡ indexOf (now image) ⌝ }
+    requires { ⌜ MayBe (now image) (now forms) ⌝ }
+    requires { ⌜ firstFailing (ownTests (now image) (requestOf d (now asked))) ≡ accepted ⌝ }
     ensures { λ r. ⌜ (now (out .exit), r) ≡ offerAll (put (rowCount (now (out .entry)))) (now (out .entry), 0) (allReadings (now (image .entry)) (requestOf d (now (asked .entry)))) ⌝ }
 {
     match d {
@@ -37,14 +42,14 @@ pub fn search_for(
                 path: PathAsked::Anything,
                 word: WordAsked::Exactly,
             };
-            search::search(image, index, h, word, &asked[..0], asked, out)
+            search::search(image, index, h, word, &asked[..0], asked, forms, out)
         }
         Direction::Generation => {
             let path = Asked {
                 path: PathAsked::Exactly,
                 word: WordAsked::Anything,
             };
-            search::search(image, index, h, path, asked, &asked[..0], out)
+            search::search(image, index, h, path, asked, &asked[..0], forms, out)
         }
     }
 }

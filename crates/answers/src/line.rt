@@ -8,7 +8,7 @@ ghost use Rattle.model.specs.Refusals.{accepted, imageVerdict};
 ghost use Rattle.model.specs.Lines.{lineOf, letters, printedLine};
 ghost use Rattle.model.specs.Demand.{replyRows};
 ghost use Rattle.image.specs.Header.{headerOf};
-ghost use Rattle.image.specs.Index.{indexOf};
+ghost use Rattle.analyser.specs.Indexed.{Indexed};
 ghost use Rattle.grammar.specs.Answers.{verdictOf};
 ghost use Rattle.rows.specs.Fill.{replyOf};
 ghost use Rattle.print.specs.Text.{Put};
@@ -42,7 +42,7 @@ fn answer_word(
 ) -> usize
     requires { ⌜ imageVerdict (now image) ≡ accepted ⌝ }
     requires { ⌜ headerOf h ≡ header (now image) ⌝ }
-    requires { ⌜ now index ≡ indexOf (now image) ⌝ }
+    requires { ⌜ Indexed (now image) (now index) ⌝ }
     requires { ⌜ (length (now rows) ≡ 7424) × (at + 22032 ≤ length (now out)) ⌝ }
     ensures { λ r. ⌜ Put (now (out .entry)) (now (out .exit)) at r (printedLine (now (image .entry)) (letters (now (word .entry)))) × (r ≤ at + 22032) ⌝ }
 {

@@ -4,6 +4,8 @@ ghost use Prim.Native.Nat.{ℕ};
 ghost use lib.ListN.{replicate};
 ghost use Rattle.model.specs.Refusals.{refused};
 ghost use Rattle.image.specs.Header.{headerOf};
+ghost use Rattle.image.specs.Accepted.{Accepted};
+ghost use Rattle.analyser.specs.Indexed.{Indexed};
 ghost use Rattle.grammar.specs.Answers.{verdictOf};
 ghost use Rattle.answers.specs.OnceARun.{OnceARun};
 use grammar::Verdict;
@@ -14,9 +16,19 @@ pub struct Prepared {
     pub h: Header,
 }
 
-// The image check, and of an accepted image the header and the index. `index` is all 0 before.
+// The index, and after it the index of forms. `index` is all 0 before.
+fn fill(image: &[u8], h: Header, index: &mut [u8])
+    requires { ⌜ Accepted (now image) (headerOf h) ⌝ }
+    requires { ⌜ now index ≡ replicate 186112 0 ⌝ }
+    ensures { λ r. ⌜ Indexed (now (image .entry)) (now (index .exit)) ⌝ }
+{
+    index::fill_index(image, h, &mut index[0..39424]);
+    forms::fill(image, h, &mut index[39424..186112]);
+}
+
+// The image check, and of an accepted image the header and the larger index. `index` is all 0 before.
 pub fn prepare(image: &[u8], index: &mut [u8]) -> Prepared
-    requires { ⌜ now index ≡ replicate 39424 0 ⌝ }
+    requires { ⌜ now index ≡ replicate 186112 0 ⌝ }
     ensures had { λ r. ⌜ OnceARun (now (image .entry)) (now (index .exit)) (headerOf (r .h)) (verdictOf (r .verdict)) ⌝ }
     ensures kept { λ r. ⌜ ((k : ℕ) → verdictOf (r .verdict) ≡ refused k → now (index .exit) ≡ now (index .entry)) ⌝ }
 {
@@ -35,7 +47,7 @@ pub fn prepare(image: &[u8], index: &mut [u8]) -> Prepared
         },
         Verdict::Accepted => {
             let h = image::read_header(image);
-            index::fill_index(image, h, index);
+            fill(image, h, index);
             Prepared {
                 verdict: Verdict::Accepted,
                 h: h,

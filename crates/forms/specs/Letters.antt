@@ -1,4 +1,4 @@
--- Rows of 256 bytes by surface letter: row s has how many lexical letters pair with surface letter s, and which, 0 for an insertion.
+-- Rows of 256 bytes, one for each surface letter s: how many lexical letters pair with s, and which, 0 for an insertion.
 use Prim.Native.Nat.{ℕ, _+_, _*_, _<_, _≤_}
 use mathlib.Core.List.{List}
 use lib.ListN.{length}

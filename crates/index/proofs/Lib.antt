@@ -1,5 +1,5 @@
 pub mod Laws
-mod RowByRow
+pub mod RowByRow
 mod Columns
 mod Lexicons
 pub mod Candidates

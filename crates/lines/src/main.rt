@@ -201,7 +201,7 @@ fn answer_input(
 fn main() {
     let mut image = [0u8; 65537];
     let n = moving::load_image(&mut image);
-    let mut index = [0u8; 39424];
+    let mut index = [0u8; 186112];
     let run = answers::run::prepare(&image[..n], &mut index);
     let mut chunk = [0u8; 65536];
     let mut line = [0u8; 256];

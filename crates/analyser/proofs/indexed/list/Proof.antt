@@ -1,13 +1,27 @@
 -- `list` meets its contract: the call's own tests, and then the search.
+use Prim.Native.Nat.{ℕ, _-_}
+use native.Mathlib.Omega.{arith}
 use borrow.Author.Needs.{needs}
 use mathlib.Core.Path.{_≡_, sym, ap, _∙_}
+use mathlib.Core.List.{List}
+use lib.ListN.{length, take, drop, length-drop}
+use lib.Seq.{take-all, length-take-le}
 use Rattle.model.specs.Refusals.{accepted, firstFailing, ownTests}
 use Rattle.image.specs.Header.{headerOf}
 use Rattle.grammar.specs.Answers.{verdictOf}
+use Rattle.filter.specs.Sieve.{MayBe}
 use Rattle.analyser.specs.Request.{requestOf}
+use Rattle.analyser.specs.Indexed.{Indexed}
 use Rattle.analyser.proofs.Replies.{accepted-by, own-refused, own-accepted}
 use Rattle.analyser.proofs.indexed.list.Statement.{statement}
 use Rattle.analyser.proofs.indexed.list.Tie as tie
+
+-- in the arm of a request that passes its own tests
+passed : (c : tie.After-enum-told) → let a = c .before .before .before .before .before .before .before .args in firstFailing (ownTests (a .image .now) (requestOf (a .d) (a .asked .now))) ≡ accepted
+passed c = sym (c .before .before .own-verdict .ensures) ∙ ap verdictOf (c .enum-told .given .1)
+
+rest-forms : {image index : List ℕ} → Indexed image index → MayBe image (take (length index - 39424) (drop 39424 index))
+rest-forms {image} {index} i = rw (take-all (length index - 39424) (drop 39424 index) (omega (arith, length-drop 39424 index))) (i .forms-are)
 
 own-verdict-requires : tie.Need-own-verdict-requires
 own-verdict-requires c κs = let s = c .before .before .before .before in accepted-by (s .args .image .now) (headerOf (s .args .h)) (s .pre .0) (s .pre .1 .0)
@@ -18,8 +32,23 @@ enum-known-verdict c = search needs
 enum-told : tie.Need-enum-told
 enum-told c = search needs
 
+slice-aggregate-search-for : tie.Need-slice-aggregate-search-for
+slice-aggregate-search-for c = sym (length-take-le 39424 (c .before .before .before .before .before .before .before .before .args .index .now) (c .before .before .before .before .before .before .before .before .pre .1 .1 .long))
+
+sub-search-for : tie.Need-sub-search-for
+sub-search-for c = c .before .before .before .before .before .before .before .before .pre .1 .1 .long
+
+part-search-for-start : tie.Need-part-search-for-start
+part-search-for-start c = c .before .before .before .before .before .before .before .before .pre .1 .1 .long
+
+part-search-for-end : tie.Need-part-search-for-end
+part-search-for-end c = search needs
+
 search-for-requires : tie.Need-search-for-requires
-search-for-requires c κs = let s = c .before .before .before .before .before .before .before .before in (accepted-by (s .args .image .now) (headerOf (s .args .h)) (s .pre .0) (s .pre .1 .0), s .pre .1 .1)
+search-for-requires c κs =
+    let s = c .before .before .before .before .before .before .before .before .before .before in
+    let a = s .args in
+    (accepted-by (a .image .now) (headerOf (a .h)) (s .pre .0) (s .pre .1 .0), (s .pre .1 .1 .index-is, (rest-forms (s .pre .1 .1), passed (c .before .before .before))))
 
 reply-for-requires : tie.Need-reply-for-requires
 reply-for-requires c κs = search needs
@@ -36,13 +65,12 @@ same-length c = search needs
 
 returns-2 : tie.Need-returns-2
 returns-2 c =
-    let told = c .before .before .before .before .before in
+    let told = c .before .before .before .before .before .before .before in
     let s = told .before .before .before .before .before .before .before in
     let a = s .args in
     let request = requestOf (a .d) (a .asked .now) in
-    let passed : firstFailing (ownTests (a .image .now) request) ≡ accepted = sym (told .before .before .own-verdict .ensures) ∙ ap verdictOf (told .enum-told .given .1) in
     let found = c .before .before .before .search-for in
-    let both = own-accepted (a .image .now) request (a .out .now) (s .pre .0) passed _ (found .result) (found .ensures) in
+    let both = own-accepted (a .image .now) request (a .out .now) (s .pre .0) (passed told) _ (found .result) (found .ensures) in
     (c .reply-for .ensures ∙ both .0, both .1)
 
 pub list-spec : {M : Type 1} → statement M
@@ -52,6 +80,10 @@ list-spec =
     own-verdict-requires
     enum-known-verdict
     enum-told
+    slice-aggregate-search-for
+    sub-search-for
+    part-search-for-start
+    part-search-for-end
     search-for-requires
     reply-for-requires
     returns

@@ -26,8 +26,8 @@ enum-told c = search needs
 read-header-requires : tie.Need-read-header-requires
 read-header-requires c κs = let image = c .before .before .before .before .before .args .image .now in laid-some image (header image) (accepted-image image (passed c) .laid)
 
-fill-index-requires : tie.Need-fill-index-requires
-fill-index-requires c κs =
+fill-requires : tie.Need-fill-requires
+fill-requires c κs =
     let told = c .before .before in
     let s = told .before .before .before .before .before in
     (subst (Accepted (s .args .image .now)) (sym (c .before .read-header .ensures)) (accepted-image (s .args .image .now) (passed told)), s .pre)
@@ -43,7 +43,7 @@ same-length c = search needs
 returns-2 : tie.Need-returns-2
 returns-2 c =
     let told = c .before .before .before .before .before in
-    (record { verdict-is = sym (passed told); header-is = λ e. c .before .before .before .before .read-header .ensures; indexed = λ e. c .before .before .fill-index .ensures }, λ k e. absurd (refused-not k (sym e)))
+    (record { verdict-is = sym (passed told); header-is = λ e. c .before .before .before .before .read-header .ensures; indexed = λ e. c .before .before .fill .ensures }, λ k e. absurd (refused-not k (sym e)))
 
 pub prepare-spec : {M : Type 1} → statement M
 prepare-spec =
@@ -53,7 +53,7 @@ prepare-spec =
     enum-known-verdict
     enum-told
     read-header-requires
-    fill-index-requires
+    fill-requires
     returns
     same-length
     returns-2)

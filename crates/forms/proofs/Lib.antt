@@ -1,0 +1,7 @@
+pub mod PairLaws
+pub mod Stores
+pub mod SlotLaws
+pub mod SkipLaws
+pub mod SlottedLaws
+pub mod Parts
+pub mod FormsLaws
