@@ -1,0 +1,55 @@
+-- `forms::clear` meets its contract.
+use Prim.Native.Nat.{ℕ, suc, _+_, _*_, _-_, _%_, _<_, _≤_}
+use native.Mathlib.Omega.{arith}
+use mathlib.Core.Path.{_≡_, refl, sym, ap, _∙_, subst}
+use mathlib.Core.Logic.{_⊎_, inl, inr, ⊎-elim}
+use mathlib.Core.List.{List}
+use lib.ListN.{length, getD, set}
+use borrow.Author.Needs.{needs}
+use borrow.Author.Count.{below-more}
+use Rattle.forms.proofs.Stores.{zeros-more, zeros-all}
+use Rattle.forms.proofs.clear.Statement.{statement}
+use Rattle.forms.proofs.clear.Tie as tie
+use Rattle.forms.proofs.clear.Reads as reads
+use Rattle.forms.proofs.clear.Lts as lts
+
+abbrev Inv-loop : tie.InvT-loop
+Inv-loop bytes₀ n i₀ bytes i = (i ≤ n) × ((length bytes ≡ length bytes₀) × ((k : ℕ) → k < i → getD bytes k 0 ≡ 0))
+
+abbrev μ-loop : tie.MeasureT-loop
+μ-loop bytes₀ n i₀ bytes i = n - i
+
+loop-holds : tie.Need-loop-holds Inv-loop μ-loop
+loop-holds c = search needs
+
+slice-write-bytes : tie.Need-slice-write-bytes Inv-loop μ-loop
+slice-write-bytes c = search needs
+
+add-i : tie.Need-add-i Inv-loop μ-loop
+add-i c = search needs
+
+loop-less : tie.Need-loop-less Inv-loop μ-loop
+loop-less c = search needs
+
+loop-again : tie.Need-loop-again Inv-loop μ-loop
+loop-again c = let l = c .before .loop in (search needs, (search needs, zeros-more (l .bytes) (l .i) (omega (arith, l .inv .1 .0)) (l .inv .1 .1)))
+
+same-length : tie.Need-same-length Inv-loop μ-loop
+same-length c = search needs
+
+returns : tie.Need-returns Inv-loop μ-loop
+returns c = let l = c .before .loop in zeros-all (c .before .before .args .bytes .now) (l .bytes) (l .i) (l .inv .1 .0) (omega (arith, c .loop-test .left, l .inv .1 .0)) (l .inv .1 .1)
+
+pub clear-spec : {M : Type 1} → statement M
+clear-spec =
+    tie.close
+    (tie.spec
+    Inv-loop
+    μ-loop
+    loop-holds
+    slice-write-bytes
+    add-i
+    loop-less
+    loop-again
+    same-length
+    returns)

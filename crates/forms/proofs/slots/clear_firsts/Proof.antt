@@ -1,0 +1,64 @@
+-- `forms::slots::clear_firsts` meets its contract.
+use Prim.Native.Nat.{ℕ, suc, _+_, _*_, _-_, _%_, _<_, _≤_}
+use native.Mathlib.Omega.{arith}
+use mathlib.Core.Path.{_≡_, refl, sym, ap, _∙_, subst}
+use mathlib.Core.Logic.{_⊎_, inl, inr, ⊎-elim}
+use mathlib.Core.List.{List}
+use lib.ListN.{length, getD, set}
+use borrow.Author.Needs.{needs}
+use Rattle.model.specs.Lexicon.{firstEntry}
+use Rattle.forms.specs.Filling.{FirstsCleared}
+use Rattle.forms.proofs.slots.clear_firsts.Statement.{statement}
+use Rattle.forms.proofs.slots.clear_firsts.Tie as tie
+use Rattle.forms.proofs.slots.clear_firsts.Reads as reads
+use Rattle.forms.proofs.slots.clear_firsts.Lts as lts
+use Rattle.lexicon.proofs.entry_count.Reads as entry-count-reads
+
+abbrev Inv-loop : tie.InvT-loop
+Inv-loop image h shared₀ lexicons first₀ x₀ shared first x = (x ≤ lexicons) × ((first ≡ firstEntry image x) × FirstsCleared image shared₀ shared x)
+
+abbrev μ-loop : tie.MeasureT-loop
+μ-loop image h shared₀ lexicons first₀ x₀ shared first x = lexicons - x
+
+loop-holds : tie.Need-loop-holds Inv-loop μ-loop
+loop-holds c = search needs
+
+slice-write-shared : tie.Need-slice-write-shared Inv-loop μ-loop
+slice-write-shared c = search needs
+
+entry-count-requires : tie.Need-entry-count-requires Inv-loop μ-loop
+entry-count-requires c κs = search needs
+
+add-first : tie.Need-add-first Inv-loop μ-loop
+add-first c = search needs
+
+add-x : tie.Need-add-x Inv-loop μ-loop
+add-x c = search needs
+
+loop-less : tie.Need-loop-less Inv-loop μ-loop
+loop-less c = search needs
+
+loop-again : tie.Need-loop-again Inv-loop μ-loop
+loop-again c = search needs
+
+same-length : tie.Need-same-length Inv-loop μ-loop
+same-length c = search needs
+
+returns : tie.Need-returns Inv-loop μ-loop
+returns c = search needs
+
+pub clear-firsts-spec : {M : Type 1} → statement M
+clear-firsts-spec =
+    tie.close
+    (tie.spec
+    Inv-loop
+    μ-loop
+    loop-holds
+    slice-write-shared
+    entry-count-requires
+    add-first
+    add-x
+    loop-less
+    loop-again
+    same-length
+    returns)

@@ -1,0 +1,4 @@
+pub mod Letters
+pub mod Slots
+pub mod Forms
+pub mod Filling
