@@ -1,3 +1,4 @@
+pub mod AcceptedLaws
 pub mod KeyLaws
 pub mod PairLaws
 pub mod OrderLaws

@@ -88,17 +88,23 @@ same-part xs ys a b n p q same = ext-getD 0 (take n (drop a xs)) (take n (drop b
     at : (i : ℕ) → i < n → getD (take n (drop a xs)) i 0 ≡ getD (take n (drop b ys)) i 0
     at i h = getD-take n (drop a xs) i 0 h ∙ getD-drop a xs i 0 ∙ same i h ∙ sym (getD-take n (drop b ys) i 0 h ∙ getD-drop b ys i 0)
 
--- m letters that are the same, of two forms that have so many
-pub shares-of : (slots : List ℕ) (i m : ℕ) → length slots ≡ 45056 → suc i < 2816 → slotLength slots i ≤ 12 → slotLength slots (suc i) ≤ 12 → m ≤ slotLength slots i → m ≤ slotLength slots (suc i)
-    → ((k : ℕ) → k < m → getD slots (16 * i + 17 + k) 0 ≡ getD slots (16 * i + 1 + k) 0) → Shares slots i m
-shares-of slots i m long inside one two p q same = record {
-  this = p;
-  next = q;
+-- r letters that are the same, of two forms of n and m letters
+pub shares-of : (slots : List ℕ) (i n m r : ℕ) → length slots ≡ 45056 → suc i < 2816 → n ≡ byte slots (16 * i) → m ≡ byte slots (16 * i + 16) → n ≤ 12 → m ≤ 12 → r ≤ n → r ≤ m
+    → ((k : ℕ) → k < r → getD slots (16 * i + 17 + k) 0 ≡ getD slots (16 * i + 1 + k) 0) → Shares slots i r
+shares-of slots i n m r long inside e f one two p q same = record {
+  this = this;
+  next = next;
   same =
-    take-take m (slotLength slots (suc i)) (drop (16 * suc i + 1) slots) q
-    ∙ same-part slots slots (16 * suc i + 1) (16 * i + 1) m (omega arith) (omega arith) (λ k h. let z : 16 * suc i + 1 + k ≡ 16 * i + 17 + k = omega arith in ap (λ (j : ℕ). getD slots j 0) z ∙ same k h)
-    ∙ sym (take-take m (slotLength slots i) (drop (16 * i + 1) slots) p);
+    take-take r (slotLength slots (suc i)) (drop (16 * suc i + 1) slots) next
+    ∙ same-part slots slots (16 * suc i + 1) (16 * i + 1) r (omega arith) (omega arith) (λ k h. let z : 16 * suc i + 1 + k ≡ 16 * i + 17 + k = omega arith in ap (λ (j : ℕ). getD slots j 0) z ∙ same k h)
+    ∙ sym (take-take r (slotLength slots i) (drop (16 * i + 1) slots) this);
 }
+  where
+    this : r ≤ slotLength slots i
+    this = omega arith
+
+    next : r ≤ slotLength slots (suc i)
+    next = let z : 16 * suc i ≡ 16 * i + 16 = omega arith in omega (arith, ap (byte slots) z)
 
 pub shared-none : (slots shared : List ℕ) → length shared ≡ 2816 → SharedOf slots shared 1
 shared-none slots shared e = record { long = e; shares = λ i h. absurd (omega arith) }

@@ -7,6 +7,7 @@ use mathlib.Core.List.{List}
 use lib.ListN.{length, getD, set}
 use borrow.Author.Needs.{needs}
 use Rattle.forms.specs.Filling.{Ordered}
+use Rattle.forms.proofs.OrderLaws.{ordered-none}
 use Rattle.forms.proofs.order.fill_order.Statement.{statement}
 use Rattle.forms.proofs.order.fill_order.Tie as tie
 use Rattle.forms.proofs.order.fill_order.Reads as reads
@@ -28,7 +29,10 @@ followed-requires : tie.Need-followed-requires Inv-loop μ-loop
 followed-requires c κs = search needs
 
 loop-holds : tie.Need-loop-holds Inv-loop μ-loop
-loop-holds c = search needs
+loop-holds c =
+    let s = c .before .before .before .before .before .before .before in
+    let cleared = c .before .before .before in
+    ordered-none (s .args .row .now) (cleared .clear .last .0) (s .args .h .lexicons) (s .pre .1) (cleared .clear .ensures)
 
 sub-rounds : tie.Need-sub-rounds Inv-loop μ-loop
 sub-rounds c = search needs

@@ -6,6 +6,9 @@ use mathlib.Core.Logic.{_⊎_, inl, inr, ⊎-elim}
 use mathlib.Core.List.{List}
 use lib.ListN.{length, getD, set}
 use borrow.Author.Needs.{needs}
+use Rattle.image.specs.Header.{headerOf}
+use Rattle.lexicon.proofs.Laws.{lexicon-within}
+use Rattle.forms.proofs.AcceptedLaws.{entries-ok}
 use Rattle.forms.proofs.order.is_due.Statement.{statement}
 use Rattle.forms.proofs.order.is_due.Tie as tie
 use Rattle.forms.proofs.order.is_due.Reads as reads
@@ -42,7 +45,10 @@ add-is-ready : tie.Need-add-is-ready
 add-is-ready c = search needs
 
 is-ready-requires : tie.Need-is-ready-requires
-is-ready-requires c κs = search needs
+is-ready-requires c κs =
+    let s = c .before .before .before .before .before .before .before .before .before in
+    let image = s .args .image .now in
+    (s .pre .0, omega (arith, lexicon-within image (headerOf (s .args .h)) (s .pre .0 .laid) (entries-ok image (headerOf (s .args .h)) (s .pre .0)) (s .args .x) (s .pre .1), c .first-entry .ensures .0, c .before .before .before .entry-count .ensures .0))
 
 returns-5 : tie.Need-returns-5
 returns-5 c = search needs

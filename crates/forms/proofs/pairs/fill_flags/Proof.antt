@@ -7,6 +7,8 @@ use mathlib.Core.List.{List}
 use lib.ListN.{length, getD, set}
 use borrow.Author.Needs.{needs}
 use Rattle.forms.specs.Filling.{FlagsOf}
+use Rattle.image.specs.Header.{headerOf}
+use Rattle.forms.proofs.PairLaws.{lexical-most, flags-none, flags-passed, flags-more}
 use Rattle.forms.proofs.pairs.fill_flags.Statement.{statement}
 use Rattle.forms.proofs.pairs.fill_flags.Tie as tie
 use Rattle.forms.proofs.pairs.fill_flags.Reads as reads
@@ -25,7 +27,10 @@ clear-requires : tie.Need-clear-requires Inv-loop μ-loop
 clear-requires c κs = search needs
 
 loop-holds : tie.Need-loop-holds Inv-loop μ-loop
-loop-holds c = search needs
+loop-holds c =
+    let s = c .before .before .before .before .before .before in
+    let cleared = c .before .before in
+    (search needs, flags-none (s .args .image .now) (cleared .clear .last .0) (cleared .clear .ensures .long ∙ s .pre .1))
 
 surface-side-requires : tie.Need-surface-side-requires Inv-loop μ-loop
 surface-side-requires c κs = search needs
@@ -37,7 +42,10 @@ cast-flags : tie.Need-cast-flags Inv-loop μ-loop
 cast-flags c = search needs
 
 slice-write-flags : tie.Need-slice-write-flags Inv-loop μ-loop
-slice-write-flags c = search needs
+slice-write-flags c =
+    let at = c .before .before .before .before .before .before in
+    let s = at .before .before .before .before .before .before .before in
+    omega (arith, at .loop .inv .1 .long, c .before .lexical-side .ensures, lexical-most (s .args .image .now) (headerOf (s .args .h)) (s .pre .0) (at .loop .p) (c .before .before .before .before .before .loop-test .taken))
 
 add-p : tie.Need-add-p Inv-loop μ-loop
 add-p c = search needs
@@ -46,13 +54,29 @@ loop-less : tie.Need-loop-less Inv-loop μ-loop
 loop-less c = search needs
 
 loop-again : tie.Need-loop-again Inv-loop μ-loop
-loop-again c = search needs
+loop-again c =
+    let at = c .before .before .before .before in
+    let s = at .before .before .before .before .before .before .before in
+    let image = s .args .image .now in
+    let h = headerOf (s .args .h) in
+    let l = at .loop in
+    let e = c .before .before .surface-side .ensures in
+    let there = c .before .before .before .loop-test .taken in
+    (omega (arith, there),
+    ⊎-elim
+    (λ w. subst (λ (x : List ℕ). FlagsOf image x (l .p + 1)) (sym (w .3)) (flags-more image (l .flags) (l .p) (l .inv .1) (w .1 .result .0) (omega (arith, w .1 .ensures, lexical-most image h (s .pre .0) (l .p) there)) (w .1 .ensures)))
+    (λ w. subst (λ (x : List ℕ). FlagsOf image x (l .p + 1)) (sym (w .1)) (flags-passed image (l .flags) (l .p) (l .inv .1) (λ z. w .0 .left (e ∙ z))))
+    (c .if1 .came))
 
 same-length : tie.Need-same-length Inv-loop μ-loop
 same-length c = search needs
 
 returns : tie.Need-returns Inv-loop μ-loop
-returns c = search needs
+returns c =
+    let l = c .before .loop in
+    let a = c .before .before .before .before .before .before .before .before .args in
+    let all : l .p ≡ a .h .pairs = omega (arith, l .inv .0, c .loop-test .left) in
+    subst (FlagsOf (a .image .now) (l .flags)) all (l .inv .1)
 
 pub fill-flags-spec : {M : Type 1} → statement M
 fill-flags-spec =

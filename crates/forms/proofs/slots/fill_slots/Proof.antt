@@ -7,6 +7,9 @@ use mathlib.Core.List.{List}
 use lib.ListN.{length, getD, set}
 use borrow.Author.Needs.{needs}
 use Rattle.forms.specs.Filling.{SlotsOf}
+use Rattle.image.specs.Header.{headerOf}
+use Rattle.forms.proofs.AcceptedLaws.{arranged-within}
+use Rattle.forms.proofs.SlotLaws.{slots-none, slots-more}
 use Rattle.forms.proofs.slots.fill_slots.Statement.{statement}
 use Rattle.forms.proofs.slots.fill_slots.Tie as tie
 use Rattle.forms.proofs.slots.fill_slots.Reads as reads
@@ -20,7 +23,9 @@ abbrev μ-loop : tie.MeasureT-loop
 μ-loop image h keys slots₀ entries i₀ slots i = entries - i
 
 loop-holds : tie.Need-loop-holds Inv-loop μ-loop
-loop-holds c = search needs
+loop-holds c =
+    let s = c .before .before .before in
+    (search needs, slots-none (s .args .image .now) (s .args .keys .now) (s .args .slots .now) (s .pre .1 .1))
 
 mul-e : tie.Need-mul-e Inv-loop μ-loop
 mul-e c = search needs
@@ -29,7 +34,11 @@ shared-slice-read-e : tie.Need-shared-slice-read-e Inv-loop μ-loop
 shared-slice-read-e c = search needs
 
 put-slot-requires : tie.Need-put-slot-requires Inv-loop μ-loop
-put-slot-requires c κs = search needs
+put-slot-requires c κs =
+    let at = c .before .before .before in
+    let s = at .before .before .before .before in
+    let a = s .args in
+    (s .pre .0 .laid, (arranged-within (a .image .now) (headerOf (a .h)) (s .pre .0) (a .keys .now) (s .pre .1 .0) (at .loop .i) (c .before .before .loop-test .taken), (at .loop .inv .1 .long, omega (arith, c .before .before .loop-test .taken, s .pre .0 .laid .limits .entries-most))))
 
 add-i : tie.Need-add-i Inv-loop μ-loop
 add-i c = search needs
@@ -38,13 +47,21 @@ loop-less : tie.Need-loop-less Inv-loop μ-loop
 loop-less c = search needs
 
 loop-again : tie.Need-loop-again Inv-loop μ-loop
-loop-again c = search needs
+loop-again c =
+    let put = c .before .before in
+    let at = put .before .before .before .before in
+    let a = at .before .before .before .before .args in
+    (omega (arith, put .before .before .before .loop-test .taken), slots-more (a .image .now) (a .keys .now) (at .loop .slots) (put .put-slot .last .1 .1 .1 .0) (at .loop .i) (getD (a .keys .now) (at .loop .i) 0 % 4096) (at .loop .inv .1) (put .put-slot .ensures) refl)
 
 same-length : tie.Need-same-length Inv-loop μ-loop
 same-length c = search needs
 
 returns : tie.Need-returns Inv-loop μ-loop
-returns c = search needs
+returns c =
+    let l = c .before .loop in
+    let a = c .before .before .before .before .before .args in
+    let all : l .i ≡ a .h .entries = omega (arith, l .inv .0, c .loop-test .left) in
+    subst (SlotsOf (a .image .now) (a .keys .now) (l .slots)) all (l .inv .1)
 
 pub fill-slots-spec : {M : Type 1} → statement M
 fill-slots-spec =

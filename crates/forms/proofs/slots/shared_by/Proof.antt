@@ -6,6 +6,7 @@ use mathlib.Core.Logic.{_⊎_, inl, inr, ⊎-elim}
 use mathlib.Core.List.{List}
 use lib.ListN.{length, getD, set}
 use borrow.Author.Needs.{needs}
+use Rattle.forms.proofs.SlotLaws.{shares-of}
 use Rattle.forms.proofs.slots.shared_by.Statement.{statement}
 use Rattle.forms.proofs.slots.shared_by.Tie as tie
 use Rattle.forms.proofs.slots.shared_by.Reads as reads
@@ -31,11 +32,29 @@ add-common c = search needs
 add-common-2 : tie.Need-add-common-2
 add-common-2 c = search needs
 
+-- the shorter form's length
+least : (c : lts.Joined1 (byte-at-reads.Asked, byte-at-reads.Learnt, common-reads.Asked, common-reads.Learnt) reads.Pre reads.Post) → (c .if1 .least ≤ c .before .before .byte-at .result) × (c .if1 .least ≤ c .before .byte-at2 .result)
+least c = ⊎-elim (λ w. omega arith) (λ w. omega arith) (c .if1 .came)
+
+-- both forms have at most 12 letters
+short : (c : lts.Joined1 (byte-at-reads.Asked, byte-at-reads.Learnt, common-reads.Asked, common-reads.Learnt) reads.Pre reads.Post) → (c .before .before .byte-at .result ≤ 12) × (c .before .byte-at2 .result ≤ 12)
+short c =
+    let s = c .before .before .before .before in
+    let slots = s .args .slots .now in
+    let next : 16 * (s .args .i + 1) ≡ 16 * s .args .i + 16 = omega arith in
+    (omega (arith, c .before .before .byte-at .ensures .0, s .pre .1 .0), omega (arith, c .before .byte-at2 .ensures .0, s .pre .1 .1, ap (λ (j : ℕ). getD slots j 0) next))
+
 common-requires : tie.Need-common-requires
-common-requires c κs = search needs
+common-requires c κs =
+    let s = c .before .before .before .before in
+    omega (arith, least c, short c, s .pre .0)
 
 returns : tie.Need-returns
-returns c = search needs
+returns c =
+    let at = c .before in
+    let s = at .before .before .before .before in
+    let few = least at in
+    shares-of (s .args .slots .now) (s .args .i) (at .before .before .byte-at .result) (at .before .byte-at2 .result) (c .common .result) (s .pre .0 .0) (omega (arith, s .pre .0 .1)) (at .before .before .byte-at .ensures .0) (at .before .byte-at2 .ensures .0) (short at .0) (short at .1) (omega (arith, c .common .ensures .0)) (omega (arith, c .common .ensures .0)) (c .common .ensures .1)
 
 pub shared-by-spec : {M : Type 1} → statement M
 shared-by-spec =
