@@ -5,3 +5,5 @@ pub mod OrderLaws
 pub mod Stores
 pub mod SlotLaws
 pub mod SkipLaws
+pub mod SlottedLaws
+pub mod Parts

@@ -1,15 +1,11 @@
 // The larger index of an accepted image, for callers that ask many words of one image: which letters pair, which lexicons are worth looking ahead in, and each
 // lexicon's entries in an order that puts like beginnings together. It is filled once a run.
 ghost use mathlib.Core.Path.{_≡_};
-ghost use Prim.Native.Nat.{ℕ, _+_, _<_, _≤_};
-ghost use lib.ListN.{length, take, drop};
-ghost use Rattle.model.specs.Blocks.{header};
-ghost use Rattle.model.specs.Lexicon.{firstEntry, entryCount};
+ghost use lib.ListN.{length};
 ghost use Rattle.image.specs.Header.{headerOf};
 ghost use Rattle.image.specs.Accepted.{Accepted};
-ghost use Rattle.forms.specs.Slots.{Slotted};
 ghost use Rattle.forms.specs.Forms.{formsEnd, FormsOf};
-ghost use Rattle.forms.specs.Filling.{Cleared, RowsOf, FlagsOf};
+ghost use Rattle.forms.specs.Filling.{Cleared};
 use image::Header;
 
 pub mod keys;
@@ -40,4 +36,20 @@ fn clear(bytes: &mut [u8])
         bytes[i] = 0;
         i += 1;
     }
+}
+
+// The whole index, whatever stood in `out` before.
+pub fn fill(image: &[u8], h: Header, out: &mut [u8])
+    requires { ⌜ Accepted (now image) (headerOf h) ⌝ }
+    requires { ⌜ length (now out) ≡ formsEnd ⌝ }
+    ensures { λ _. ⌜ FormsOf (now (image .entry)) (now (out .exit)) ⌝ }
+{
+    pairs::fill_rows(image, h, &mut out[0..FLAGS_START]);
+    pairs::fill_flags(image, h, &mut out[FLAGS_START..ORDER_START]);
+    order::fill_order(image, h, &mut out[ORDER_START..SHARED_START]);
+    slots::hold(image, h, &mut out[SLOTS_START..SKIPS_START]);
+    let mut shared = [0u8; 2816];
+    slots::share(image, h, &out[SLOTS_START..SKIPS_START], &mut shared);
+    slots::fill_skips(&shared, h.entries, &mut out[SKIPS_START..FORMS_END]);
+    slots::copy(&shared, 0, out, SHARED_START, 2816);
 }

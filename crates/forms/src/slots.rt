@@ -6,11 +6,11 @@ ghost use Rattle.image.specs.Header.{headerOf};
 ghost use Rattle.image.specs.Laid.{Laid};
 ghost use Rattle.image.specs.Accepted.{Accepted};
 ghost use Rattle.forms.specs.Slots.{slotLength};
-ghost use Rattle.forms.specs.Filling.{keyEntry, ArrangedTo, Copied, SlotPut, SlotsOf, Shares, SharedOf, FirstsCleared, SkipAt, SkipsOf};
+ghost use Rattle.forms.specs.Filling.{keyEntry, ArrangedTo, Copied, SlotPut, SlotsOf, Shares, SharedOf, FirstsCleared, SkipAt, SkipsOf, Held, Sharing};
 use image::Header;
 
 // n bytes from `at` on, copied to `to`.
-fn copy<'a>(source: &'a [u8], at: usize, target: &mut [u8], to: usize, n: usize)
+pub fn copy(source: &[u8], at: usize, target: &mut [u8], to: usize, n: usize)
     requires { ⌜ (at + n ≤ length (now source)) × (to + n ≤ length (now target)) ⌝ }
     ensures { λ _. ⌜ Copied (now (source .entry)) (now (target .entry)) (now (target .exit)) at to n ⌝ }
 {
@@ -33,7 +33,7 @@ fn put_slot(image: &[u8], h: Header, e: usize, slots: &mut [u8], i: usize)
 }
 
 // All slots.
-pub fn fill_slots(image: &[u8], h: Header, keys: &[u64], slots: &mut [u8])
+fn fill_slots(image: &[u8], h: Header, keys: &[u64], slots: &mut [u8])
     requires { ⌜ Accepted (now image) (headerOf h) ⌝ }
     requires { ⌜ ArrangedTo (now image) (now keys) (h .lexicons) ⌝ }
     requires { ⌜ length (now slots) ≡ 45056 ⌝ }
@@ -46,6 +46,17 @@ pub fn fill_slots(image: &[u8], h: Header, keys: &[u64], slots: &mut [u8])
         put_slot(image, h, e, slots, i);
         i += 1;
     }
+}
+
+// The entries of all lexicons in their slots.
+pub fn hold(image: &[u8], h: Header, slots: &mut [u8])
+    requires { ⌜ Accepted (now image) (headerOf h) ⌝ }
+    requires { ⌜ length (now slots) ≡ 45056 ⌝ }
+    ensures { λ _. ⌜ Held (now (image .entry)) (now (slots .exit)) (h .lexicons) (h .entries) ⌝ }
+{
+    let mut keys = [0u64; 2816];
+    crate::keys::arrange(image, h, &mut keys);
+    fill_slots(image, h, &keys, slots);
 }
 
 // How many of the first n bytes from a on and from b on are the same.
@@ -77,7 +88,7 @@ fn shared_by(slots: &[u8], i: usize) -> usize
 }
 
 // How many letters each of the first n slots shares with the one before.
-pub fn fill_shared(slots: &[u8], n: usize, shared: &mut [u8])
+fn fill_shared(slots: &[u8], n: usize, shared: &mut [u8])
     requires { ⌜ (length (now slots) ≡ 45056) × ((n ≤ 2816) × (length (now shared) ≡ 2816)) ⌝ }
     requires { ⌜ ((i : ℕ) → i < n → slotLength (now slots) i ≤ 12) ⌝ }
     ensures { λ _. ⌜ SharedOf (now (slots .entry)) (now (shared .exit)) n ⌝ }
@@ -90,7 +101,7 @@ pub fn fill_shared(slots: &[u8], n: usize, shared: &mut [u8])
 }
 
 // The first slot of a lexicon shares nothing.
-pub fn clear_firsts(image: &[u8], h: Header, shared: &mut [u8])
+fn clear_firsts(image: &[u8], h: Header, shared: &mut [u8])
     requires { ⌜ Accepted (now image) (headerOf h) ⌝ }
     requires { ⌜ length (now shared) ≡ 2816 ⌝ }
     ensures { λ _. ⌜ FirstsCleared (now (image .entry)) (now (shared .entry)) (now (shared .exit)) (h .lexicons) ⌝ }
@@ -103,6 +114,17 @@ pub fn clear_firsts(image: &[u8], h: Header, shared: &mut [u8])
         first += lexicon::entry_count(image, h, x);
         x += 1;
     }
+}
+
+// What each slot shares with the one before, within its lexicon.
+pub fn share<'a>(image: &'a [u8], h: Header, slots: &'a [u8], shared: &mut [u8])
+    requires { ⌜ Accepted (now image) (headerOf h) ⌝ }
+    requires { ⌜ Held (now image) (now slots) (h .lexicons) (h .entries) ⌝ }
+    requires { ⌜ length (now shared) ≡ 2816 ⌝ }
+    ensures { λ _. ⌜ Sharing (now (image .entry)) (now (slots .entry)) (now (shared .exit)) (h .lexicons) (h .entries) ⌝ }
+{
+    fill_shared(slots, h.entries, shared);
+    clear_firsts(image, h, shared);
 }
 
 // Where slot i, of n, goes on where its letter at depth d fails, by where slot i + 1 does.
