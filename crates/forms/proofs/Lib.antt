@@ -7,3 +7,4 @@ pub mod SlotLaws
 pub mod SkipLaws
 pub mod SlottedLaws
 pub mod Parts
+pub mod FormsLaws

@@ -11,6 +11,9 @@ use Rattle.forms.specs.Filling.{Copied}
 use Rattle.forms.proofs.SlotLaws.{same-part}
 use Rattle.model.proofs.Lists.{drop-take}
 
+pub part-long : (l : List ℕ) (a n : ℕ) → a + n ≤ length l → length (take n (drop a l)) ≡ n
+part-long l a n h = omega (arith, length-take n (drop a l), length-drop a l)
+
 -- n elements from a on are these, and those before and after are as they were
 pub record Put (old new : List ℕ) (a n : ℕ) (part : List ℕ) : Type 0 where
   pub long : length new ≡ length old
@@ -28,7 +31,7 @@ put-part old part a n inside e = record {
     front = length-take-le a old (omega arith)
 
     whole : length (putMid a n old part) ≡ length old
-    whole = same-len-mid a n old part (e ∙ sym (omega (arith, length-take n (drop a old), length-drop a old)))
+    whole = same-len-mid a n old part (e ∙ sym (part-long old a n inside))
 
     go : (b m : ℕ) → (b + m ≤ a) ⊎ ((a + n ≤ b) × (b + m ≤ length old)) → take m (drop b (putMid a n old part)) ≡ take m (drop b old)
     go b m (inl l) =
@@ -55,3 +58,7 @@ put-copied source old new a n e inside c = record {
     go : (b m : ℕ) → (b + m ≤ a) ⊎ ((a + n ≤ b) × (b + m ≤ length old)) → take m (drop b new) ≡ take m (drop b old)
     go b m (inl l) = same-part new old b b m (omega (arith, c .long)) (omega arith) (λ k h. c .elsewhere (b + k) (inl (omega arith)))
     go b m (inr l) = same-part new old b b m (omega (arith, c .long)) (omega arith) (λ k h. c .elsewhere (b + k) (inr (omega arith)))
+
+-- a part that ends within a list of known length
+pub fits : {m n : ℕ} (k : ℕ) → m ≡ n → k ≤ n → k ≤ m
+fits k e h = omega arith
