@@ -40,13 +40,13 @@ module _ (image : List ℕ) (h : Header) (a : Accepted image h) where
       order-few = subst (λ (x : List ℕ). byte x 0 ≤ 64) (sym e3) (o .few);
       ordered = λ k l. let m : byte order 0 ≡ byte (orderIn forms) 0 = ap (λ (x : List ℕ). byte x 0) (sym e3) in omega (arith, laid-lexicons, o .each k (omega arith), ap (λ (x : List ℕ). byte x (suc k)) e3);
       slotted = λ x l.
-        let there : x < h .lexicons = omega (arith, laid-lexicons) in
-        let all = slotted-of image h a slots held shared skips s skip x there (s .neighbours .long) (skip .long) in
-        let low = firstEntry image x in
-        let high = firstEntry image x + entryCount image x in
-        subst (λ (u : List ℕ). Slotted image u (sharedIn forms) (skipsIn forms) low high) (sym e4)
-        (subst (λ (u : List ℕ). Slotted image slots u (skipsIn forms) low high) (sym e5)
-        (subst (λ (u : List ℕ). Slotted image slots shared u low high) (sym e6) all));
+          let there : x < h .lexicons = omega (arith, laid-lexicons) in
+          let all = slotted-of image h a slots held shared skips s skip x there (s .neighbours .long) (skip .long) in
+          let low = firstEntry image x in
+          let high = firstEntry image x + entryCount image x in
+          subst (λ (u : List ℕ). Slotted image u (sharedIn forms) (skipsIn forms) low high) (sym e4)
+          (subst (λ (u : List ℕ). Slotted image slots u (skipsIn forms) low high) (sym e5)
+          (subst (λ (u : List ℕ). Slotted image slots shared u low high) (sym e6) all));
     }
       where
         row : (t : ℕ) → t ≤ 120 → Rowed rows t

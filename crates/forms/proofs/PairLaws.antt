@@ -38,10 +38,10 @@ row-stored rows s a n m long few e small f =
       long = length-set (set rows (256 * s + 1 + n) a) (256 * s) m ∙ one;
       counted = getD-set-same (set rows (256 * s + 1 + n) a) (256 * s) m 0 (omega arith) ∙ omega arith;
       last =
-        let at : 256 * s + 1 + rowCount rows s ≡ 256 * s + 1 + n = omega arith in
-        ap (λ (j : ℕ). getD (set (set rows (256 * s + 1 + n) a) (256 * s) m) j 0) at
-        ∙ getD-set-other (set rows (256 * s + 1 + n) a) (256 * s) (256 * s + 1 + n) m 0 (λ z. omega arith)
-        ∙ getD-set-same rows (256 * s + 1 + n) a 0 (omega arith);
+          let at : 256 * s + 1 + rowCount rows s ≡ 256 * s + 1 + n = omega arith in
+          ap (λ (j : ℕ). getD (set (set rows (256 * s + 1 + n) a) (256 * s) m) j 0) at
+          ∙ getD-set-other (set rows (256 * s + 1 + n) a) (256 * s) (256 * s + 1 + n) m 0 (λ z. omega arith)
+          ∙ getD-set-same rows (256 * s + 1 + n) a 0 (omega arith);
       elsewhere = λ j p q. getD-set-other (set rows (256 * s + 1 + n) a) (256 * s) j m 0 p ∙ getD-set-other rows (256 * s + 1 + n) j a 0 (λ z. q (omega arith));
     }
 

@@ -46,8 +46,8 @@ pub slot-put : (image : List ℕ) (h : Header) (laid : Laid image h) (old new : 
 slot-put image h laid old new at i e f small inside c = record {
   long = stored-long new (16 * i + 14) e ∙ c .long;
   bytes = λ k l.
-    stored-other new (16 * i + 14) e (16 * i + k) (λ z. omega arith) (λ z. omega arith)
-    ∙ c .here k l ∙ ap (λ (j : ℕ). getD image (j + k) 0) f ∙ sym (entry-byte image h laid e k l);
+      stored-other new (16 * i + 14) e (16 * i + k) (λ z. omega arith) (λ z. omega arith)
+      ∙ c .here k l ∙ ap (λ (j : ℕ). getD image (j + k) 0) f ∙ sym (entry-byte image h laid e k l);
   numbered = stored-here new (16 * i + 14) e (omega (arith, c .long)) small;
   elsewhere = λ j o. stored-other new (16 * i + 14) e j (apart j o 14 (omega arith)) (λ z. apart j o 15 (omega arith) (omega arith)) ∙ c .elsewhere j (outside j o);
 }
@@ -95,9 +95,9 @@ shares-of slots i n m r long inside e f one two p q same = record {
   this = this;
   next = next;
   same =
-    take-take r (slotLength slots (suc i)) (drop (16 * suc i + 1) slots) next
-    ∙ same-part slots slots (16 * suc i + 1) (16 * i + 1) r (omega arith) (omega arith) (λ k h. let z : 16 * suc i + 1 + k ≡ 16 * i + 17 + k = omega arith in ap (λ (j : ℕ). getD slots j 0) z ∙ same k h)
-    ∙ sym (take-take r (slotLength slots i) (drop (16 * i + 1) slots) this);
+      take-take r (slotLength slots (suc i)) (drop (16 * suc i + 1) slots) next
+      ∙ same-part slots slots (16 * suc i + 1) (16 * i + 1) r (omega arith) (omega arith) (λ k h. let z : 16 * suc i + 1 + k ≡ 16 * i + 17 + k = omega arith in ap (λ (j : ℕ). getD slots j 0) z ∙ same k h)
+      ∙ sym (take-take r (slotLength slots i) (drop (16 * i + 1) slots) this);
 }
   where
     this : r ≤ slotLength slots i

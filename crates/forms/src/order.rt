@@ -57,7 +57,14 @@ fn is_ready(image: &[u8], h: Header, low: usize, high: usize, taken: &[u8; 64]) 
 }
 
 // Whether lexicon x is to be taken now: at the last round without a look at its continuations.
-fn is_due(image: &[u8], h: Header, x: usize, last: bool, wanted: &[u8; 64], taken: &[u8; 64]) -> bool
+fn is_due(
+    image: &[u8],
+    h: Header,
+    x: usize,
+    last: bool,
+    wanted: &[u8; 64],
+    taken: &[u8; 64],
+) -> bool
     requires { ⌜ Accepted (now image) (headerOf h) ⌝ }
     requires { ⌜ x < h .lexicons ⌝ }
 {

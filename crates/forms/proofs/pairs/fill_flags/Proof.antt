@@ -61,12 +61,13 @@ loop-again c =
     let h = headerOf (s .args .h) in
     let l = at .loop in
     let e = c .before .before .surface-side .ensures in
-    let there = c .before .before .before .loop-test .taken in
-    (omega (arith, there),
-    ⊎-elim
-    (λ w. subst (λ (x : List ℕ). FlagsOf image x (l .p + 1)) (sym (w .3)) (flags-more image (l .flags) (l .p) (l .inv .1) (w .1 .result .0) (omega (arith, w .1 .ensures, lexical-most image h (s .pre .0) (l .p) there)) (w .1 .ensures)))
-    (λ w. subst (λ (x : List ℕ). FlagsOf image x (l .p + 1)) (sym (w .1)) (flags-passed image (l .flags) (l .p) (l .inv .1) (λ z. w .0 .left (e ∙ z))))
-    (c .if1 .came))
+    let there = c .before .before .before .loop-test .taken in (
+      omega (arith, there),
+      ⊎-elim
+          (λ w. subst (λ (x : List ℕ). FlagsOf image x (l .p + 1)) (sym (w .3)) (flags-more image (l .flags) (l .p) (l .inv .1) (w .1 .result .0) (omega (arith, w .1 .ensures, lexical-most image h (s .pre .0) (l .p) there)) (w .1 .ensures)))
+          (λ w. subst (λ (x : List ℕ). FlagsOf image x (l .p + 1)) (sym (w .1)) (flags-passed image (l .flags) (l .p) (l .inv .1) (λ z. w .0 .left (e ∙ z))))
+          (c .if1 .came),
+    )
 
 same-length : tie.Need-same-length Inv-loop μ-loop
 same-length c = search needs

@@ -68,14 +68,15 @@ loop-again c =
     let l = at .loop in
     let e = c .before .before .surface-side .ensures in
     let there = c .before .before .before .loop-test .taken in
-    let most = surface-most image h (s .pre .0) (l .p) there in
-    (omega (arith, there),
-    ⊎-elim
-    (λ w.
-    subst (λ (x : List ℕ). RowsOf image x (l .p + 1)) (sym (w .7))
-    (rows-more image (l .rows) (l .p) (w .4 .last .0) (c .before .before .surface-side .result .0) (w .1 .result .0) (l .inv .1) (w .4 .ensures) (omega (arith, e, most)) (omega (arith, w .1 .ensures, lexical-most image h (s .pre .0) (l .p) there)) (omega (arith, there, s .pre .0 .laid .limits .pairs-most)) (λ q k. surface-most image h (s .pre .0) q (omega arith)) e (w .1 .ensures)))
-    (λ w. subst (λ (x : List ℕ). RowsOf image x (l .p + 1)) (sym (w .1)) (rows-passed image (l .rows) (l .p) (l .inv .1) (sym e ∙ w .0 .left)))
-    (c .if1 .came))
+    let most = surface-most image h (s .pre .0) (l .p) there in (
+      omega (arith, there),
+      ⊎-elim
+          (λ w.
+          subst (λ (x : List ℕ). RowsOf image x (l .p + 1)) (sym (w .7))
+          (rows-more image (l .rows) (l .p) (w .4 .last .0) (c .before .before .surface-side .result .0) (w .1 .result .0) (l .inv .1) (w .4 .ensures) (omega (arith, e, most)) (omega (arith, w .1 .ensures, lexical-most image h (s .pre .0) (l .p) there)) (omega (arith, there, s .pre .0 .laid .limits .pairs-most)) (λ q k. surface-most image h (s .pre .0) q (omega arith)) e (w .1 .ensures)))
+          (λ w. subst (λ (x : List ℕ). RowsOf image x (l .p + 1)) (sym (w .1)) (rows-passed image (l .rows) (l .p) (l .inv .1) (sym e ∙ w .0 .left)))
+          (c .if1 .came),
+    )
 
 same-length : tie.Need-same-length Inv-loop μ-loop
 same-length c = search needs
