@@ -14,7 +14,8 @@ use Rattle.letters.proofs.Laws.{laid-pairs}
 use Rattle.forms.specs.Letters.{rowCount, rowLetter, Rowed}
 use Rattle.forms.specs.Slots.{Slotted}
 use Rattle.forms.specs.Forms.{formsEnd, rowsIn, flagsIn, orderIn, sharedIn, slotsIn, skipsIn, FormsOf}
-use Rattle.forms.specs.Filling.{sidesOf, RowsOf, FlagsOf, Ordered, SkipsOf, Held, Sharing}
+use Rattle.orders.specs.Orders.{Ordered}
+use Rattle.forms.specs.Filling.{sidesOf, RowsOf, FlagsOf, SkipsOf, Held, Sharing}
 use Rattle.forms.proofs.Parts.{Put}
 use Rattle.forms.proofs.SlottedLaws.{slotted-of}
 

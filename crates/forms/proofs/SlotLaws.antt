@@ -14,7 +14,8 @@ use Rattle.model.specs.Lexicon.{firstEntry, entryCount, entry}
 use Rattle.image.specs.Laid.{Laid}
 use Rattle.lexicon.proofs.Laws.{entry-byte, first-after, first-more}
 use Rattle.forms.specs.Slots.{slotLength, slotForm, slotEntry}
-use Rattle.forms.specs.Filling.{keyEntry, Copied, SlotPut, SlotsOf, Shares, SharedOf, FirstsCleared}
+use Rattle.orders.specs.Orders.{keyEntry}
+use Rattle.forms.specs.Filling.{Copied, SlotPut, SlotsOf, Shares, SharedOf, FirstsCleared}
 use Rattle.forms.proofs.Stores.{stored, stored-long, stored-other, stored-here}
 
 pub copied-none : (source old : List ℕ) (at to : ℕ) → Copied source old old at to 0

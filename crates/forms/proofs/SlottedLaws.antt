@@ -15,8 +15,9 @@ use Rattle.model.proofs.Rest.{every-getD}
 use Rattle.image.specs.Accepted.{Accepted}
 use Rattle.lexicon.proofs.Laws.{form-short, form-size, form-letters, continuation-right, lexicon-within, first-more, first-last}
 use Rattle.forms.specs.Slots.{slotLength, slotForm, slotOnward, slotEntry, skipTo, Slotted}
-use Rattle.forms.specs.Filling.{keyEntry, Arranged, ArrangedTo, SlotsOf, SharedOf, SkipsOf, Held, Sharing}
-use Rattle.forms.proofs.AcceptedLaws.{entries-ok, arranged-within}
+use Rattle.orders.specs.Orders.{keyEntry, Arranged, ArrangedTo}
+use Rattle.forms.specs.Filling.{SlotsOf, SharedOf, SkipsOf, Held, Sharing}
+use Rattle.orders.proofs.AcceptedLaws.{entries-ok, arranged-within}
 
 -- one slot
 module _ (image : List ℕ) (h : Header) (a : Accepted image h) (slots : List ℕ) (held : Held image slots (h .lexicons) (h .entries)) where

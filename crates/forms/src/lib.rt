@@ -8,8 +8,6 @@ ghost use Rattle.forms.specs.Forms.{formsEnd, FormsOf};
 ghost use Rattle.forms.specs.Filling.{Cleared};
 use image::Header;
 
-pub mod keys;
-pub mod order;
 pub mod pairs;
 pub mod slots;
 
@@ -46,7 +44,7 @@ pub fn fill(image: &[u8], h: Header, out: &mut [u8])
 {
     pairs::fill_rows(image, h, &mut out[0..FLAGS_START]);
     pairs::fill_flags(image, h, &mut out[FLAGS_START..ORDER_START]);
-    order::fill_order(image, h, &mut out[ORDER_START..SHARED_START]);
+    orders::lexicons::fill_order(image, h, &mut out[ORDER_START..SHARED_START]);
     slots::hold(image, h, &mut out[SLOTS_START..SKIPS_START]);
     let mut shared = [0u8; 2816];
     slots::share(image, h, &out[SLOTS_START..SKIPS_START], &mut shared);

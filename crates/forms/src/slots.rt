@@ -6,7 +6,8 @@ ghost use Rattle.image.specs.Header.{headerOf};
 ghost use Rattle.image.specs.Laid.{Laid};
 ghost use Rattle.image.specs.Accepted.{Accepted};
 ghost use Rattle.forms.specs.Slots.{slotLength};
-ghost use Rattle.forms.specs.Filling.{keyEntry, ArrangedTo, Copied, SlotPut, SlotsOf, Shares, SharedOf, FirstsCleared, SkipAt, SkipsOf, Held, Sharing};
+ghost use Rattle.orders.specs.Orders.{keyEntry, ArrangedTo};
+ghost use Rattle.forms.specs.Filling.{Copied, SlotPut, SlotsOf, Shares, SharedOf, FirstsCleared, SkipAt, SkipsOf, Held, Sharing};
 use image::Header;
 
 // n bytes from `at` on, copied to `to`.
@@ -55,7 +56,7 @@ pub fn hold(image: &[u8], h: Header, slots: &mut [u8])
     ensures { λ _. ⌜ Held (now (image .entry)) (now (slots .exit)) (h .lexicons) (h .entries) ⌝ }
 {
     let mut keys = [0u64; 2816];
-    crate::keys::arrange(image, h, &mut keys);
+    orders::keys::arrange(image, h, &mut keys);
     fill_slots(image, h, &keys, slots);
 }
 

@@ -18,7 +18,7 @@ use Rattle.forms.proofs.fill.Statement.{statement}
 use Rattle.forms.proofs.fill.Tie as tie
 use Rattle.forms.proofs.fill.Reads as reads
 use Rattle.forms.proofs.fill.Lts as lts
-use Rattle.forms.proofs.order.fill_order.Reads as fill-order-reads
+use Rattle.orders.proofs.lexicons.fill_order.Reads as fill-order-reads
 use Rattle.forms.proofs.pairs.fill_flags.Reads as fill-flags-reads
 use Rattle.forms.proofs.pairs.fill_rows.Reads as fill-rows-reads
 use Rattle.forms.proofs.slots.copy.Reads as copy-reads

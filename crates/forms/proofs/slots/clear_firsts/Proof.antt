@@ -10,7 +10,7 @@ use Rattle.model.specs.Lexicon.{firstEntry}
 use Rattle.forms.specs.Filling.{FirstsCleared}
 use Rattle.lexicon.proofs.Laws.{first-none, first-more, first-after, first-last}
 use Rattle.image.specs.Header.{headerOf}
-use Rattle.forms.proofs.AcceptedLaws.{entries-ok, first-most}
+use Rattle.orders.proofs.AcceptedLaws.{entries-ok, first-most}
 use Rattle.forms.proofs.SlotLaws.{firsts-none, firsts-more}
 use Rattle.forms.proofs.slots.clear_firsts.Statement.{statement}
 use Rattle.forms.proofs.slots.clear_firsts.Tie as tie

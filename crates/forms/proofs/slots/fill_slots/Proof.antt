@@ -8,7 +8,7 @@ use lib.ListN.{length, getD, set}
 use borrow.Author.Needs.{needs}
 use Rattle.forms.specs.Filling.{SlotsOf}
 use Rattle.image.specs.Header.{headerOf}
-use Rattle.forms.proofs.AcceptedLaws.{arranged-within}
+use Rattle.orders.proofs.AcceptedLaws.{arranged-within}
 use Rattle.forms.proofs.SlotLaws.{slots-none, slots-more}
 use Rattle.forms.proofs.slots.fill_slots.Statement.{statement}
 use Rattle.forms.proofs.slots.fill_slots.Tie as tie

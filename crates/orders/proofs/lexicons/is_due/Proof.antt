@@ -1,0 +1,70 @@
+-- `orders::lexicons::is_due` meets its contract.
+use Prim.Native.Nat.{ℕ, suc, _+_, _*_, _-_, _%_, _<_, _≤_}
+use native.Mathlib.Omega.{arith}
+use mathlib.Core.Path.{_≡_, refl, sym, ap, _∙_, subst}
+use mathlib.Core.Logic.{_⊎_, inl, inr, ⊎-elim}
+use mathlib.Core.List.{List}
+use lib.ListN.{length, getD, set}
+use borrow.Author.Needs.{needs}
+use Rattle.image.specs.Header.{headerOf}
+use Rattle.lexicon.proofs.Laws.{lexicon-within}
+use Rattle.orders.proofs.AcceptedLaws.{entries-ok}
+use Rattle.orders.proofs.lexicons.is_due.Statement.{statement}
+use Rattle.orders.proofs.lexicons.is_due.Tie as tie
+use Rattle.orders.proofs.lexicons.is_due.Reads as reads
+use Rattle.orders.proofs.lexicons.is_due.Lts as lts
+use Rattle.orders.proofs.lexicons.is_ready.Reads as is-ready-reads
+use Rattle.lexicon.proofs.entry_count.Reads as entry-count-reads
+use Rattle.lexicon.proofs.first_entry.Reads as first-entry-reads
+
+element-copy-out-if1 : tie.Need-element-copy-out-if1
+element-copy-out-if1 c = search needs
+
+returns : tie.Need-returns
+returns c = search needs
+
+element-copy-out-if2 : tie.Need-element-copy-out-if2
+element-copy-out-if2 c = search needs
+
+returns-2 : tie.Need-returns-2
+returns-2 c = search needs
+
+entry-count-requires : tie.Need-entry-count-requires
+entry-count-requires c κs = search needs
+
+returns-3 : tie.Need-returns-3
+returns-3 c = search needs
+
+returns-4 : tie.Need-returns-4
+returns-4 c = search needs
+
+first-entry-requires : tie.Need-first-entry-requires
+first-entry-requires c κs = search needs
+
+add-is-ready : tie.Need-add-is-ready
+add-is-ready c = search needs
+
+is-ready-requires : tie.Need-is-ready-requires
+is-ready-requires c κs =
+    let s = c .before .before .before .before .before .before .before .before .before in
+    let image = s .args .image .now in
+    (s .pre .0, omega (arith, lexicon-within image (headerOf (s .args .h)) (s .pre .0 .laid) (entries-ok image (headerOf (s .args .h)) (s .pre .0)) (s .args .x) (s .pre .1), c .first-entry .ensures .0, c .before .before .before .entry-count .ensures .0))
+
+returns-5 : tie.Need-returns-5
+returns-5 c = search needs
+
+pub is-due-spec : {M : Type 1} → statement M
+is-due-spec =
+    tie.close
+    (tie.spec
+    element-copy-out-if1
+    returns
+    element-copy-out-if2
+    returns-2
+    entry-count-requires
+    returns-3
+    returns-4
+    first-entry-requires
+    add-is-ready
+    is-ready-requires
+    returns-5)

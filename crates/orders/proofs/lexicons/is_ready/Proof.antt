@@ -1,0 +1,58 @@
+-- `orders::lexicons::is_ready` meets its contract.
+use Prim.Native.Nat.{ℕ, suc, _+_, _*_, _-_, _%_, _<_, _≤_}
+use native.Mathlib.Omega.{arith}
+use mathlib.Core.Path.{_≡_, refl, sym, ap, _∙_, subst}
+use mathlib.Core.Logic.{_⊎_, inl, inr, ⊎-elim}
+use mathlib.Core.List.{List}
+use lib.ListN.{length, getD, set}
+use borrow.Author.Needs.{needs}
+use Rattle.orders.proofs.lexicons.is_ready.Statement.{statement}
+use Rattle.orders.proofs.lexicons.is_ready.Tie as tie
+use Rattle.orders.proofs.lexicons.is_ready.Reads as reads
+use Rattle.orders.proofs.lexicons.is_ready.Lts as lts
+use Rattle.lexicon.proofs.continuation_of.Reads as continuation-of-reads
+
+abbrev Inv-loop : tie.InvT-loop
+Inv-loop image h low high taken e₀ e = low ≤ e
+
+abbrev μ-loop : tie.MeasureT-loop
+μ-loop image h low high taken e₀ e = high - e
+
+loop-holds : tie.Need-loop-holds Inv-loop μ-loop
+loop-holds c = search needs
+
+continuation-of-requires : tie.Need-continuation-of-requires Inv-loop μ-loop
+continuation-of-requires c κs = search needs
+
+element-copy-out-if2 : tie.Need-element-copy-out-if2 Inv-loop μ-loop
+element-copy-out-if2 c = search needs
+
+returns : tie.Need-returns Inv-loop μ-loop
+returns c = search needs
+
+add-e : tie.Need-add-e Inv-loop μ-loop
+add-e c = search needs
+
+loop-less : tie.Need-loop-less Inv-loop μ-loop
+loop-less c = search needs
+
+loop-again : tie.Need-loop-again Inv-loop μ-loop
+loop-again c = search needs
+
+returns-2 : tie.Need-returns-2 Inv-loop μ-loop
+returns-2 c = search needs
+
+pub is-ready-spec : {M : Type 1} → statement M
+is-ready-spec =
+    tie.close
+    (tie.spec
+    Inv-loop
+    μ-loop
+    loop-holds
+    continuation-of-requires
+    element-copy-out-if2
+    returns
+    add-e
+    loop-less
+    loop-again
+    returns-2)
