@@ -1,18 +1,16 @@
 -- The six parts of the index, each filled, as the whole.
-use Prim.Native.Nat.{ℕ, suc, _+_, _*_, _<_, _≤_}
+use Prim.Native.Nat.{ℕ, suc, _<_, _≤_}
 use native.Mathlib.Omega.{arith}
-use mathlib.Core.Path.{_≡_, refl, sym, ap, _∙_, subst}
+use mathlib.Core.Path.{_≡_, sym, ap, _∙_, subst}
 use mathlib.Core.Logic.{inl, inr}
 use mathlib.Core.List.{List}
 use lib.ListN.{length, getD}
 use Rattle.model.specs.Lists.{byte}
 use Rattle.model.specs.Blocks.{Header, header}
-use Rattle.model.specs.Lexicon.{firstEntry, entryCount}
 use Rattle.model.specs.GrammarOf.{grammarOf}
 use Rattle.image.specs.Accepted.{Accepted}
 use Rattle.letters.proofs.Laws.{laid-pairs}
 use Rattle.forms.specs.Letters.{rowCount, rowLetter, Rowed}
-use Rattle.forms.specs.Slots.{Slotted}
 use Rattle.forms.specs.Forms.{formsEnd, rowsIn, flagsIn, orderIn, sharedIn, slotsIn, skipsIn, FormsOf}
 use Rattle.orders.specs.Orders.{Ordered}
 use Rattle.forms.specs.Filling.{RowsOf, FlagsOf, SkipsOf, Held, Sharing, LettersFilled, SlotsFilled}

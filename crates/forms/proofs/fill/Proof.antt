@@ -1,19 +1,10 @@
 -- `forms::fill` meets its contract.
-use Prim.Native.Nat.{ℕ, suc, _+_, _*_, _-_, _%_, _<_, _≤_}
-use native.Mathlib.Omega.{arith}
-use mathlib.Core.Path.{_≡_, refl, sym, ap, _∙_, subst}
-use mathlib.Core.Logic.{_⊎_, inl, inr, ⊎-elim}
-use mathlib.Core.List.{List}
-use lib.ListN.{length, getD, set}
+use Prim.Native.Nat.{_-_}
 use borrow.Author.Needs.{needs}
 use Rattle.image.specs.Header.{headerOf}
 use Rattle.forms.proofs.FormsLaws.{forms-of}
 use Rattle.forms.proofs.fill.Statement.{statement}
 use Rattle.forms.proofs.fill.Tie as tie
-use Rattle.forms.proofs.fill.Reads as reads
-use Rattle.forms.proofs.fill.Lts as lts
-use Rattle.forms.proofs.fill_letters.Reads as fill-letters-reads
-use Rattle.forms.proofs.fill_slots.Reads as fill-slots-reads
 
 fill-letters-requires : tie.Need-fill-letters-requires
 fill-letters-requires c κs = search needs

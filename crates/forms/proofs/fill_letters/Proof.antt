@@ -1,8 +1,6 @@
 -- `forms::fill_letters` meets its contract.
-use Prim.Native.Nat.{ℕ, suc, _+_, _*_, _-_, _%_, _<_, _≤_}
-use native.Mathlib.Omega.{arith}
-use mathlib.Core.Path.{_≡_, refl, sym, ap, _∙_, subst}
-use mathlib.Core.Logic.{_⊎_, inl, inr, ⊎-elim}
+use Prim.Native.Nat.{ℕ, _+_, _-_, _≤_}
+use mathlib.Core.Path.{_≡_, _∙_}
 use mathlib.Core.List.{List}
 use lib.ListN.{length}
 use lib.Dec.{T, leb, leb→le}
@@ -12,11 +10,6 @@ use Rattle.forms.proofs.FormsLaws.{letters-filled}
 use Rattle.forms.proofs.Parts.{Put, put-part, fits}
 use Rattle.forms.proofs.fill_letters.Statement.{statement}
 use Rattle.forms.proofs.fill_letters.Tie as tie
-use Rattle.forms.proofs.fill_letters.Reads as reads
-use Rattle.forms.proofs.fill_letters.Lts as lts
-use Rattle.forms.proofs.pairs.fill_flags.Reads as fill-flags-reads
-use Rattle.forms.proofs.pairs.fill_rows.Reads as fill-rows-reads
-use Rattle.orders.proofs.lexicons.fill_order.Reads as fill-order-reads
 
 -- how far the parts reach
 most : (k : ℕ) → T (leb k 146688) → k ≤ 146688

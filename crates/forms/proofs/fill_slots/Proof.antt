@@ -1,8 +1,7 @@
 -- `forms::fill_slots` meets its contract.
-use Prim.Native.Nat.{ℕ, suc, _+_, _*_, _-_, _%_, _<_, _≤_}
+use Prim.Native.Nat.{ℕ, _+_, _-_, _≤_}
 use native.Mathlib.Omega.{arith}
-use mathlib.Core.Path.{_≡_, refl, sym, ap, _∙_, subst}
-use mathlib.Core.Logic.{_⊎_, inl, inr, ⊎-elim}
+use mathlib.Core.Path.{_≡_, refl, sym, _∙_, subst}
 use mathlib.Core.List.{List}
 use lib.ListN.{length}
 use lib.Dec.{T, leb, leb→le}
@@ -15,12 +14,6 @@ use Rattle.forms.proofs.FormsLaws.{slots-filled}
 use Rattle.forms.proofs.Parts.{part-long, Put, put-part, put-copied, fits}
 use Rattle.forms.proofs.fill_slots.Statement.{statement}
 use Rattle.forms.proofs.fill_slots.Tie as tie
-use Rattle.forms.proofs.fill_slots.Reads as reads
-use Rattle.forms.proofs.fill_slots.Lts as lts
-use Rattle.forms.proofs.slots.copy.Reads as copy-reads
-use Rattle.forms.proofs.slots.fill_skips.Reads as fill-skips-reads
-use Rattle.forms.proofs.slots.hold.Reads as hold-reads
-use Rattle.forms.proofs.slots.share.Reads as share-reads
 
 -- how far the parts reach
 most : (k : ℕ) → T (leb k 146688) → k ≤ 146688
