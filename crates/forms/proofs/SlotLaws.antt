@@ -1,19 +1,18 @@
 -- Entries copied into slots one after another, and the letters that two neighbours share.
 use Prim.Native.Nat.{ℕ, suc, _+_, _*_, _<_, _≤_}
 use native.Mathlib.Omega.{arith}
-use native.Mathlib.Decide.{ℕ-discrete, decLt}
-use native.Mathlib.Numerals.{add-one}
+use native.Mathlib.Decide.{ℕ-discrete}
 use mathlib.Core.Path.{_≡_, refl, sym, ap, ap₂, _∙_, subst}
 use mathlib.Core.Logic.{_⊎_, inl, inr}
 use mathlib.Core.List.{List}
 use lib.ListN.{length, getD, set, take, drop, length-set, length-take, length-drop}
 use lib.Seq.{getD-set-same, getD-set-other, getD-take, getD-drop, take-take, ext-getD}
 use Rattle.model.specs.Lists.{byte}
-use Rattle.model.specs.Blocks.{Header, header, recordStart}
-use Rattle.model.specs.Lexicon.{firstEntry, entryCount, entry}
+use Rattle.model.specs.Blocks.{Header, recordStart}
+use Rattle.model.specs.Lexicon.{firstEntry, entry}
 use Rattle.image.specs.Laid.{Laid}
-use Rattle.lexicon.proofs.Laws.{entry-byte, first-after, first-more}
-use Rattle.forms.specs.Slots.{slotLength, slotForm, slotEntry}
+use Rattle.lexicon.proofs.Laws.{entry-byte}
+use Rattle.forms.specs.Slots.{slotLength, slotEntry}
 use Rattle.orders.specs.Orders.{keyEntry}
 use Rattle.forms.specs.Filling.{Copied, SlotPut, SlotsOf, Shares, SharedOf, FirstsCleared}
 use Rattle.forms.proofs.Stores.{stored, stored-long, stored-other, stored-here}

@@ -15,8 +15,8 @@ use Rattle.model.proofs.Rest.{every-getD}
 use Rattle.image.specs.Accepted.{Accepted}
 use Rattle.lexicon.proofs.Laws.{form-short, form-size, form-letters, continuation-right, lexicon-within, first-more, first-last}
 use Rattle.forms.specs.Slots.{slotLength, slotForm, slotOnward, slotEntry, skipTo, Slotted}
-use Rattle.orders.specs.Orders.{keyEntry, Arranged, ArrangedTo}
-use Rattle.forms.specs.Filling.{SlotsOf, SharedOf, SkipsOf, Held, Sharing}
+use Rattle.orders.specs.Orders.{keyEntry}
+use Rattle.forms.specs.Filling.{SkipsOf, Held, Sharing}
 use Rattle.orders.proofs.AcceptedLaws.{entries-ok, arranged-within}
 
 -- one slot

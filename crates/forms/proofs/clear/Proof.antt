@@ -1,17 +1,12 @@
 -- `forms::clear` meets its contract.
-use Prim.Native.Nat.{ℕ, suc, _+_, _*_, _-_, _%_, _<_, _≤_}
+use Prim.Native.Nat.{ℕ, _-_, _<_, _≤_}
 use native.Mathlib.Omega.{arith}
-use mathlib.Core.Path.{_≡_, refl, sym, ap, _∙_, subst}
-use mathlib.Core.Logic.{_⊎_, inl, inr, ⊎-elim}
-use mathlib.Core.List.{List}
-use lib.ListN.{length, getD, set}
+use mathlib.Core.Path.{_≡_}
+use lib.ListN.{length, getD}
 use borrow.Author.Needs.{needs}
-use borrow.Author.Count.{below-more}
 use Rattle.forms.proofs.Stores.{zeros-more, zeros-all}
 use Rattle.forms.proofs.clear.Statement.{statement}
 use Rattle.forms.proofs.clear.Tie as tie
-use Rattle.forms.proofs.clear.Reads as reads
-use Rattle.forms.proofs.clear.Lts as lts
 
 abbrev Inv-loop : tie.InvT-loop
 Inv-loop bytes₀ n i₀ bytes i = (i ≤ n) × ((length bytes ≡ length bytes₀) × ((k : ℕ) → k < i → getD bytes k 0 ≡ 0))

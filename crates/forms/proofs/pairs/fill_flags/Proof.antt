@@ -1,21 +1,15 @@
 -- `forms::pairs::fill_flags` meets its contract.
-use Prim.Native.Nat.{ℕ, suc, _+_, _*_, _-_, _%_, _<_, _≤_}
+use Prim.Native.Nat.{ℕ, _+_, _-_, _≤_}
 use native.Mathlib.Omega.{arith}
-use mathlib.Core.Path.{_≡_, refl, sym, ap, _∙_, subst}
-use mathlib.Core.Logic.{_⊎_, inl, inr, ⊎-elim}
+use mathlib.Core.Path.{_≡_, sym, _∙_, subst}
+use mathlib.Core.Logic.{_⊎_, ⊎-elim}
 use mathlib.Core.List.{List}
-use lib.ListN.{length, getD, set}
 use borrow.Author.Needs.{needs}
 use Rattle.forms.specs.Filling.{FlagsOf}
 use Rattle.image.specs.Header.{headerOf}
 use Rattle.forms.proofs.PairLaws.{lexical-most, flags-none, flags-passed, flags-more}
 use Rattle.forms.proofs.pairs.fill_flags.Statement.{statement}
 use Rattle.forms.proofs.pairs.fill_flags.Tie as tie
-use Rattle.forms.proofs.pairs.fill_flags.Reads as reads
-use Rattle.forms.proofs.pairs.fill_flags.Lts as lts
-use Rattle.forms.proofs.clear.Reads as clear-reads
-use Rattle.letters.proofs.lexical_side.Reads as lexical-side-reads
-use Rattle.letters.proofs.surface_side.Reads as surface-side-reads
 
 abbrev Inv-loop : tie.InvT-loop
 Inv-loop image h flags₀ pairs p₀ flags p = (p ≤ pairs) × FlagsOf image flags p

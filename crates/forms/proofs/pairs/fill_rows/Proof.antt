@@ -1,23 +1,15 @@
 -- `forms::pairs::fill_rows` meets its contract.
-use Prim.Native.Nat.{ℕ, suc, _+_, _*_, _-_, _%_, _<_, _≤_}
+use Prim.Native.Nat.{ℕ, _+_, _-_, _≤_}
 use native.Mathlib.Omega.{arith}
-use mathlib.Core.Path.{_≡_, refl, sym, ap, _∙_, subst}
-use mathlib.Core.Logic.{_⊎_, inl, inr, ⊎-elim}
+use mathlib.Core.Path.{_≡_, sym, _∙_, subst}
+use mathlib.Core.Logic.{_⊎_, ⊎-elim}
 use mathlib.Core.List.{List}
-use lib.ListN.{length, getD, set}
 use borrow.Author.Needs.{needs}
 use Rattle.forms.specs.Filling.{RowsOf}
 use Rattle.image.specs.Header.{headerOf}
-use Rattle.letters.proofs.Laws.{laid-pairs}
 use Rattle.forms.proofs.PairLaws.{lexical-most, surface-most, rows-none, rows-passed, rows-more}
 use Rattle.forms.proofs.pairs.fill_rows.Statement.{statement}
 use Rattle.forms.proofs.pairs.fill_rows.Tie as tie
-use Rattle.forms.proofs.pairs.fill_rows.Reads as reads
-use Rattle.forms.proofs.pairs.fill_rows.Lts as lts
-use Rattle.forms.proofs.clear.Reads as clear-reads
-use Rattle.forms.proofs.pairs.put_letter.Reads as put-letter-reads
-use Rattle.letters.proofs.lexical_side.Reads as lexical-side-reads
-use Rattle.letters.proofs.surface_side.Reads as surface-side-reads
 
 abbrev Inv-loop : tie.InvT-loop
 Inv-loop image h rows₀ pairs p₀ rows p = (p ≤ pairs) × RowsOf image rows p

@@ -1,18 +1,12 @@
 -- `forms::pairs::put_letter` meets its contract.
-use Prim.Native.Nat.{ℕ, suc, _+_, _*_, _-_, _%_, _<_, _≤_}
+use Prim.Native.Nat.{_+_, _*_, _-_}
 use native.Mathlib.Omega.{arith}
-use mathlib.Core.Path.{_≡_, refl, sym, ap, _∙_, subst}
-use mathlib.Core.Logic.{_⊎_, inl, inr, ⊎-elim}
-use mathlib.Core.List.{List}
-use lib.ListN.{length, getD, set}
+use mathlib.Core.Path.{refl}
 use borrow.Author.Needs.{needs}
-use lib.ListN.{length, getD, set, length-set}
+use lib.ListN.{length-set}
 use Rattle.forms.proofs.PairLaws.{row-stored}
 use Rattle.forms.proofs.pairs.put_letter.Statement.{statement}
 use Rattle.forms.proofs.pairs.put_letter.Tie as tie
-use Rattle.forms.proofs.pairs.put_letter.Reads as reads
-use Rattle.forms.proofs.pairs.put_letter.Lts as lts
-use Rattle.image.proofs.byte_at.Reads as byte-at-reads
 
 mul-at : tie.Need-mul-at
 mul-at c = search needs

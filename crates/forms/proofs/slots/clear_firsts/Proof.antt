@@ -1,22 +1,16 @@
 -- `forms::slots::clear_firsts` meets its contract.
-use Prim.Native.Nat.{ℕ, suc, _+_, _*_, _-_, _%_, _<_, _≤_}
+use Prim.Native.Nat.{_-_, _≤_}
 use native.Mathlib.Omega.{arith}
-use mathlib.Core.Path.{_≡_, refl, sym, ap, _∙_, subst}
-use mathlib.Core.Logic.{_⊎_, inl, inr, ⊎-elim}
-use mathlib.Core.List.{List}
-use lib.ListN.{length, getD, set}
+use mathlib.Core.Path.{_≡_, sym, subst}
 use borrow.Author.Needs.{needs}
 use Rattle.model.specs.Lexicon.{firstEntry}
 use Rattle.forms.specs.Filling.{FirstsCleared}
-use Rattle.lexicon.proofs.Laws.{first-none, first-more, first-after, first-last}
+use Rattle.lexicon.proofs.Laws.{first-none, first-more}
 use Rattle.image.specs.Header.{headerOf}
-use Rattle.orders.proofs.AcceptedLaws.{entries-ok, first-most}
+use Rattle.orders.proofs.AcceptedLaws.{first-most}
 use Rattle.forms.proofs.SlotLaws.{firsts-none, firsts-more}
 use Rattle.forms.proofs.slots.clear_firsts.Statement.{statement}
 use Rattle.forms.proofs.slots.clear_firsts.Tie as tie
-use Rattle.forms.proofs.slots.clear_firsts.Reads as reads
-use Rattle.forms.proofs.slots.clear_firsts.Lts as lts
-use Rattle.lexicon.proofs.entry_count.Reads as entry-count-reads
 
 abbrev Inv-loop : tie.InvT-loop
 Inv-loop image h shared₀ lexicons first₀ x₀ shared first x = (x ≤ lexicons) × ((first ≡ firstEntry image x) × FirstsCleared image shared₀ shared x)

@@ -1,16 +1,11 @@
 -- `forms::slots::common` meets its contract.
-use Prim.Native.Nat.{ℕ, suc, _+_, _*_, _-_, _%_, _<_, _≤_}
-use native.Mathlib.Omega.{arith}
-use mathlib.Core.Path.{_≡_, refl, sym, ap, _∙_, subst}
-use mathlib.Core.Logic.{_⊎_, inl, inr, ⊎-elim}
-use mathlib.Core.List.{List}
-use lib.ListN.{length, getD, set}
+use Prim.Native.Nat.{ℕ, _+_, _-_, _<_, _≤_}
+use mathlib.Core.Path.{_≡_, sym}
+use lib.ListN.{getD}
 use borrow.Author.Needs.{needs}
 use borrow.Author.Count.{below-more}
 use Rattle.forms.proofs.slots.common.Statement.{statement}
 use Rattle.forms.proofs.slots.common.Tie as tie
-use Rattle.forms.proofs.slots.common.Reads as reads
-use Rattle.forms.proofs.slots.common.Lts as lts
 
 abbrev Inv-loop : tie.InvT-loop
 Inv-loop bytes a b n k₀ k = (k ≤ n) × ((j : ℕ) → j < k → getD bytes (b + j) 0 ≡ getD bytes (a + j) 0)

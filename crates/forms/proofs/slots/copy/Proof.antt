@@ -1,17 +1,13 @@
 -- `forms::slots::copy` meets its contract.
-use Prim.Native.Nat.{ℕ, suc, _+_, _*_, _-_, _%_, _<_, _≤_}
+use Prim.Native.Nat.{_+_, _-_, _≤_}
 use native.Mathlib.Omega.{arith}
-use mathlib.Core.Path.{_≡_, refl, sym, ap, _∙_, subst}
-use mathlib.Core.Logic.{_⊎_, inl, inr, ⊎-elim}
-use mathlib.Core.List.{List}
-use lib.ListN.{length, getD, set}
+use mathlib.Core.Path.{_≡_, refl, subst}
+use lib.ListN.{getD}
 use borrow.Author.Needs.{needs}
 use Rattle.forms.specs.Filling.{Copied}
-use Rattle.forms.proofs.SlotLaws.{copied-none, copied-more}
+use Rattle.forms.proofs.SlotLaws.{copied-more}
 use Rattle.forms.proofs.slots.copy.Statement.{statement}
 use Rattle.forms.proofs.slots.copy.Tie as tie
-use Rattle.forms.proofs.slots.copy.Reads as reads
-use Rattle.forms.proofs.slots.copy.Lts as lts
 
 abbrev Inv-loop : tie.InvT-loop
 Inv-loop source at target₀ to n k₀ target k = (k ≤ n) × Copied source target₀ target at to k

@@ -1,19 +1,13 @@
 -- `forms::slots::fill_shared` meets its contract.
-use Prim.Native.Nat.{ℕ, suc, _+_, _*_, _-_, _%_, _<_, _≤_}
+use Prim.Native.Nat.{ℕ, _+_, _-_, _≤_}
 use native.Mathlib.Omega.{arith}
-use mathlib.Core.Path.{_≡_, refl, sym, ap, _∙_, subst}
-use mathlib.Core.Logic.{_⊎_, inl, inr, ⊎-elim}
-use mathlib.Core.List.{List}
-use lib.ListN.{length, getD, set}
+use mathlib.Core.Path.{_≡_, sym, subst}
 use borrow.Author.Needs.{needs}
 use Rattle.forms.specs.Filling.{SharedOf}
 use Rattle.forms.proofs.SlotLaws.{shared-none, shared-more, shared-fewer}
 use Rattle.forms.specs.Slots.{slotLength}
 use Rattle.forms.proofs.slots.fill_shared.Statement.{statement}
 use Rattle.forms.proofs.slots.fill_shared.Tie as tie
-use Rattle.forms.proofs.slots.fill_shared.Reads as reads
-use Rattle.forms.proofs.slots.fill_shared.Lts as lts
-use Rattle.forms.proofs.slots.shared_by.Reads as shared-by-reads
 
 abbrev Inv-loop : tie.InvT-loop
 Inv-loop slots n shared₀ i₀ shared i = (1 ≤ i) × SharedOf slots shared i

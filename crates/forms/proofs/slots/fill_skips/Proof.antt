@@ -1,17 +1,11 @@
 -- `forms::slots::fill_skips` meets its contract.
-use Prim.Native.Nat.{ℕ, suc, _+_, _*_, _-_, _%_, _<_, _≤_}
+use Prim.Native.Nat.{_+_, _-_, _≤_}
 use native.Mathlib.Omega.{arith}
-use mathlib.Core.Path.{_≡_, refl, sym, ap, _∙_, subst}
-use mathlib.Core.Logic.{_⊎_, inl, inr, ⊎-elim}
-use mathlib.Core.List.{List}
-use lib.ListN.{length, getD, set}
+use mathlib.Core.Path.{_≡_, subst}
 use borrow.Author.Needs.{needs}
 use Rattle.forms.specs.Filling.{SkipsOf}
 use Rattle.forms.proofs.slots.fill_skips.Statement.{statement}
 use Rattle.forms.proofs.slots.fill_skips.Tie as tie
-use Rattle.forms.proofs.slots.fill_skips.Reads as reads
-use Rattle.forms.proofs.slots.fill_skips.Lts as lts
-use Rattle.forms.proofs.slots.put_skips.Reads as put-skips-reads
 
 abbrev Inv-loop : tie.InvT-loop
 Inv-loop shared n skips₀ i₀ skips i = (i ≤ n) × SkipsOf shared skips n i

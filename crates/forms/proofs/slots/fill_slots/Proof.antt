@@ -1,10 +1,8 @@
 -- `forms::slots::fill_slots` meets its contract.
-use Prim.Native.Nat.{ℕ, suc, _+_, _*_, _-_, _%_, _<_, _≤_}
+use Prim.Native.Nat.{_-_, _%_, _≤_}
 use native.Mathlib.Omega.{arith}
-use mathlib.Core.Path.{_≡_, refl, sym, ap, _∙_, subst}
-use mathlib.Core.Logic.{_⊎_, inl, inr, ⊎-elim}
-use mathlib.Core.List.{List}
-use lib.ListN.{length, getD, set}
+use mathlib.Core.Path.{_≡_, refl, subst}
+use lib.ListN.{getD}
 use borrow.Author.Needs.{needs}
 use Rattle.forms.specs.Filling.{SlotsOf}
 use Rattle.image.specs.Header.{headerOf}
@@ -12,9 +10,6 @@ use Rattle.orders.proofs.AcceptedLaws.{arranged-within}
 use Rattle.forms.proofs.SlotLaws.{slots-none, slots-more}
 use Rattle.forms.proofs.slots.fill_slots.Statement.{statement}
 use Rattle.forms.proofs.slots.fill_slots.Tie as tie
-use Rattle.forms.proofs.slots.fill_slots.Reads as reads
-use Rattle.forms.proofs.slots.fill_slots.Lts as lts
-use Rattle.forms.proofs.slots.put_slot.Reads as put-slot-reads
 
 abbrev Inv-loop : tie.InvT-loop
 Inv-loop image h keys slots₀ entries i₀ slots i = (i ≤ entries) × SlotsOf image keys slots i

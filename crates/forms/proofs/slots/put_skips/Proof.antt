@@ -1,20 +1,14 @@
 -- `forms::slots::put_skips` meets its contract.
-use Prim.Native.Nat.{ℕ, suc, _+_, _*_, _-_, _%_, _<_, _≤_}
+use Prim.Native.Nat.{ℕ, _+_, _-_, _<_, _≤_}
 use native.Mathlib.Omega.{arith}
-use mathlib.Core.Path.{_≡_, refl, sym, ap, _∙_, subst}
-use mathlib.Core.Logic.{_⊎_, inl, inr, ⊎-elim}
+use mathlib.Core.Path.{sym, subst}
 use mathlib.Core.List.{List}
-use lib.ListN.{length, getD, set}
 use borrow.Author.Needs.{needs}
 use Rattle.forms.specs.Slots.{skipTo}
 use Rattle.forms.specs.Filling.{SkipAt, SkipsOf}
 use Rattle.forms.proofs.SkipLaws.{skips-kept, skips-more, skips-slot}
 use Rattle.forms.proofs.slots.put_skips.Statement.{statement}
 use Rattle.forms.proofs.slots.put_skips.Tie as tie
-use Rattle.forms.proofs.slots.put_skips.Reads as reads
-use Rattle.forms.proofs.slots.put_skips.Lts as lts
-use Rattle.forms.proofs.slots.skip_of.Reads as skip-of-reads
-use Rattle.image.proofs.seal.put_number.Reads as put-number-reads
 
 abbrev Inv-loop : tie.InvT-loop
 Inv-loop shared skips₀ n i d₀ skips d = (d ≤ 12) × (SkipsOf shared skips n (i + 1) × ((e : ℕ) → e < d → SkipAt shared n i e (skipTo skips i e)))

@@ -1,10 +1,8 @@
 -- `forms::slots::put_slot` meets its contract.
-use Prim.Native.Nat.{ℕ, suc, _+_, _*_, _-_, _%_, _<_, _≤_}
+use Prim.Native.Nat.{ℕ, _-_}
 use native.Mathlib.Omega.{arith}
-use mathlib.Core.Path.{_≡_, refl, sym, ap, _∙_, subst}
-use mathlib.Core.Logic.{_⊎_, inl, inr, ⊎-elim}
+use mathlib.Core.Path.{sym, subst}
 use mathlib.Core.List.{List}
-use lib.ListN.{length, getD, set}
 use borrow.Author.Needs.{needs}
 use Rattle.image.specs.Header.{headerOf}
 use Rattle.lexicon.proofs.Laws.{entry-inside}
@@ -12,11 +10,6 @@ use Rattle.forms.proofs.SlotLaws.{slot-put}
 use Rattle.forms.specs.Filling.{SlotPut}
 use Rattle.forms.proofs.slots.put_slot.Statement.{statement}
 use Rattle.forms.proofs.slots.put_slot.Tie as tie
-use Rattle.forms.proofs.slots.put_slot.Reads as reads
-use Rattle.forms.proofs.slots.put_slot.Lts as lts
-use Rattle.forms.proofs.slots.copy.Reads as copy-reads
-use Rattle.image.proofs.seal.put_number.Reads as put-number-reads
-use Rattle.lexicon.proofs.entry_start.Reads as entry-start-reads
 
 entry-start-requires : tie.Need-entry-start-requires
 entry-start-requires c κs = search needs

@@ -1,20 +1,12 @@
 -- `forms::slots::share` meets its contract.
-use Prim.Native.Nat.{ℕ, suc, _+_, _*_, _-_, _%_, _<_, _≤_}
+use Prim.Native.Nat.{_-_}
 use native.Mathlib.Omega.{arith}
-use mathlib.Core.Path.{_≡_, refl, sym, ap, _∙_, subst}
-use mathlib.Core.Logic.{_⊎_, inl, inr, ⊎-elim}
-use mathlib.Core.List.{List}
-use lib.ListN.{length, getD, set}
 use borrow.Author.Needs.{needs}
 use Rattle.image.specs.Header.{headerOf}
 use Rattle.forms.proofs.SlotLaws.{shared-cleared}
 use Rattle.forms.proofs.SlottedLaws.{slot-short}
 use Rattle.forms.proofs.slots.share.Statement.{statement}
 use Rattle.forms.proofs.slots.share.Tie as tie
-use Rattle.forms.proofs.slots.share.Reads as reads
-use Rattle.forms.proofs.slots.share.Lts as lts
-use Rattle.forms.proofs.slots.clear_firsts.Reads as clear-firsts-reads
-use Rattle.forms.proofs.slots.fill_shared.Reads as fill-shared-reads
 
 fill-shared-requires : tie.Need-fill-shared-requires
 fill-shared-requires c κs =

@@ -1,10 +1,9 @@
 -- `forms::slots::shared_by` meets its contract.
-use Prim.Native.Nat.{ℕ, suc, _+_, _*_, _-_, _%_, _<_, _≤_}
+use Prim.Native.Nat.{ℕ, _+_, _*_, _-_, _≤_}
 use native.Mathlib.Omega.{arith}
-use mathlib.Core.Path.{_≡_, refl, sym, ap, _∙_, subst}
-use mathlib.Core.Logic.{_⊎_, inl, inr, ⊎-elim}
-use mathlib.Core.List.{List}
-use lib.ListN.{length, getD, set}
+use mathlib.Core.Path.{_≡_, ap}
+use mathlib.Core.Logic.{_⊎_, ⊎-elim}
+use lib.ListN.{getD}
 use borrow.Author.Needs.{needs}
 use Rattle.forms.proofs.SlotLaws.{shares-of}
 use Rattle.forms.proofs.slots.shared_by.Statement.{statement}

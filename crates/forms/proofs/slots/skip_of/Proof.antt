@@ -1,19 +1,12 @@
 -- `forms::slots::skip_of` meets its contract.
-use Prim.Native.Nat.{ℕ, suc, _+_, _*_, _-_, _%_, _<_, _≤_}
+use Prim.Native.Nat.{_+_, _-_}
 use native.Mathlib.Omega.{arith}
-use mathlib.Core.Path.{_≡_, refl, sym, ap, _∙_, subst}
-use mathlib.Core.Logic.{_⊎_, inl, inr, ⊎-elim}
-use mathlib.Core.List.{List}
-use lib.ListN.{length, getD, set}
+use mathlib.Core.Path.{sym, subst}
 use borrow.Author.Needs.{needs}
 use Rattle.forms.specs.Filling.{SkipAt}
 use Rattle.forms.proofs.SkipLaws.{skip-next}
 use Rattle.forms.proofs.slots.skip_of.Statement.{statement}
 use Rattle.forms.proofs.slots.skip_of.Tie as tie
-use Rattle.forms.proofs.slots.skip_of.Reads as reads
-use Rattle.forms.proofs.slots.skip_of.Lts as lts
-use Rattle.image.proofs.byte_at.Reads as byte-at-reads
-use Rattle.image.proofs.number_at.Reads as number-at-reads
 
 add-next : tie.Need-add-next
 add-next c = search needs

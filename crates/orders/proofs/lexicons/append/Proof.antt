@@ -1,17 +1,10 @@
 -- `orders::lexicons::append` meets its contract.
-use Prim.Native.Nat.{ℕ, suc, _+_, _*_, _-_, _%_, _<_, _≤_}
-use native.Mathlib.Omega.{arith}
-use mathlib.Core.Path.{_≡_, refl, sym, ap, _∙_, subst}
-use mathlib.Core.Logic.{_⊎_, inl, inr, ⊎-elim}
-use mathlib.Core.List.{List}
-use lib.ListN.{length, getD, set}
+use Prim.Native.Nat.{_+_, _-_}
+use mathlib.Core.Path.{refl}
 use borrow.Author.Needs.{needs}
 use Rattle.orders.proofs.OrderLaws.{ordered-more}
 use Rattle.orders.proofs.lexicons.append.Statement.{statement}
 use Rattle.orders.proofs.lexicons.append.Tie as tie
-use Rattle.orders.proofs.lexicons.append.Reads as reads
-use Rattle.orders.proofs.lexicons.append.Lts as lts
-use Rattle.image.proofs.byte_at.Reads as byte-at-reads
 
 byte-at-requires : tie.Need-byte-at-requires
 byte-at-requires c κs = search needs

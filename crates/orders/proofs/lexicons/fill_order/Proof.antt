@@ -1,19 +1,10 @@
 -- `orders::lexicons::fill_order` meets its contract.
-use Prim.Native.Nat.{ℕ, suc, _+_, _*_, _-_, _%_, _<_, _≤_}
-use native.Mathlib.Omega.{arith}
-use mathlib.Core.Path.{_≡_, refl, sym, ap, _∙_, subst}
-use mathlib.Core.Logic.{_⊎_, inl, inr, ⊎-elim}
-use mathlib.Core.List.{List}
-use lib.ListN.{length, getD, set}
+use Prim.Native.Nat.{_-_}
 use borrow.Author.Needs.{needs}
 use Rattle.orders.specs.Orders.{Ordered}
 use Rattle.orders.proofs.OrderLaws.{ordered-none}
 use Rattle.orders.proofs.lexicons.fill_order.Statement.{statement}
 use Rattle.orders.proofs.lexicons.fill_order.Tie as tie
-use Rattle.orders.proofs.lexicons.fill_order.Reads as reads
-use Rattle.orders.proofs.lexicons.fill_order.Lts as lts
-use Rattle.orders.proofs.lexicons.followed.Reads as followed-reads
-use Rattle.orders.proofs.lexicons.take_round.Reads as take-round-reads
 
 abbrev Inv-loop : tie.InvT-loop
 Inv-loop image h row₀ wanted taken₀ rounds₀ row taken rounds = Ordered row (h .lexicons)

@@ -1,21 +1,12 @@
 -- `orders::lexicons::is_due` meets its contract.
-use Prim.Native.Nat.{ℕ, suc, _+_, _*_, _-_, _%_, _<_, _≤_}
+use Prim.Native.Nat.{_-_}
 use native.Mathlib.Omega.{arith}
-use mathlib.Core.Path.{_≡_, refl, sym, ap, _∙_, subst}
-use mathlib.Core.Logic.{_⊎_, inl, inr, ⊎-elim}
-use mathlib.Core.List.{List}
-use lib.ListN.{length, getD, set}
 use borrow.Author.Needs.{needs}
 use Rattle.image.specs.Header.{headerOf}
 use Rattle.lexicon.proofs.Laws.{lexicon-within}
 use Rattle.orders.proofs.AcceptedLaws.{entries-ok}
 use Rattle.orders.proofs.lexicons.is_due.Statement.{statement}
 use Rattle.orders.proofs.lexicons.is_due.Tie as tie
-use Rattle.orders.proofs.lexicons.is_due.Reads as reads
-use Rattle.orders.proofs.lexicons.is_due.Lts as lts
-use Rattle.orders.proofs.lexicons.is_ready.Reads as is-ready-reads
-use Rattle.lexicon.proofs.entry_count.Reads as entry-count-reads
-use Rattle.lexicon.proofs.first_entry.Reads as first-entry-reads
 
 element-copy-out-if1 : tie.Need-element-copy-out-if1
 element-copy-out-if1 c = search needs

@@ -1,18 +1,9 @@
 -- `orders::lexicons::take_round` meets its contract.
-use Prim.Native.Nat.{ℕ, suc, _+_, _*_, _-_, _%_, _<_, _≤_}
-use native.Mathlib.Omega.{arith}
-use mathlib.Core.Path.{_≡_, refl, sym, ap, _∙_, subst}
-use mathlib.Core.Logic.{_⊎_, inl, inr, ⊎-elim}
-use mathlib.Core.List.{List}
-use lib.ListN.{length, getD, set}
+use Prim.Native.Nat.{_-_, _≤_}
 use borrow.Author.Needs.{needs}
 use Rattle.orders.specs.Orders.{Ordered}
 use Rattle.orders.proofs.lexicons.take_round.Statement.{statement}
 use Rattle.orders.proofs.lexicons.take_round.Tie as tie
-use Rattle.orders.proofs.lexicons.take_round.Reads as reads
-use Rattle.orders.proofs.lexicons.take_round.Lts as lts
-use Rattle.orders.proofs.lexicons.append.Reads as append-reads
-use Rattle.orders.proofs.lexicons.is_due.Reads as is-due-reads
 
 abbrev Inv-loop : tie.InvT-loop
 Inv-loop image h last wanted taken₀ row₀ lexicons some₀ x₀ taken row some x = (x ≤ lexicons) × Ordered row lexicons
