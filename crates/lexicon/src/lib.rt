@@ -138,16 +138,16 @@ fn are_entries(image: &[u8], h: Header, marked: &[u8; 256], look: bool) -> bool
     let high = bounds::bounds_of(h.letters as u8, 255);
     let mut left = h.entries;
     let mut at = entry_start(h, 0);
-    let mut slot: usize = 0;
+    let mut room = most;
     while left > 0 {
         if !is_entry(image, at, h, &low, &high, marked, look) {
             return false;
         }
         left -= 1;
         at += wide;
-        slot += 1;
-        if slot == most {
-            slot = 0;
+        room -= 1;
+        if room == 0 {
+            room = most;
             at += between;
         }
     }

@@ -24,16 +24,16 @@ use Rattle.lexicon.proofs.are_entries.Tie as tie
 abbrev isRight : List ℕ → List ℕ → ℕ → ℕ → Bool
 isRight image marked lexicons e = isEntryOf (entry image e) (isMarked marked) lexicons
 
--- entry left₀ - left comes next, at its slot and its place
+-- entry left₀ - left comes next, at its place, with this many to come in its block
 abbrev Inv-loop : tie.InvT-loop
-Inv-loop image h marked look wide most between low high left₀ at₀ slot₀ left at slot =
+Inv-loop image h marked look wide most between low high left₀ at₀ room₀ left at room =
     (left ≤ left₀)
-    × (slot ≡ (left₀ - left) % perBlock (headerOf h) 6)
+    × (room + (left₀ - left) % perBlock (headerOf h) 6 ≡ perBlock (headerOf h) 6)
     × (at ≡ recordStart (headerOf h) 6 (left₀ - left))
     × (every (isRight image marked (h .lexicons)) (drop (left₀ - left) (below left₀)) ≡ every (isRight image marked (h .lexicons)) (below left₀))
 
 abbrev μ-loop : tie.MeasureT-loop
-μ-loop image h marked look wide most between low high left₀ at₀ slot₀ left at slot = left
+μ-loop image h marked look wide most between low high left₀ at₀ room₀ left at room = left
 
 -- what the table tells of entries
 module _ (c : tie.After-per-block Inv-loop μ-loop) where
@@ -105,27 +105,27 @@ module _ (c : tie.After-is-entry Inv-loop μ-loop) where
   unfolding kinds
   counted = omega arith
 
-  slot-less : turn .loop .slot < told .per-block .result
-  slot-less = omega (arith, record-slot h (start .pre .0 .limits) 6 number counted, told .per-block .ensures)
+  some-room : 1 ≤ turn .loop .room
+  some-room = omega (arith, record-slot h (start .pre .0 .limits) 6 number counted)
 
   small : turn .loop .at + told .before .width .result ≤ 65536
   small = omega (arith, record-end h (start .pre .0 .limits) 6 number counted, total-most h (start .pre .0 .limits), told .before .width .ensures)
 
   -- and the next one, in its block or in the next block
   abbrev Next : ℕ → ℕ → Type 0
-  Next slot at =
-      (slot ≡ (h .entries - (turn .loop .left - 1)) % perBlock h 6)
+  Next room at =
+      (room + (h .entries - (turn .loop .left - 1)) % perBlock h 6 ≡ perBlock h 6)
       × (at ≡ recordStart h 6 (h .entries - (turn .loop .left - 1)))
 
-  within : turn .loop .slot + 1 < told .per-block .result → Next (turn .loop .slot + 1) (turn .loop .at + told .before .width .result)
-  within less =
-      let n = next-within h 6 number (omega (arith, told .per-block .ensures)) in
-      rw one-less (omega arith, omega (arith, told .before .width .ensures))
+  within : (turn .loop .room - 1 ≡ 0 → ⊥) → Next (turn .loop .room - 1) (turn .loop .at + told .before .width .result)
+  within more =
+      let n = next-within h 6 number (omega (arith, some-room)) in
+      rw one-less (omega (arith, some-room), omega (arith, told .before .width .ensures))
 
-  over : turn .loop .slot + 1 ≡ told .per-block .result → Next 0 (turn .loop .at + told .before .width .result + (512 - full told))
+  over : turn .loop .room - 1 ≡ 0 → Next (told .per-block .result) (turn .loop .at + told .before .width .result + (512 - full told))
   over e =
-      let n = next-block h 6 number (omega (arith, told .per-block .ensures)) in
-      rw one-less (omega arith, omega (arith, told .before .width .ensures, full-is told))
+      let n = next-block h 6 number (omega (arith, some-room)) in
+      rw one-less (omega (arith, told .per-block .ensures), omega (arith, told .before .width .ensures, full-is told))
 
 width-requires : tie.Need-width-requires Inv-loop μ-loop
 width-requires c κs = search needs
@@ -160,7 +160,7 @@ loop-holds : tie.Need-loop-holds Inv-loop μ-loop
 loop-holds c =
     let a = start-of (c .before) .args in
     let n = a .h .entries in
-    rw (sub-self n) (omega arith, sym (zero-mod (perBlock (headerOf (a .h)) 6)), c .entry-start .ensures .0, refl)
+    rw (sub-self n) (omega arith, omega (arith, zero-mod (perBlock (headerOf (a .h)) 6), c .before .before .before .before .per-block .ensures), c .entry-start .ensures .0, refl)
 
 is-entry-requires : tie.Need-is-entry-requires Inv-loop μ-loop
 is-entry-requires c κs =
@@ -180,8 +180,8 @@ sub-left c = omega arith
 add-at : tie.Need-add-at Inv-loop μ-loop
 add-at c = omega (arith, small (c .before))
 
-add-slot : tie.Need-add-slot Inv-loop μ-loop
-add-slot c = omega (arith, slot-less (c .before))
+sub-room : tie.Need-sub-room Inv-loop μ-loop
+sub-room c = omega (arith, some-room (c .before))
 
 add-at-2 : tie.Need-add-at-2 Inv-loop μ-loop
 add-at-2 c = omega (arith, small (c .before .before))
@@ -190,13 +190,13 @@ loop-less : tie.Need-loop-less Inv-loop μ-loop
 loop-less c = omega arith
 
 loop-again : tie.Need-loop-again Inv-loop μ-loop
-loop-again c = let t = over (c .before .before) (omega arith) in (omega arith, t .0, t .1, goes-on (c .before .before) (not-false (c .before .before .is-entry .result) (c .before .if1 .left)))
+loop-again c = let t = over (c .before .before) (c .if2 .taken) in (omega arith, t .0, t .1, goes-on (c .before .before) (not-false (c .before .before .is-entry .result) (c .before .if1 .left)))
 
 loop-less-2 : tie.Need-loop-less-2 Inv-loop μ-loop
 loop-less-2 c = omega arith
 
 loop-again-2 : tie.Need-loop-again-2 Inv-loop μ-loop
-loop-again-2 c = let t = within (c .before .before) (omega (arith, slot-less (c .before .before))) in (omega arith, t .0, t .1, goes-on (c .before .before) (not-false (c .before .before .is-entry .result) (c .before .if1 .left)))
+loop-again-2 c = let t = within (c .before .before) (c .if2 .left) in (omega arith, t .0, t .1, goes-on (c .before .before) (not-false (c .before .before .is-entry .result) (c .before .if1 .left)))
 
 returns-2 : tie.Need-returns-2 Inv-loop μ-loop
 returns-2 c =
@@ -223,7 +223,7 @@ are-entries-spec =
     returns
     sub-left
     add-at
-    add-slot
+    sub-room
     add-at-2
     loop-less
     loop-again

@@ -73,9 +73,9 @@ returns c =
     let rest = drop (a .h .pairs + 1) (a .out .now) in (
       columns-written (a .image .now) (a .r) (t f) (m .put-columns .last .1 .1 .1 .0) rest e (m .put-columns .ensures .0 ∙ ap (λ (l : List ℕ). l ++ rest) (found f)),
       columns-tested (a .image .now) (a .r) (t f) (m .put-columns .result) e
-      (m .put-columns .ensures .1
-      ∙ ap₂ (λ (n : ℕ) (l : List ℕ). every (λ k. not (eqb k n)) l) (columned b .count) (found f)
-      ∙ none-is (a .image .now) (t f) (f .find-columns .result) (f .find-columns .ensures)),
+          (m .put-columns .ensures .1
+          ∙ ap₂ (λ (n : ℕ) (l : List ℕ). every (λ k. not (eqb k n)) l) (columned b .count) (found f)
+          ∙ none-is (a .image .now) (t f) (f .find-columns .result) (f .find-columns .ensures)),
     )
 
 pub choose-columns-spec : {M : Type 1} → statement M

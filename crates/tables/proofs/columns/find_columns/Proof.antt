@@ -56,8 +56,8 @@ loop-holds c =
       refl,
       refl,
       λ p h.
-      let k : p < 256 = omega arith in
-      pass-read _ _ _ _ (pass-none _ _ (s .args .columns) 252) (getD-replicate 256 p (s .args .columns) 0 k) (getD-replicate 256 p 252 0 k),
+          let k : p < 256 = omega arith in
+          pass-read _ _ _ _ (pass-none _ _ (s .args .columns) 252) (getD-replicate 256 p (s .args .columns) 0 k) (getD-replicate 256 p 252 0 k),
     )
 
 column-at-requires : tie.Need-column-at-requires Inv-loop μ-loop
@@ -136,11 +136,11 @@ returns c =
     let e : l .c ≡ s .args .columns = omega arith in
     record {
       each = λ p h.
-      let x = pairNumber (s .args .image .now) p in
-      pass-all (matching ps t x) (broad ps t x) (s .args .columns) 252
-      (subst (λ (k : ℕ). NarrowestSoFar (matching ps t x) (broad ps t x) (s .args .columns) 252 k (byte (l .best) p) (byte (l .least) p)) e (l .inv .3 p (omega arith)))
-      ∙ ap (narrowest (matching ps t x) (broad ps t x)) (s .pre .1 .count)
-      ∙ narrowest-is ps t x
+          let x = pairNumber (s .args .image .now) p in
+          pass-all (matching ps t x) (broad ps t x) (s .args .columns) 252
+          (subst (λ (k : ℕ). NarrowestSoFar (matching ps t x) (broad ps t x) (s .args .columns) 252 k (byte (l .best) p) (byte (l .least) p)) e (l .inv .3 p (omega arith)))
+          ∙ ap (narrowest (matching ps t x) (broad ps t x)) (s .pre .1 .count)
+          ∙ narrowest-is ps t x;
     }
 
 pub find-columns-spec : {M : Type 1} → statement M

@@ -152,4 +152,3 @@ pass-column-spec =
     loop-less
     loop-again
     returns)
-

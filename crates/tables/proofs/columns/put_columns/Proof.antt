@@ -59,9 +59,9 @@ loop-again c =
       length-set (b .loop .out) p (byte (a .best .now) p) ∙ b .loop .inv .1,
       ap₂ (λ (o : List ℕ) (y : ℕ). set o p y) (b .loop .inv .2) read ∙ front-more l (a .out .now) p 0 there room,
       ⊎-elim
-      (λ w. w .1 ∙ sym (every-take-fails f l p 0 there (ap f (sym read) ∙ ap not (eq-eqb (byte (a .best .now) p) (a .columns) (w .0 .taken)))))
-      (λ w. w .1 ∙ b .loop .inv .3 ∙ sym (every-take-more f l p 0 there (ap f (sym read) ∙ ap not (ne-eqb (byte (a .best .now) p) (a .columns) (w .0 .left)))))
-      (c .if1 .came),
+          (λ w. w .1 ∙ sym (every-take-fails f l p 0 there (ap f (sym read) ∙ ap not (eq-eqb (byte (a .best .now) p) (a .columns) (w .0 .taken)))))
+          (λ w. w .1 ∙ b .loop .inv .3 ∙ sym (every-take-more f l p 0 there (ap f (sym read) ∙ ap not (ne-eqb (byte (a .best .now) p) (a .columns) (w .0 .left)))))
+          (c .if1 .came),
     )
 
 same-length : tie.Need-same-length Inv-loop μ-loop
