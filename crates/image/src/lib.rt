@@ -25,22 +25,7 @@ pub fn number_at(bytes: &[u8], at: usize) -> usize
     byte_at(bytes, at) + 256 * byte_at(bytes, at + 1)
 }
 
-// Whether each byte from `from` up to `end` is 0. It stops at the first that is not, which suits a few bytes.
-pub fn are_zeros(bytes: &[u8], from: usize, end: usize) -> bool
-    requires { ⌜ end ≤ length (now bytes) ⌝ }
-    ensures { λ r. ⌜ r ≡ every isZero (drop from (take end (now (bytes .entry)))) ⌝ }
-{
-    let mut i = from;
-    while i < end {
-        if byte_at(bytes, i) != 0 {
-            return false;
-        }
-        i += 1;
-    }
-    true
-}
-
-// The same for the rest of a block: every byte is looked at, so that the compiler takes many at once.
+// Whether each byte from `from` up to `end` is 0, as in the rest of a block. Every byte is looked at, so that the compiler takes many at once.
 pub fn is_blank(block: &[u8], from: usize, end: usize) -> bool
     requires { ⌜ end ≤ length (now block) ⌝ }
     ensures { λ r. ⌜ r ≡ every isZero (drop from (take end (now (block .entry)))) ⌝ }

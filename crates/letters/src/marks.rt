@@ -2,9 +2,9 @@
 use crate::lexical_at;
 use image::Header;
 ghost use mathlib.Core.Path.{_≡_};
-ghost use Prim.Native.Nat.{_≤_};
+ghost use Prim.Native.Nat.{_+_, _<_, _≤_};
 ghost use lib.ListN.{length, take, drop};
-ghost use Rattle.model.specs.Lists.{every, within};
+ghost use Rattle.model.specs.Lists.{below, every, within};
 ghost use Rattle.image.specs.Header.{headerOf};
 ghost use Rattle.image.specs.Laid.{Laid};
 ghost use Rattle.letters.specs.Marks.{marksOf, isMarked, isFormLetter};
@@ -38,6 +38,21 @@ pub fn lexical_marks(image: &[u8], h: Header) -> [u8; 256]
     }
     marks[0] = 0;
     marks
+}
+
+// Whether each letter from 2 to L is marked.
+pub fn each_marked(marks: &[u8; 256], letters: usize) -> bool
+    requires { ⌜ letters < 256 ⌝ }
+    ensures { λ r. ⌜ r ≡ every (isMarked (now (marks .entry))) (drop 2 (below (letters + 1))) ⌝ }
+{
+    let mut a: usize = 2;
+    while a <= letters {
+        if marks[a] != 1 {
+            return false;
+        }
+        a += 1;
+    }
+    true
 }
 
 // Whether each byte from `from` up to `end` is a marked letter.

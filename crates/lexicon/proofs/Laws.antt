@@ -21,7 +21,7 @@ use Rattle.model.proofs.Booleans.{and-out, and-in, out4, within-out}
 use Rattle.model.proofs.Lists.{below-has, drop-take, every-at, map-below}
 use Rattle.model.proofs.Rest.{every-getD}
 use Rattle.image.specs.Laid.{Laid}
-use Rattle.image.proofs.Records.{record-inside, record-part, record-byte, record-first}
+use Rattle.image.proofs.Records.{record-block, record-before, record-inside, record-part, record-byte, record-first}
 
 -- an entry's length, letters and continuation are its first 14 bytes
 pub entry-wide : (h : Header) → 14 ≤ recordWidth h 6
@@ -94,6 +94,11 @@ module _ (image : List ℕ) (h : Header) (laid : Laid image h) where
   pub entry-inside : (e j : ℕ) → e < h .entries → j < 14 → recordStart h 6 e + j < length image
   unfolding kinds
   entry-inside e j l k = record-inside laid 6 e j l (omega arith)
+
+  -- and after an entry come the check of its block or other entries
+  pub entry-room : (e : ℕ) → e < h .entries → recordStart h 6 e + 16 < length image
+  unfolding kinds recordStart
+  entry-room e l = omega (arith, laid .whole, record-block h (laid .limits) 6 e l, record-before h (laid .limits) 6 e l)
 
   pub entry-byte : (e j : ℕ) → j < 14 → byte (entry image e) j ≡ byte image (recordStart h 6 e + j)
   entry-byte e j k = record-byte laid 6 e j (omega (arith, entry-wide h))

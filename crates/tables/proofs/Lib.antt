@@ -5,3 +5,4 @@ pub mod Choice
 pub mod Breadths
 pub mod Laws
 pub mod Unique
+pub mod Passes

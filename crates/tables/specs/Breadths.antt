@@ -1,19 +1,15 @@
--- What the choice of columns is handed, a table's column count and the breadth of each column, and what it gives.
-use Prim.Native.Nat.{ℕ, _<_, _≤_}
+-- What the choice of columns is handed, a table and its column count, and what it gives.
+use Prim.Native.Nat.{ℕ, _≤_}
 use mathlib.Core.Path.{_≡_}
 use mathlib.Core.List.{List, map}
-use lib.ListN.{length, getD}
-use Rattle.model.specs.RuleTables.{pairsAndBoundary, columnCount, column, breadth, columnFor}
+use lib.ListN.{length}
+use Rattle.model.specs.RuleTables.{pairsAndBoundary, columnCount, columnFor}
 
 -- a table whose columns can be read: it has this many
 pub record Columned (t : List ℕ) (columns : ℕ) : Type 0 where
   pub count : columns ≡ columnCount t
   pub most : columns ≤ 16
   pub long : length t ≡ 506
-
--- the breadth of each column
-pub record Broad (image t : List ℕ) (columns : ℕ) (breadths : List ℕ) : Type 0 where
-  pub each : (c : ℕ) → c < columns → getD breadths c 0 ≡ breadth (pairsAndBoundary image) (column t c)
 
 -- the columns of a table that the pairs and the boundary pair take
 abbrev pub columnsBy : List ℕ → List ℕ → List ℕ

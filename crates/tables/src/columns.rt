@@ -1,29 +1,64 @@
-// The column that a pair takes: the breadth of each column once a rule, and then one pass over the columns for each pair.
+// The columns that the pairs take: a pass over all pairs for each column, which finds how many it matches, and one more, which keeps it for the pairs that it
+// is the narrowest for.
 use crate::sides;
 use crate::sides::Sides;
 use image::Header;
+use letters::Lexical;
+use letters::Pair;
+use letters::Surface;
 ghost use mathlib.Core.Path.{_≡_};
+ghost use mathlib.Core.Bool.{cond, not};
 ghost use mathlib.Core.List.{_++_};
-ghost use Prim.Native.Nat.{_+_, _≤_};
-ghost use lib.Dec.{ltb};
+ghost use Prim.Native.Nat.{_+_, _<_, _≤_};
+ghost use lib.Dec.{eqb};
 ghost use lib.ListN.{length, drop};
-ghost use Rattle.model.specs.Lists.{every};
-ghost use Rattle.model.specs.RuleTables.{pairsAndBoundary, columnCount, breadth, columnFor};
+ghost use Rattle.model.specs.Lists.{every, count};
+ghost use Rattle.model.specs.RuleTables.{pairsAndBoundary, matches};
 ghost use Rattle.image.specs.Header.{headerOf};
 ghost use Rattle.image.specs.Laid.{Laid};
-ghost use Rattle.tables.specs.Sides.{sidesOf, pairNumber};
-ghost use Rattle.tables.specs.Breadths.{Columned, Broad, columnsBy};
+ghost use Rattle.tables.specs.Sides.{sidesOf};
+ghost use Rattle.tables.specs.Breadths.{Columned};
+ghost use Rattle.tables.specs.Passes.{listed, narrower, lesserOf, Passed, Chosen, front};
 
-// How many of the pairs, the boundary pair among them, a column matches.
-fn breadth_of(image: &[u8], h: Header, column: Sides) -> usize
+// The sides of the pairs by number, each level by itself; the boundary pair has number P.
+struct PairSides {
+    lexical: [u8; 256],
+    surface: [u8; 256],
+}
+
+fn pair_sides(image: &[u8], h: Header) -> PairSides
     requires { ⌜ Laid (now image) (headerOf h) ⌝ }
-    ensures { λ r. ⌜ r ≡ breadth (pairsAndBoundary (now (image .entry))) (sidesOf column) ⌝ }
+    ensures { λ r. ⌜ listed (r .lexical) (r .surface) (h .pairs + 1) ≡ pairsAndBoundary (now (image .entry)) ⌝ }
 {
     let pairs = h.pairs;
-    let mut n = 0;
-    let mut p = 0;
+    let mut lexical = [0u8; 256];
+    let mut surface = [0u8; 256];
+    let mut p: usize = 0;
     while p <= pairs {
-        if sides::column_matches(column, sides::pair_at(image, h, p)) {
+        let pair = sides::pair_at(image, h, p);
+        lexical[p] = pair.lexical.0;
+        surface[p] = pair.surface.0;
+        p += 1;
+    }
+    PairSides {
+        lexical: lexical,
+        surface: surface,
+    }
+}
+
+// How many of the first pairs a column matches.
+fn breadth_of(lexical: &[u8; 256], surface: &[u8; 256], pairs: usize, column: Sides) -> u8
+    requires { ⌜ pairs < 256 ⌝ }
+    ensures { λ r. ⌜ r ≡ count (matches (sidesOf column)) (listed (now (lexical .entry)) (now (surface .entry)) pairs) ⌝ }
+{
+    let mut n: u8 = 0;
+    let mut p: usize = 0;
+    while p < pairs {
+        let pair = Pair {
+            lexical: Lexical(lexical[p]),
+            surface: Surface(surface[p]),
+        };
+        if sides::column_matches(column, pair) {
             n += 1;
         }
         p += 1;
@@ -31,77 +66,111 @@ fn breadth_of(image: &[u8], h: Header, column: Sides) -> usize
     n
 }
 
-// The breadth of each column of a table.
-pub fn breadths_of(image: &[u8], h: Header, t: &[u8], columns: usize) -> [usize; 16]
-    requires { ⌜ Laid (now image) (headerOf h) ⌝ }
-    requires { ⌜ Columned (now t) columns ⌝ }
-    ensures { λ r. ⌜ Broad (now (image .entry)) (now (t .entry)) columns r ⌝ }
+// The column kept after column c of a breadth, which matches, where `best` was kept, of breadth `least`: C where two are narrowest.
+fn narrower_of(breadth: u8, c: u8, columns: u8, best: u8, least: u8) -> u8
+    ensures { λ r. ⌜ r ≡ narrower breadth c columns best least ⌝ }
 {
-    let mut all = [0usize; 16];
-    let mut c = 0;
-    while c < columns {
-        all[c] = breadth_of(image, h, sides::column_at(t, c));
-        c += 1;
+    if breadth < least {
+        return c;
     }
-    all
+    if breadth == least {
+        return columns;
+    }
+    best
 }
 
-// The column that pair p takes, C where none matches or two are narrowest: `best`, among the columns passed. No breadth is over 251.
-fn column_of(
-    image: &[u8],
-    h: Header,
-    t: &[u8],
-    columns: usize,
-    breadths: &[usize; 16],
-    p: usize,
-) -> usize
+fn lesser(a: u8, b: u8) -> u8
+    ensures { λ r. ⌜ r ≡ lesserOf a b ⌝ }
+{
+    if a < b {
+        return a;
+    }
+    b
+}
+
+fn either(first: bool, a: u8, b: u8) -> u8
+    ensures { λ r. ⌜ r ≡ cond first a b ⌝ }
+{
+    if first {
+        return a;
+    }
+    b
+}
+
+// Column c kept for the first pairs that it is the narrowest for, so far. What is kept is written for every pair, so that the compiler takes many at once.
+fn pass_column(
+    lexical: &[u8; 256],
+    surface: &[u8; 256],
+    pairs: usize,
+    column: Sides,
+    breadth: u8,
+    c: u8,
+    columns: u8,
+    best: &mut [u8; 256],
+    least: &mut [u8; 256],
+)
+    requires { ⌜ (pairs < 256) × ((length (now best) ≡ 256) × (length (now least) ≡ 256)) ⌝ }
+    ensures { λ _. ⌜ Passed (now (lexical .entry)) (now (surface .entry)) pairs (sidesOf column) breadth c columns (now (best .entry)) (now (least .entry)) (now (best .exit)) (now (least .exit)) ⌝ }
+{
+    let mut p: usize = 0;
+    while p < pairs {
+        let pair = Pair {
+            lexical: Lexical(lexical[p]),
+            surface: Surface(surface[p]),
+        };
+        let matched = sides::column_matches(column, pair);
+        let was = best[p];
+        let broad = least[p];
+        best[p] = either(matched, narrower_of(breadth, c, columns, was, broad), was);
+        least[p] = either(matched, lesser(breadth, broad), broad);
+        p += 1;
+    }
+}
+
+// The column that each pair takes, C where none matches or two are narrowest. No breadth is over 251.
+pub fn find_columns(image: &[u8], h: Header, t: &[u8], columns: usize) -> [u8; 256]
     requires { ⌜ Laid (now image) (headerOf h) ⌝ }
     requires { ⌜ Columned (now t) columns ⌝ }
-    requires { ⌜ Broad (now image) (now t) columns (now breadths) ⌝ }
-    requires { ⌜ p ≤ h .pairs ⌝ }
-    ensures { λ r. ⌜ r ≡ columnFor (pairsAndBoundary (now (image .entry))) (now (t .entry)) (pairNumber (now (image .entry)) p) ⌝ }
+    ensures { λ r. ⌜ Chosen (now (image .entry)) (now (t .entry)) r ⌝ }
 {
-    let pair = sides::pair_at(image, h, p);
-    let mut best = columns;
-    let mut least = 252;
-    let mut c = 0;
+    let s = pair_sides(image, h);
+    let lexical = s.lexical;
+    let surface = s.surface;
+    let pairs = h.pairs + 1;
+    let none = columns as u8;
+    let mut best = [none; 256];
+    let mut least = [252u8; 256];
+    let mut c: usize = 0;
     while c < columns {
-        if sides::column_matches(sides::column_at(t, c), pair) {
-            let breadth = breadths[c];
-            if breadth < least {
-                best = c;
-                least = breadth;
-            } else if breadth == least {
-                best = columns;
-            }
-        }
+        let column = sides::column_at(t, c);
+        let breadth = breadth_of(&lexical, &surface, pairs, column);
+        pass_column(
+            &lexical,
+            &surface,
+            pairs,
+            column,
+            breadth,
+            c as u8,
+            none,
+            &mut best,
+            &mut least,
+        );
         c += 1;
     }
     best
 }
 
-// The columns that the pairs take, written to the front of `out`; whether each of them is one.
-pub fn take_columns(
-    image: &[u8],
-    h: Header,
-    t: &[u8],
-    columns: usize,
-    breadths: &[usize; 16],
-    out: &mut [u8],
-) -> bool
-    requires { ⌜ Laid (now image) (headerOf h) ⌝ }
-    requires { ⌜ Columned (now t) columns ⌝ }
-    requires { ⌜ Broad (now image) (now t) columns (now breadths) ⌝ }
-    requires { ⌜ h .pairs + 1 ≤ length (now out) ⌝ }
-    ensures { λ _. ⌜ now (out .exit) ≡ columnsBy (now (image .entry)) (now (t .entry)) ++ drop (h .pairs + 1) (now (out .entry)) ⌝ }
-    ensures { λ r. ⌜ r ≡ every (λ c. ltb c (columnCount (now (t .entry)))) (columnsBy (now (image .entry)) (now (t .entry))) ⌝ }
+// The first of them, written to the front of `out`; whether none of these is C.
+pub fn put_columns(best: &[u8; 256], pairs: usize, columns: u8, out: &mut [u8]) -> bool
+    requires { ⌜ (pairs ≤ 256) × (pairs ≤ length (now out)) ⌝ }
+    ensures { λ _. ⌜ now (out .exit) ≡ front pairs (now (best .entry)) ++ drop pairs (now (out .entry)) ⌝ }
+    ensures { λ r. ⌜ r ≡ every (λ c. not (eqb c columns)) (front pairs (now (best .entry))) ⌝ }
 {
-    let count = h.pairs + 1;
     let mut all = true;
-    let mut p = 0;
-    while p < count {
-        let c = column_of(image, h, t, columns, breadths, p);
-        out[p] = c as u8;
+    let mut p: usize = 0;
+    while p < pairs {
+        let c = best[p];
+        out[p] = c;
         if c == columns {
             all = false;
         }

@@ -80,8 +80,8 @@ pub fn choose_columns(image: &[u8], h: image::Header, r: usize, out: &mut [u8]) 
 {
     let t = table_at(image, h, r);
     let columns = image::byte_at(t, 0);
-    let breadths = columns::breadths_of(image, h, t, columns);
-    columns::take_columns(image, h, t, columns, &breadths, out)
+    let best = columns::find_columns(image, h, t, columns);
+    columns::put_columns(&best, h.pairs + 1, columns as u8, out)
 }
 
 // Test 7 of the image check.

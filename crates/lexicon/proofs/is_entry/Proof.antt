@@ -1,17 +1,68 @@
--- `is_entry` meets its contract: the tests of an entry, in their order.
+-- `is_entry` meets its contract: the length, the bytes within its bounds, the marks and the continuation.
 use borrow.Author.Needs.{needs}
 use borrow.Author.Tests.{not-true, not-false}
 use native.Mathlib.Omega.{arith}
-use mathlib.Core.Path.{refl, sym, ap, _∙_}
 use native.Mathlib.Nat.{add-zero}
-use lib.ListN.{drop}
+use mathlib.Core.Bool.{Bool, true, false, _&&_, _||_, not}
+use mathlib.Core.List.{List}
+use mathlib.Core.Path.{_≡_, refl, sym, ap, _∙_}
+use Prim.Native.Nat.{ℕ, _+_, _*_, _<_, _≤_}
+use lib.ListN.{take, drop}
 use lib.Seq.{getD-drop}
-use Prim.Native.Nat.{_+_}
-use Rattle.model.specs.Lists.{byte}
+use lib.Dec.{ltb, eqb}
+use Rattle.model.specs.Lists.{below, every, within, isZero, byte}
+use Rattle.model.specs.Lexicon.{isEntryOf}
 use Rattle.letters.specs.Marks.{isMarked}
+use Rattle.lexicon.specs.Bounds.{inRow}
 use Rattle.lexicon.proofs.Laws.{entry-long, entry-there}
+use Rattle.lexicon.proofs.Rows.{bounded-is, looked-is}
 use Rattle.lexicon.proofs.is_entry.Statement.{statement}
 use Rattle.lexicon.proofs.is_entry.Tie as tie
+
+-- the marks after the rest of the form
+order : (w k z c : Bool) → (w && k && z && c) ≡ (w && z && k && c)
+order false k z c = refl
+order true true true c = refl
+order true true false c = refl
+order true false true c = refl
+order true false false c = refl
+
+-- where the length was read
+module _ (b : tie.After-byte-at) where
+  abbrev start : tie.Start
+  start = b .before .before
+
+  abbrev image : List ℕ
+  image = start .args .image .now
+
+  abbrev at : ℕ
+  at = start .args .at
+
+  abbrev n : ℕ
+  n = b .byte-at .result
+
+  abbrev may : ℕ → Bool
+  may = isMarked (start .args .marked .now)
+
+  abbrev form : List ℕ
+  form = drop (at + 1) (take (at + (1 + n)) image)
+
+  abbrev bounded : Bool
+  bounded = every (inRow (start .args .low .now) (start .args .high .now) (16 * n) image (at + 1)) (below 16)
+
+  abbrev marked : Bool
+  marked = not (start .args .look) || every may form
+
+  entry-is : (m : ℕ) → n ≤ 12 → m ≡ byte image (at + 13) → isEntryOf (drop at image) may (start .args .h .lexicons) ≡ (bounded && marked && (ltb m (start .args .h .lexicons) || eqb m 255))
+  entry-is m short q =
+      let letters = start .args .h .letters in
+      let goes = ltb m (start .args .h .lexicons) || eqb m 255 in
+      let zeros = every isZero (drop (at + (1 + n)) (take (at + 13) image)) in
+      let bytes : (i : ℕ) → byte image i < 256 = λ i. omega (arith, b .before .shared-slice-known .given i) in
+      entry-there may (start .args .h .lexicons) image at n m (b .byte-at .ensures .0) q short
+      ∙ ap (λ (x : Bool). x && zeros && goes) (looked-is (start .args .marked .now) letters (start .args .look) (start .pre .1 .1 .1) form)
+      ∙ order (every (within 2 letters) form) marked zeros goes
+      ∙ ap (λ (x : Bool). x && marked && goes) (sym (bounded-is letters (start .args .low .now) (start .args .high .now) image (start .pre .1 .0) (start .pre .1 .1 .0) bytes n at short (start .pre .0)))
 
 byte-at-requires : tie.Need-byte-at-requires
 byte-at-requires c κs = search needs
@@ -19,43 +70,46 @@ byte-at-requires c κs = search needs
 returns : tie.Need-returns
 returns c =
     let a = c .before .before .before .args in
-    sym (entry-long (isMarked (a .marked .now)) (a .lexicons) (drop (a .at) (a .image .now)) (omega (arith, c .before .byte-at .ensures .0, getD-drop (a .at) (a .image .now) 0 0 ∙ ap (byte (a .image .now)) (add-zero (a .at)))))
+    sym (entry-long (isMarked (a .marked .now)) (a .h .lexicons) (drop (a .at) (a .image .now)) (omega (arith, c .before .byte-at .ensures .0, getD-drop (a .at) (a .image .now) 0 0 ∙ ap (byte (a .image .now)) (add-zero (a .at)))))
 
-add-form-end : tie.Need-add-form-end
-add-form-end c = search needs
+add-in-bounds : tie.Need-add-in-bounds
+add-in-bounds c = search needs
 
-add-form-end-2 : tie.Need-add-form-end-2
-add-form-end-2 c = search needs
+mul-in-bounds : tie.Need-mul-in-bounds
+mul-in-bounds c = search needs
 
-add-are-marked : tie.Need-add-are-marked
-add-are-marked c = search needs
-
-are-marked-requires : tie.Need-are-marked-requires
-are-marked-requires c κs = search needs
+in-bounds-requires : tie.Need-in-bounds-requires
+in-bounds-requires c κs = search needs
 
 returns-2 : tie.Need-returns-2
 returns-2 c =
     let b = c .before .before .before in
-    let a = b .before .before .args in
-    let e = entry-there (isMarked (a .marked .now)) (a .lexicons) (a .image .now) (a .at) (b .byte-at .result) (byte (a .image .now) (a .at + 13)) (b .byte-at .ensures .0) refl (omega arith) in
-    let letters = sym (c .before .are-marked .ensures) ∙ not-true (c .before .are-marked .result) (c .if2 .taken) in
-    rw (e, letters) refl
+    let i = c .before .in-bounds in
+    let e = entry-is b (byte (image b) (at b + 13)) (omega arith) refl in
+    let out = sym (i .ensures) ∙ not-true (i .result) (c .if2 .taken) in
+    rw (e, out) refl
 
-add-are-zeros : tie.Need-add-are-zeros
-add-are-zeros c = search needs
+add-is-form : tie.Need-add-is-form
+add-is-form c = search needs
 
-are-zeros-requires : tie.Need-are-zeros-requires
-are-zeros-requires c κs = search needs
+add-is-form-2 : tie.Need-add-is-form-2
+add-is-form-2 c = search needs
+
+add-is-form-3 : tie.Need-add-is-form-3
+add-is-form-3 c = search needs
+
+is-form-requires : tie.Need-is-form-requires
+is-form-requires c κs = search needs
 
 returns-3 : tie.Need-returns-3
 returns-3 c =
     let b = c .before .before .before .before .before in
-    let a = b .before .before .args in
-    let e = entry-there (isMarked (a .marked .now)) (a .lexicons) (a .image .now) (a .at) (b .byte-at .result) (byte (a .image .now) (a .at + 13)) (b .byte-at .ensures .0) refl (omega arith) in
-    let l = c .before .before .before .are-marked in
-    let letters = sym (l .ensures) ∙ not-false (l .result) (c .before .before .if2 .left) in
-    let zeros = sym (c .before .are-zeros .ensures) ∙ not-true (c .before .are-zeros .result) (c .if3 .taken) in
-    rw (e, letters, zeros) refl
+    let i = c .before .before .before .in-bounds in
+    let f = c .before .is-form in
+    let e = entry-is b (byte (image b) (at b + 13)) (omega arith) refl in
+    let in-all = sym (i .ensures) ∙ not-false (i .result) (c .before .before .if2 .left) in
+    let out = sym (f .ensures) ∙ not-true (f .result) (c .if3 .taken) in
+    rw (e, in-all, out) refl
 
 add-byte-at : tie.Need-add-byte-at
 add-byte-at c = search needs
@@ -69,13 +123,12 @@ is-continuation-requires c κs = search needs
 returns-4 : tie.Need-returns-4
 returns-4 c =
     let b = c .before .before .before .before .before .before .before in
-    let a = b .before .before .args in
-    let e = entry-there (isMarked (a .marked .now)) (a .lexicons) (a .image .now) (a .at) (b .byte-at .result) (c .before .byte-at2 .result) (b .byte-at .ensures .0) (c .before .byte-at2 .ensures .0) (omega arith) in
-    let l = c .before .before .before .before .before .are-marked in
-    let z = c .before .before .before .are-zeros in
-    let letters = sym (l .ensures) ∙ not-false (l .result) (c .before .before .before .before .if2 .left) in
-    let zeros = sym (z .ensures) ∙ not-false (z .result) (c .before .before .if3 .left) in
-    rw (e, letters, zeros) (c .is-continuation .ensures)
+    let i = c .before .before .before .before .before .in-bounds in
+    let f = c .before .before .before .is-form in
+    let e = entry-is b (c .before .byte-at2 .result) (omega arith) (c .before .byte-at2 .ensures .0) in
+    let in-all = sym (i .ensures) ∙ not-false (i .result) (c .before .before .before .before .if2 .left) in
+    let told = sym (f .ensures) ∙ not-false (f .result) (c .before .before .if3 .left) in
+    rw (e, in-all, told) (c .is-continuation .ensures)
 
 pub is-entry-spec : {M : Type 1} → statement M
 is-entry-spec =
@@ -83,13 +136,14 @@ is-entry-spec =
     (tie.spec
     byte-at-requires
     returns
-    add-form-end
-    add-form-end-2
-    add-are-marked
-    are-marked-requires
+    add-in-bounds
+    mul-in-bounds
+    in-bounds-requires
     returns-2
-    add-are-zeros
-    are-zeros-requires
+    add-is-form
+    add-is-form-2
+    add-is-form-3
+    is-form-requires
     returns-3
     add-byte-at
     byte-at-requires-2

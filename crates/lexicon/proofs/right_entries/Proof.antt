@@ -1,12 +1,13 @@
 -- `right_entries` meets its contract: the letters from 2 to L are marked.
 use borrow.Author.Needs.{needs}
-use mathlib.Core.Path.{ap, _∙_}
+use mathlib.Core.Bool.{false}
+use mathlib.Core.Path.{sym, ap, _∙_, subst}
 use mathlib.Core.List.{List}
 use Prim.Native.Nat.{ℕ}
 use Rattle.image.specs.Header.{headerOf}
 use Rattle.letters.specs.Marks.{isMarked}
-use Rattle.lexicon.specs.Entries.{isLexiconOf}
-use Rattle.lexicon.proofs.Marked.{letters-lexicon}
+use Rattle.lexicon.specs.Entries.{MarkedLetters, isLexiconOf}
+use Rattle.lexicon.proofs.Marked.{letters-marked, letters-lexicon}
 use Rattle.lexicon.proofs.right_entries.Statement.{statement}
 use Rattle.lexicon.proofs.right_entries.Tie as tie
 
@@ -14,7 +15,11 @@ letter-marks-requires : tie.Need-letter-marks-requires
 letter-marks-requires c κs = search needs
 
 is-lexicon-requires : tie.Need-is-lexicon-requires
-is-lexicon-requires c κs = search needs
+is-lexicon-requires c κs =
+    let b = c .before in
+    let a = b .before .before in
+    let letters = a .args .h .letters in
+    (a .pre, subst (λ (m : List ℕ). MarkedLetters m letters false) (sym (b .letter-marks .ensures)) (letters-marked letters (a .pre .limits .letters-most)))
 
 returns : tie.Need-returns
 returns c =
