@@ -1,7 +1,7 @@
-# Turns an image into what foma reads. Usage: foma.py IMAGE FOLDER
-# Writes finite automata into the folder, and the script build.foma, which makes of them analyser.foma, lexical above and surface
-# below, and analyser.att, the same upside down. Pairs are symbols p0, p1, .. there:
-#   lexicon  the joined forms of every path
+# Turns an image into what foma reads. Usage: foma.py sides|paths IMAGE FOLDER
+# Writes finite automata into the folder, and the script build.foma, which makes of them analyser.foma, the surface below and what it
+# is read as above, and analyser.att, the same upside down. Pairs are symbols p0, p1, .. there:
+#   lexicon  the joined forms of every path; above them the same, or the path: an entry 12 is 12/, after its last letter
 #   pairing  to a lexical letter each of its pairs, and the pairs with a lexical null anywhere
 #   ruleK    the pairs that rule K lets pass, the boundary pair being fed at the front and at the end
 #   surface  to each pair its surface letter
@@ -31,17 +31,26 @@ class Image:
         self.entries = [entry for block in blocks[4 + rules :] for entry in chunks(block, 16, 31)][:entries]
 
 
-def lexicon(image):
+def spelled(image, number, mode):
+    # What stands above and below while an entry is spelled.
+    entry = image.entries[number]
+    form = [image.letters[letter] for letter in entry[1 : 1 + entry[0]]]
+    if mode == "paths":
+        return [(EMPTY, letter) for letter in form] + [(f"{number}/", EMPTY)]
+    return [(letter, letter) for letter in form or [EMPTY]]
+
+
+def lexicon(image, mode):
     # States: 0, 1, .. for the lexicons, one for the end, and then those within forms.
     first, end = 0, len(image.counts)
     arcs, free = [], end + 1
     for at, count in enumerate(image.counts):
-        for entry in image.entries[first : first + count]:
-            onward = end if entry[13] == END else entry[13]
-            form = [image.letters[letter] for letter in entry[1 : 1 + entry[0]]] or [EMPTY]
-            states = [at] + list(range(free, free + len(form) - 1)) + [onward]
-            free += len(form) - 1
-            arcs += [(states[i], states[i + 1], letter, letter) for i, letter in enumerate(form)]
+        for number in range(first, first + count):
+            onward = image.entries[number][13]
+            labels = spelled(image, number, mode)
+            states = [at, *range(free, free + len(labels) - 1), end if onward == END else onward]
+            free += len(labels) - 1
+            arcs += [(states[i], states[i + 1], *label) for i, label in enumerate(labels)]
         first += count
     return arcs, [end]
 
@@ -67,7 +76,9 @@ def rule(table, pairs):
     marks = table[2 + 2 * columns :]
     rows = [[0] * columns] + [list(row) for row in chunks(marks[states:], columns, states)]
     start = rows[1][boundary]
-    number = lambda state: 0 if state == start else start if state == 0 else state  # the start is state 0, failure the start's number
+    if start == 0:
+        return [(0, 0, "p0", "p0")], []
+    number = lambda state: 0 if state == start else state  # the start is state 0, and failure is left out
     arcs = [(number(s), number(rows[s][k]), f"p{i}", f"p{i}") for s in range(1, states + 1) for i, k in enumerate(takes) if rows[s][k] > 0]
     ends = [number(s) for s in range(1, states + 1) if rows[s][boundary] > 0 and marks[rows[s][boundary] - 1] == 1]
     return arcs, ends
@@ -83,8 +94,8 @@ def write(folder, name, automaton):
             print(state, file=file)
 
 
-image, folder = Image(sys.argv[1]), sys.argv[2]
-parts = {"lexicon": lexicon(image), "pairing": pairing(image)}
+mode, image, folder = sys.argv[1], Image(sys.argv[2]), sys.argv[3]
+parts = {"lexicon": lexicon(image, mode), "pairing": pairing(image)}
 parts |= {f"rule{k}": rule(table, image.pairs) for k, table in enumerate(image.rules)}
 parts["surface"] = surface(image)
 for name, automaton in parts.items():
