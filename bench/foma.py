@@ -1,6 +1,6 @@
 # Turns an image into what foma reads. Usage: foma.py sides|paths IMAGE FOLDER
-# Writes finite automata into the folder, and the script build.foma, which makes of them analyser.foma, the surface below and what it
-# is read as above, and analyser.att, the same upside down. Pairs are symbols p0, p1, .. there:
+# Writes finite automata into the folder, and the script build.foma, which makes of them analyser.foma, the surface below and what
+# it is read as above, and analyser.att, the same upside down. Pairs are symbols p0, p1, .. there:
 #   lexicon  the joined forms of every path; above them the same, or the path: an entry 12 is 12/, after its last letter
 #   pairing  to a lexical letter each of its pairs, and the pairs with a lexical null anywhere
 #   ruleK    the pairs that rule K lets pass, the boundary pair being fed at the front and at the end
@@ -79,14 +79,15 @@ def rule(table, pairs):
     if start == 0:
         return [(0, 0, "p0", "p0")], []
     number = lambda state: 0 if state == start else state  # the start is state 0, and failure is left out
-    arcs = [(number(s), number(rows[s][k]), f"p{i}", f"p{i}") for s in range(1, states + 1) for i, k in enumerate(takes) if rows[s][k] > 0]
+    moves = [(s, rows[s][k], f"p{i}") for s in range(1, states + 1) for i, k in enumerate(takes)]
+    arcs = [(number(s), number(onward), pair, pair) for s, onward, pair in moves if onward > 0]
     ends = [number(s) for s in range(1, states + 1) if rows[s][boundary] > 0 and marks[rows[s][boundary] - 1] == 1]
     return arcs, ends
 
 
 def write(folder, name, automaton):
     arcs, ends = automaton
-    with open(f"{folder}/{name}.att", "w") as file:
+    with open(f"{folder}/{name}.att", "w", encoding="utf-8") as file:
         # The first line's state is the start.
         for arc in sorted(arcs, key=lambda arc: arc[0]):
             print(*arc, sep="\t", file=file)
@@ -103,4 +104,5 @@ for name, automaton in parts.items():
 with open(f"{folder}/build.foma", "w") as file:
     for name in parts:
         print(f"read att {folder}/{name}.att\ndefine {name}", file=file)
-    print(f"regex {' .o. '.join(parts)};\nsave stack {folder}/analyser.foma\ninvert net\nwrite att > {folder}/analyser.att", file=file)
+    print(f"regex {' .o. '.join(parts)};\nsave stack {folder}/analyser.foma", file=file)
+    print(f"invert net\nwrite att > {folder}/analyser.att", file=file)
