@@ -1,4 +1,4 @@
-# make run: the readings of some words by the Spanish sample grammar. make test: the gate. make bench: what a block and a word cost.
+# make run: the readings of some words by the Spanish sample grammar. make test: the gate. make bench: what a block and a word cost, and the same words by other tools.
 .PHONY: run test bench
 
 run:
@@ -17,3 +17,7 @@ bench:
 	@bench/listings
 	@echo
 	@bench/growth
+	@echo
+	@bench/hostile
+	@echo
+	@bench/others

@@ -1,13 +1,14 @@
 /* What the listings cost, beside a plain program that only reads the words.
  * Usage: listings MODE IMAGE WORDS [REPEATS]
- *   read      each line of WORDS, letter numbers split by single spaces, becomes letter bytes, and these are summed
- *   check     the same, and one image check, which is counted as "all" where it accepts
- *   analyse   the same as read, and each word is analysed into 64 lent rows
- *   paths     collects 200 paths from the rows of the words' readings, and sums their bytes
- *   generate  the same as paths, and each path is generated from, into 64 lent rows
- *   time      words a second reading only and analysing, paths a second generating
- * REPEATS is how many times the words or paths are gone through, 1 if it is left out; in mode time as often as it takes to
- * time them. Each mode prints how many replies were none, all, more and refused, and how many rows were handed back: for the
+ *   read        each line of WORDS, letter numbers split by single spaces, becomes letter bytes, and these are summed
+ *   check       the same, and one image check, which is counted as "all" where it accepts
+ *   analyse     the same as read, and each word is analysed into 64 lent rows
+ *   paths       collects 200 paths from the rows of the words' readings, and sums their bytes
+ *   generate    the same as paths, and each path is generated from, into 64 lent rows
+ *   time-words  words a second reading only, and analysing
+ *   time-paths  paths a second generating
+ * REPEATS is how many times the words or paths are gone through, 1 if it is left out; in the last two modes as often as it takes
+ * to time them. Each mode prints how many replies were none, all, more and refused, and how many rows were handed back: for the
  * words or paths once. */
 #define _POSIX_C_SOURCE 199309L
 #include <stdio.h>
@@ -245,21 +246,30 @@ static double rate(const struct part *part)
     return (double)part->tally.things * (double)part->passes / part->least;
 }
 
-static void print_times(unsigned long repeats)
+/* The parts in turn, each REPEATS times a round, or as often as it takes. */
+static void time_in_turn(struct part *parts, int many, unsigned long repeats)
 {
-    struct part parts[] = {{.run = read_words}, {.run = analyse_words}, {.run = generate_paths}};
-    collect_paths();
-    for (int i = 0; i < 3; i++)
+    for (int i = 0; i < many; i++)
         parts[i].passes = repeats > 0 ? repeats : passes_for(&parts[i]);
-    time_parts(parts, 3);
-    double reading = rate(&parts[0]), analysing = rate(&parts[1]), generating = rate(&parts[2]);
-    printf("words/s reading only: %.0f\n", reading);
-    printf("words/s analysing: %.0f\n", analysing);
-    printf("reading only / analysing: %.1f\n", reading / analysing);
-    printf("paths/s generating: %.0f\n", generating);
-    printf("reading only / generating: %.1f\n", reading / generating);
+    time_parts(parts, many);
+}
+
+static void print_word_times(unsigned long repeats)
+{
+    struct part parts[] = {{.run = read_words}, {.run = analyse_words}};
+    time_in_turn(parts, 2, repeats);
+    printf("words/s reading only: %.0f\n", rate(&parts[0]));
+    printf("words/s analysing: %.0f\n", rate(&parts[1]));
     print_tally("words", parts[1].tally);
-    print_generated(parts[2].tally);
+}
+
+static void print_path_times(unsigned long repeats)
+{
+    struct part part = {.run = generate_paths};
+    collect_paths();
+    time_in_turn(&part, 1, repeats);
+    printf("paths/s generating: %.0f\n", rate(&part));
+    print_generated(part.tally);
 }
 
 /* told is REPEATS, 0 where it is left out. */
@@ -278,8 +288,10 @@ static int run(const char *mode, unsigned long told)
     } else if (strcmp(mode, "generate") == 0) {
         collect_paths();
         print_generated(repeat(generate_paths, repeats));
-    } else if (strcmp(mode, "time") == 0) {
-        print_times(told);
+    } else if (strcmp(mode, "time-words") == 0) {
+        print_word_times(told);
+    } else if (strcmp(mode, "time-paths") == 0) {
+        print_path_times(told);
     } else {
         return 0;
     }
@@ -302,6 +314,6 @@ int main(int argc, char **argv)
         if (run(argv[1], told))
             return EXIT_SUCCESS;
     }
-    fprintf(stderr, "usage: listings read|check|analyse|paths|generate|time IMAGE WORDS [REPEATS]\n");
+    fprintf(stderr, "usage: listings read|check|analyse|paths|generate|time-words|time-paths IMAGE WORDS [REPEATS]\n");
     return 2;
 }

@@ -1,7 +1,9 @@
-# Read in by blocks, listings and growth, which stand beside it: builds what they run, and counts instructions.
+# Read in by the scripts that stand beside it: builds what they run, lays out the samples, and counts instructions.
 set -euo pipefail
 shopt -s inherit_errexit # so that a count that fails ends the script, and is not taken for 0
 cd "$(dirname "$0")/.."
+lines=$PWD/target/bin/lines
+assembler=$PWD/target/cargo/release/assemble
 work=$(mktemp -d)
 trap 'rm -rf "$work"' EXIT
 
@@ -26,31 +28,68 @@ quietly() {
 
 build() {
     tools/library
-    quietly cargo build --offline --locked --release --manifest-path assemble/Cargo.toml --target-dir target/cargo
+    build_lines
     quietly cc -std=c99 -O2 -Wall -Wextra -Werror -Iinclude -o "$work/listings" bench/listings.c target/staticlib/libheadwords.a
+}
+
+# build_lines: what a run of the line program needs, and no library
+build_lines() {
+    tools/prove lines
+    quietly cargo build --offline --locked --release --manifest-path assemble/Cargo.toml --target-dir target/cargo
 }
 
 # assemble GRAMMAR IMAGE
 assemble() {
-    quietly target/cargo/release/assemble "$1" "$2"
+    quietly "$assembler" "$1" "$2"
 }
 
-# count PROGRAM WORD...: instructions of a whole run of a program that has been built
+# lay_out_samples: a folder of each sample, $work/luz and so on, with its image as grammar.img and three lists of words: words,
+# those of them that are found, and those that are missing, with near-misses where the list has few
+lay_out_samples() {
+    local name
+    for name in $samples; do
+        mkdir "$work/$name"
+        assemble "grammars/$name.txt" "$work/$name/grammar.img"
+    done
+    cp bench/luz.words "$work/luz/words"
+    cp grammars/quichua.words "$work/quichua/words"
+    cp grammars/spanish.words "$work/spanish/words"
+    for name in $samples; do
+        python3 bench/apart.py "$lines" "$work/$name"
+    done
+}
+samples="luz quichua spanish"
+
+# print_lines FOLDER WORDS: what the line program prints for the words by the folder's image
+print_lines() {
+    (cd "$1" && "$lines" <"$2")
+}
+
+# count PROGRAM WORD...: instructions of a whole run of a program
 # Two settings keep out what is not the program's: callgrind counts a string instruction once for each byte, and whether the C
 # library clears memory by one is up to the processor, so it is told to use plain stores; and functions of the C library are
 # looked up before the program starts, not at their first call.
 count() {
     GLIBC_TUNABLES=glibc.cpu.x86_rep_stosb_threshold=1000000 LD_BIND_NOW=1 \
-        quietly valgrind --tool=callgrind --callgrind-out-file=/dev/null "$work/$1" "${@:2}"
+        quietly valgrind --tool=callgrind --callgrind-out-file=/dev/null "$@"
     sed -n 's/.*Collected : //p' "$work/log"
+}
+
+# count_lines FOLDER WORDS: instructions of the line program for each of the words, by the folder's image: those of a run on them
+# less those of a run on nothing, by words
+count_lines() {
+    local with without
+    with=$(cd "$1" && count "$lines" <"$2")
+    without=$(cd "$1" && count "$lines" </dev/null)
+    echo $(((with - without) / $(grep -c '' "$2")))
 }
 
 # over MODE PLAIN N IMAGE WORDS: instructions of MODE over those of PLAIN, for each of the N calls that it makes and PLAIN does not.
 # Some tens of them are the program's own, which counts the replies.
 over() {
     local with without
-    with=$(count listings "$1" "$4" "$5" 1)
-    without=$(count listings "$2" "$4" "$5" 1)
+    with=$(count "$work/listings" "$1" "$4" "$5" 1)
+    without=$(count "$work/listings" "$2" "$4" "$5" 1)
     echo $(((with - without) / $3))
 }
 
@@ -59,15 +98,16 @@ over() {
 fixed() {
     local words=$work/refused.words plain with
     echo 1 >"$words"
-    plain=$(count listings read "$1" "$words" 10)
-    with=$(count listings check "$1" "$words" 10)
+    plain=$(count "$work/listings" read "$1" "$words" 10)
+    with=$(count "$work/listings" check "$1" "$words" 10)
     check=$(((with - plain) / 10))
-    with=$(count listings analyse "$1" "$words" 10)
+    with=$(count "$work/listings" analyse "$1" "$words" 10)
     refused=$(((with - plain) / 10))
 }
 
 # line FIELD...: a line of a table, with commas between thousands
+width=13
 line() {
-    printf '%13s' "$@" | sed ':again; s/ \([0-9]\+\)\([0-9]\{3\}\)\>/\1,\2/; t again'
+    printf "%${width}s" "$@" | sed ':again; s/ \([0-9]\+\)\([0-9]\{3\}\)\>/\1,\2/; t again'
     echo
 }

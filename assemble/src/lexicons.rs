@@ -21,6 +21,8 @@ pub struct Entry {
     pub gloss: u16,
     /// The gloss in words; empty where the text has none.
     pub gloss_text: String,
+    /// Where it stands in the text.
+    pub line: usize,
 }
 
 #[derive(Clone, Copy, Debug, PartialEq, Eq)]
@@ -121,6 +123,7 @@ fn read_entry(
         continuation: read_continuation(continuation, alphabet, numbers).map_err(at_fault)?,
         gloss,
         gloss_text: gloss_text.to_string(),
+        line: line.number,
     })
 }
 

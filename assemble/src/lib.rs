@@ -1,6 +1,7 @@
 //! Reads a two-level grammar written as text and makes a sealed grammar image of it.
 
 mod alphabet;
+mod circles;
 mod columns;
 mod fault;
 mod grammar;

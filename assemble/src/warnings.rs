@@ -1,11 +1,18 @@
 //! What a text may say but hardly means. The image is made all the same.
 
+use crate::circles::circles;
 use crate::fault::Fault;
 use crate::grammar::Grammar;
 use crate::pairs::BOUNDARY_PAIR;
 
-/// The warnings about a grammar, in the order of their lines.
+/// The warnings about a grammar, in the order of their lines: rules stand before lexicons.
 pub fn warnings(grammar: &Grammar) -> Vec<Fault> {
+    let mut told = dead_fronts(grammar);
+    told.extend(empty_circles(grammar));
+    told
+}
+
+fn dead_fronts(grammar: &Grammar) -> Vec<Fault> {
     let boundary = BOUNDARY_PAIR.show(&grammar.alphabet);
     let dead = grammar.rules.iter().filter(|rule| rule.fails_at_front());
     dead.map(|rule| {
@@ -13,4 +20,14 @@ pub fn warnings(grammar: &Grammar) -> Vec<Fault> {
         Fault::new(rule.first_row, format!("warning: {moves}, which comes first in every word: no word has a reading"))
     })
     .collect()
+}
+
+fn empty_circles(grammar: &Grammar) -> Vec<Fault> {
+    let found = circles(&grammar.lexicons).into_iter();
+    found
+        .map(|(lexicon, entry)| {
+            let back = format!("lexicon {} leads back to itself by empty forms alone", lexicon.name);
+            Fault::new(entry.line, format!("warning: {back}: a path may go round without a letter"))
+        })
+        .collect()
 }

@@ -51,6 +51,56 @@ fn the_boundary_may_have_a_column_of_its_own() {
     assert_eq!(told(&trial("front")), []);
 }
 
+/// luz with other lexicons.
+fn with_lexicons(lexicons: &str) -> String {
+    let text = sample("luz");
+    let at = text.find("LEXICON Noun\n").unwrap();
+    format!("{}{lexicons}END\n", &text[..at])
+}
+
+/// What is told of lexicons, by the place of its line among theirs, from 1, and the lexicon that it names.
+fn circles(lexicons: &str) -> Vec<(usize, String)> {
+    let before = sample("luz").lines().position(|line| line == "LEXICON Noun").unwrap();
+    let name = |fault: &Fault| {
+        let rest = fault.what.strip_prefix("warning: lexicon ").unwrap();
+        let named =
+            rest.strip_suffix(" leads back to itself by empty forms alone: a path may go round without a letter");
+        named.unwrap().to_string()
+    };
+    told(&with_lexicons(lexicons)).iter().map(|fault| (fault.line - before, name(fault))).collect()
+}
+
+#[test]
+fn a_circle_of_empty_entries_is_told_and_the_image_is_made() {
+    let folder = scratch("warnings-circle");
+    let text = with_lexicons("LEXICON A\nluc #\n0 A\n");
+    fs::write(folder.join("luz.txt"), &text).unwrap();
+    let ran = run(&folder, &["luz.txt", "luz.img"], b"");
+    let line = text.lines().count() - 1;
+    let words = "lexicon A leads back to itself by empty forms alone: a path may go round without a letter";
+    assert_eq!(ran.stderr, format!("luz.txt:{line}: warning: {words}\n"));
+    assert_eq!((ran.code, ran.stdout.as_str()), (Some(0), ""));
+    assert_eq!(fs::read(folder.join("luz.img")).unwrap(), assembled(&text).unwrap());
+}
+
+#[test]
+fn a_circle_is_told_once_at_its_first_entry() {
+    let one = |line, name: &str| vec![(line, name.to_string())];
+    assert_eq!(circles("LEXICON A\n0 A\n0 A\n"), one(2, "A"));
+    assert_eq!(circles("LEXICON A\nluc #\nluc B\n0 B\nLEXICON B\nluc #\n0 A\n"), one(4, "A"));
+    // A leads into the circle of B and C, and is not in it.
+    assert_eq!(circles("LEXICON A\n0 B\nLEXICON B\n0 D\n0 C\nLEXICON C\n0 B\n0 C\nLEXICON D\nluc #\n"), one(5, "B"));
+    let two = circles("LEXICON A\n0 A\n0 B\nLEXICON B\nluc #\n0 B\n");
+    assert_eq!(two, [one(2, "A"), one(6, "B")].concat());
+}
+
+#[test]
+fn a_letter_or_an_end_breaks_a_circle() {
+    assert_eq!(circles("LEXICON A\nluc A\n0 #\n"), []);
+    assert_eq!(circles("LEXICON A\n0 B\nLEXICON B\nluc A\n0 #\n"), []);
+    assert_eq!(circles("LEXICON A\n0 B\n0 C\nLEXICON B\n0 C\nLEXICON C\n0 #\n"), []);
+}
+
 #[test]
 fn the_samples_have_no_warnings() {
     for name in SAMPLES {
