@@ -30,13 +30,9 @@ use Rattle.listing.proofs.Places.{stopped-node, stopped-stands}
 use Rattle.listing.proofs.Searching.{stopOne, pairOne}
 use Rattle.model.proofs.Booleans.{and-out, not-out, of-true, right-false}
 use Rattle.listing.proofs.Searching as found
-use Rattle.search.specs.Here.{opensAt, Underway}
+use Rattle.search.specs.Here.{stepsAfter, opensAt, Underway}
 use Rattle.search.proofs.Standing.{opens-is}
 use Rattle.search.proofs.Candidates.{Candidate}
-
--- how many steps are left at a place, after a trail
-abbrev pub stepsAfter : Place → Trail → ℕ
-stepsAfter p t = stepsLeft (eqb (p .last) ended) (t .entries) (t .pairs)
 
 -- what candidate k of letter a finds
 abbrev pub candidateOne : List ℕ → Query → Place → Trail → ℕ → ℕ → List Reading
@@ -188,7 +184,7 @@ pub record Pairing (image index : List ℕ) (h : Header) (place : Place) (trail 
   pub in-letters : a ≤ h .letters
 
 module _ {image index : List ℕ} {h : Header} {place : Place} {trail : Trail} {a : ℕ} (o : Pairing image index h place trail a) where
-  pair-found : (q : Query) → foundAt image q place trail ≡ given (complete (grammarOf image) q (nodeAt image place trail)) (readingOf trail ∷ []) ++ flatMap (candidateOne image q place trail a) (below (length (candidates image a)))
+  pub pair-found : (q : Query) → foundAt image q place trail ≡ given (complete (grammarOf image) q (nodeAt image place trail)) (readingOf trail ∷ []) ++ flatMap (candidateOne image q place trail a) (below (length (candidates image a)))
   pair-found q =
       found.pair-all image q place trail (o .spare) (opens-here (o .underway) ∙ o .shut)
       ∙ ap (λ (l : List Reading). given (complete (grammarOf image) q (nodeAt image place trail)) (readingOf trail ∷ []) ++ l)

@@ -5,3 +5,4 @@ pub mod Heads
 pub mod Starting
 pub mod FirstLetters
 pub mod Choosing
+pub mod Trying

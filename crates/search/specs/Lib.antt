@@ -1,3 +1,4 @@
 pub mod Here
 pub mod FirstLetters
 pub mod Listed
+pub mod Forced

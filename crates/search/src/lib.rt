@@ -1,5 +1,6 @@
 // The search for readings, whatever is asked of the path and of the word: opening an entry and pairing its letters call each other, and each
 // reading found is offered to the lent rows.
+pub mod forced;
 pub mod here;
 pub mod starts;
 
@@ -267,9 +268,57 @@ pub fn open_listed(
     n
 }
 
+// Where a letter is left or the path has ended: the pairs that are forced are taken, and then each that may come next.
+pub fn pair(
+    image: &[u8],
+    index: &[u8],
+    h: Header,
+    asked: Asked,
+    path: &[u8],
+    word: &[u8],
+    forms: &[u8],
+    masks: &[u64],
+    reach: &[u64],
+    place: Place,
+    trail: Trail,
+    out: &mut [u8],
+    capacity: usize,
+    found: usize,
+) -> usize
+    requires { ⌜ Underway (now image) (now index) (headerOf h) place trail ⌝ }
+    requires { ⌜ Sieve (now image) (queryBy asked (now path) (now word)) (now forms) (now masks) (now reach) ⌝ }
+    requires { ⌜ (capacity ≡ rowCount (now out)) × (found ≤ capacity) ⌝ }
+    ensures { λ r. ⌜ (now (out .exit), r) ≡ offerAll (put capacity) (now (out .entry), found) (foundAt (now (image .entry)) (queryBy asked (now (path .entry)) (now (word .entry))) place trail) ⌝ }
+{
+    let word_asked = asked.word;
+    let led = crate::forced::lead(image, index, h, word_asked, word, place, trail);
+    let over = led.over;
+    if over {
+        return found;
+    }
+    let next = led.place;
+    let longer = led.trail;
+    pair_each(
+        image,
+        index,
+        h,
+        asked,
+        path,
+        word,
+        forms,
+        masks,
+        reach,
+        next,
+        longer,
+        out,
+        capacity,
+        found,
+    )
+}
+
 // Where a letter is left or the path has ended: the reading that ends here, and then each pair that may come next. Where the path can only end, it does
 // so without a call; where an entry may open, `open` goes on.
-pub fn pair(
+pub fn pair_each(
     image: &[u8],
     index: &[u8],
     h: Header,

@@ -22,8 +22,8 @@ use Rattle.listing.specs.Opening.{mayEnter}
 use Rattle.listing.specs.Search.{entryOne}
 use Rattle.search.proofs.Turns.{Turns, turns-none, turns-more, turns-stop, turns-all}
 use Rattle.search.proofs.Heads.{Opening, entry-few, open-underway, open-less, open-turn}
-use Rattle.search.proofs.+open+open_each+open_listed+pair.Lts-open_listed as lts
-use Rattle.search.proofs.+open+open_each+open_listed+pair.Proof.Shared.{OfListed}
+use Rattle.search.proofs.+open+open_each+open_listed+pair+pair_each.Lts-open_listed as lts
+use Rattle.search.proofs.+open+open_each+open_listed+pair+pair_each.Proof.Shared.{OfListed}
 
 module _ (t : ℕ) where
   -- where a turn begins, and where its entry opens

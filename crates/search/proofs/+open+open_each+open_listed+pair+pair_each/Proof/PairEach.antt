@@ -1,4 +1,4 @@
--- The needs of `pair`. Where no entry opens the place is `Settled`: a letter is left, or the path has ended. At the loop's head a `Pairing` of it is known;
+-- The needs of `pair_each`. Where no entry opens the place is `Settled`: a letter is left, or the path has ended. At the loop's head a `Pairing` of it is known;
 -- each turn tries a candidate of the next letter, and offers what it finds where it is taken.
 use Prim.Native.Nat.{ℕ, _+_, _<_, _≤_}
 use native.Mathlib.Omega.{arith}
@@ -28,41 +28,41 @@ use Rattle.search.proofs.Standing.{not-ended}
 use Rattle.search.proofs.Candidates.{Candidate, candidate-spells}
 use Rattle.search.proofs.Turns.{turns-none, turns-more, turns-skip, turns-stop, turns-all, turns-is, state-is}
 use Rattle.search.proofs.Heads.{Pairing, Settled, end-fills, settled-left, settled-over, candidateOne, letter-in, pair-last, pair-offered, pair-none, pair-underway, pair-less, pair-turn}
-use Rattle.search.proofs.+open+open_each+open_listed+pair.Lts-pair as lts
-use Rattle.search.proofs.+open+open_each+open_listed+pair.Proof.Shared.{OfPair}
+use Rattle.search.proofs.+open+open_each+open_listed+pair+pair_each.Lts-pair_each as lts
+use Rattle.search.proofs.+open+open_each+open_listed+pair+pair_each.Proof.Shared.{OfPairEach}
 
 module _ (t : ℕ) where
   -- the places that the needs speak of: where the place is settled and the reading that ends has been offered, where the candidates are counted, a turn,
   -- its candidate, and whether it may be taken
   abbrev Joined : Type 0
-  Joined = OfPair t lts.Joined1
+  Joined = OfPairEach t lts.Joined1
 
   abbrev Head : Type 0
-  Head = OfPair t lts.After-candidate-count
+  Head = OfPairEach t lts.After-candidate-count
 
   abbrev Turn : Type 0
-  Turn = OfPair t lts.In-loop
+  Turn = OfPairEach t lts.In-loop
 
   abbrev Chosen : Type 0
-  Chosen = OfPair t lts.After-candidate
+  Chosen = OfPairEach t lts.After-candidate
 
   abbrev Tried : Type 0
-  Tried = OfPair t lts.After-take
+  Tried = OfPairEach t lts.After-take
 
   -- from each of them back to the one before
-  abbrev first : Joined → OfPair t lts.Start
+  abbrev first : Joined → OfPairEach t lts.Start
   first w = w .before .before .before .before .before .before .before .before .before .before
 
   abbrev joined : Head → Joined
   joined w = w .before .before .before .before
 
-  abbrev start : Head → OfPair t lts.Start
+  abbrev start : Head → OfPairEach t lts.Start
   start w = first (joined w)
 
   abbrev head : Turn → Head
   head c = c .before .before
 
-  abbrev query : OfPair t lts.Start → Query
+  abbrev query : OfPairEach t lts.Start → Query
   query s = queryBy (s .args .asked) (s .args .path .now) (s .args .word .now)
 
   -- where the search stands, with the path ended where it ends here
@@ -73,33 +73,33 @@ module _ (t : ℕ) where
   letter w = w .before .next-letter .result .0
 
   -- an entry may open
-  pub goes-on-requires : OfPair t lts.Need-goes-on-requires
+  pub goes-on-requires : OfPairEach t lts.Need-goes-on-requires
   goes-on-requires c κs = let underway = c .before .before .before .before .before .before .before .before .before .before .pre .1 .0 in (underway .accepted, (underway .stands, c .if1 .taken))
 
-  pub open-requires : OfPair t lts.Need-open-requires
+  pub open-requires : OfPairEach t lts.Need-open-requires
   open-requires c κs =
       let test = c .before .before in
       let s = test .before .before .before .before .before .before .before .before .before .before .before in
       (omega (arith, s .pre .0), (s .pre .1 .0, (s .pre .1 .1 .0, (test .goes-on .ensures .0 (c .before .if2 .taken), s .pre .1 .1 .1))))
 
-  pub same-length : OfPair t lts.Need-same-length
+  pub same-length : OfPairEach t lts.Need-same-length
   same-length c = search needs
 
-  pub returns : OfPair t lts.Need-returns
+  pub returns : OfPairEach t lts.Need-returns
   returns c = c .before .before .«open» .ensures
 
   -- none opens
-  pub put-ended-requires : OfPair t lts.Need-put-ended-requires
+  pub put-ended-requires : OfPairEach t lts.Need-put-ended-requires
   put-ended-requires c κs =
       let test = c .before .before .before in
       let s = test .before .before .before .before .before .before .before .before .before .before in
       (s .pre .1 .0, (test .if1 .taken, omega (arith, s .pre .1 .1 .1)))
 
   -- what is complete here fills the rows
-  pub same-length-2 : OfPair t lts.Need-same-length-2
+  pub same-length-2 : OfPairEach t lts.Need-same-length-2
   same-length-2 c = search needs
 
-  pub returns-2 : OfPair t lts.Need-returns-2
+  pub returns-2 : OfPairEach t lts.Need-returns-2
   returns-2 c =
       let made = c .before .before .before in
       let test = made .before .before .before in
@@ -152,22 +152,22 @@ module _ (t : ℕ) where
         in-letters = letter-in (here .underway) (w .before .next-letter .ensures .1);
       }
 
-  pub same-length-3 : OfPair t lts.Need-same-length-3
+  pub same-length-3 : OfPairEach t lts.Need-same-length-3
   same-length-3 c = kept (c .before .before)
 
-  pub returns-3 : OfPair t lts.Need-returns-3
+  pub returns-3 : OfPairEach t lts.Need-returns-3
   returns-3 c =
       let w = c .before .before in
       let s = first w in
       ending w ∙ ap (offerAll (put (s .args .capacity)) (s .args .out .now, s .args .found)) (sym (pair-last (settled w .underway) (query s) (settled w .shut) (c .if4 .taken)) ∙ settled w .same (query s))
 
-  pub next-letter-requires : OfPair t lts.Need-next-letter-requires
+  pub next-letter-requires : OfPairEach t lts.Need-next-letter-requires
   next-letter-requires c κs = first (c .before .before) .pre .1 .0 .stands
 
-  pub candidate-count-requires : OfPair t lts.Need-candidate-count-requires
+  pub candidate-count-requires : OfPairEach t lts.Need-candidate-count-requires
   candidate-count-requires c κs = let underway = first (c .before .before .before) .pre .1 .0 in (underway .accepted, (underway .indexed, letter-in underway (c .next-letter .ensures .1)))
 
-  pub loop-holds : OfPair t lts.Need-loop-holds
+  pub loop-holds : OfPairEach t lts.Need-loop-holds
   loop-holds c = (search needs, ((refl, room (joined c)), turns-none))
 
   -- what the candidates find has been offered after it
@@ -183,13 +183,13 @@ module _ (t : ℕ) where
   inside : (c : Turn) → c .before .loop .k < length (candidates (start (head c) .args .image .now) (letter (head c)))
   inside c = omega (arith, c .loop-test .taken, head c .candidate-count .ensures)
 
-  pub candidate-requires : OfPair t lts.Need-candidate-requires
+  pub candidate-requires : OfPairEach t lts.Need-candidate-requires
   candidate-requires c κs = let o = pairing (head c) in (o .underway .accepted, (o .underway .indexed, (o .in-letters, inside c)))
 
   chosen : (c : Chosen) → let w = head (c .before) in Candidate (start w .args .image .now) (letter w) (c .before .before .loop .k) (c .candidate .result)
   chosen c = record { inside = inside (c .before); this = c .candidate .ensures .0 }
 
-  pub take-requires : OfPair t lts.Need-take-requires
+  pub take-requires : OfPairEach t lts.Need-take-requires
   take-requires c κs =
       let w = head (c .before) in
       let a = start w .args in
@@ -201,15 +201,15 @@ module _ (t : ℕ) where
   path c = let a = start (head (c .before .before)) .args in pathPattern (a .asked .path) (a .path .now)
 
   -- it may be taken
-  pub cast-longer : OfPair t lts.Need-cast-longer
+  pub cast-longer : OfPairEach t lts.Need-cast-longer
   cast-longer c =
       let c = c .before .before .before in
       omega (arith, c .candidate .ensures .1, pairing (head (c .before)) .underway .accepted .laid .limits .pairs-most)
 
-  pub element-write-longer : OfPair t lts.Need-element-write-longer
+  pub element-write-longer : OfPairEach t lts.Need-element-write-longer
   element-write-longer c = pairing (head (c .before .before .before .before)) .spare
 
-  pub add-longer : OfPair t lts.Need-add-longer
+  pub add-longer : OfPairEach t lts.Need-add-longer
   add-longer c = omega (arith, pairing (head (c .before .before .before .before)) .spare)
 
   -- the trail with it
@@ -223,7 +223,7 @@ module _ (t : ℕ) where
       let room : a .trail .pairs < length (a .trail .pairing) = search needs in
       longer-pair (a .trail) (pairing w .underway .short) spare room (c .candidate .result)
 
-  pub pair-requires : OfPair t lts.Need-pair-requires
+  pub pair-requires : OfPairEach t lts.Need-pair-requires
   pair-requires c κs =
       let tried = c .before .before .before in
       let here = tried .before .before in
@@ -236,13 +236,13 @@ module _ (t : ℕ) where
       (omega (arith, s .pre .0, less, settled (joined w) .no-more), (pair-underway o (chosen (tried .before)) (tried .take .ensures (path tried)) may holds, (s .pre .1 .1 .0, (rw (here .before .loop .inv .1 .0 .0, kept (joined w)) (s .pre .1 .1 .1 .0), here .before .loop .inv .1 .0 .1))))
 
   -- the rows are full
-  pub same-length-4 : OfPair t lts.Need-same-length-4
+  pub same-length-4 : OfPairEach t lts.Need-same-length-4
   same-length-4 c =
       let made = c .before .before .before in
       let here = made .before .before .before .before .before .before in
       made .pair .kept .1 .1 .1 .1 .1 .1 .1 .1 .1 .1 .1 .0 ∙ here .before .loop .inv .1 .0 .0 ∙ kept (joined (head here))
 
-  pub returns-4 : OfPair t lts.Need-returns-4
+  pub returns-4 : OfPairEach t lts.Need-returns-4
   returns-4 c =
       let made = c .before .before .before in
       let tried = made .before .before .before .before in
@@ -255,14 +255,14 @@ module _ (t : ℕ) where
       (turns-more _ (loop .inv .1 .1) (made .pair .ensures) (pair-turn (pairing w) (chosen (tried .before)) (tried .take .ensures (path tried)) (made .before .before .before .if5 .taken) (longer (tried .before))))
       (omega (arith, here .loop-test .taken, w .candidate-count .ensures)) (c .if6 .taken))
 
-  pub add-k : OfPair t lts.Need-add-k
+  pub add-k : OfPairEach t lts.Need-add-k
   add-k c = search needs
 
-  pub loop-less : OfPair t lts.Need-loop-less
+  pub loop-less : OfPairEach t lts.Need-loop-less
   loop-less c = search needs
 
   -- after a turn: the candidate that was taken has offered what it finds, or finds nothing
-  pub loop-again : OfPair t lts.Need-loop-again
+  pub loop-again : OfPairEach t lts.Need-loop-again
   loop-again c =
       let tried = c .before in
       let here = tried .before .before in
@@ -281,10 +281,10 @@ module _ (t : ℕ) where
         ),
       )
 
-  pub same-length-5 : OfPair t lts.Need-same-length-5
+  pub same-length-5 : OfPairEach t lts.Need-same-length-5
   same-length-5 c = let at = c .before in at .loop .inv .1 .0 .0 ∙ kept (joined (at .before))
 
-  pub returns-5 : OfPair t lts.Need-returns-5
+  pub returns-5 : OfPairEach t lts.Need-returns-5
   returns-5 c =
       let w = c .before .before in
       let s = start w in

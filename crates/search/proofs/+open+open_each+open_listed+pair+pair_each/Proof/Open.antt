@@ -18,8 +18,8 @@ use Rattle.listing.proofs.Searching.{stopOne, stop-none}
 use Rattle.search.proofs.Turns.{state-is}
 use Rattle.search.proofs.Choosing.{chosen-listed}
 use Rattle.search.proofs.Heads.{Opening, last-in, stop-fills, stop-underway, stop-less, stop-turn, open-last, open-offered}
-use Rattle.search.proofs.+open+open_each+open_listed+pair.Lts-open as lts
-use Rattle.search.proofs.+open+open_each+open_listed+pair.Proof.Shared.{OfOpen}
+use Rattle.search.proofs.+open+open_each+open_listed+pair+pair_each.Lts-open as lts
+use Rattle.search.proofs.+open+open_each+open_listed+pair+pair_each.Proof.Shared.{OfOpen}
 
 module _ (t : ℕ) where
   -- where the ending has been offered, and where an entry is to spare

@@ -27,8 +27,8 @@ use Rattle.listing.proofs.Searching.{stopOne, stop-none}
 use Rattle.search.proofs.Turns.{turns-none, turns-more, turns-skip, turns-far, turns-stop, turns-all, turns-is, state-is}
 use Rattle.search.proofs.Heads.{Opening, last-in, stop-fills, stop-underway, stop-less, stop-turn, open-last, entry-few, open-offered, entry-none, open-underway, open-less, open-turn}
 use Rattle.search.proofs.FirstLetters.{Known, known-none, known-more}
-use Rattle.search.proofs.+open+open_each+open_listed+pair.Lts-open_each as lts
-use Rattle.search.proofs.+open+open_each+open_listed+pair.Proof.Shared.{OfEach}
+use Rattle.search.proofs.+open+open_each+open_listed+pair+pair_each.Lts-open_each as lts
+use Rattle.search.proofs.+open+open_each+open_listed+pair+pair_each.Proof.Shared.{OfEach}
 
 -- none may open before the next one
 before-next : {may : ℕ → Bool} {bound e : ℕ} {ways : Range} → WaysOf may bound ways → NextOf may bound (ways .low) e → (k : ℕ) → k < e → may k ≡ false

@@ -12,20 +12,25 @@ use Rattle.listing.specs.Places.{withLast}
 use Rattle.listing.specs.Opening.{mayEnter}
 use Rattle.listing.specs.Search.{entryOne}
 use Rattle.search.proofs.Turns.{Turns}
-use Rattle.search.proofs.Heads.{stepsAfter, candidateOne}
+use Rattle.search.specs.Here.{stepsAfter}
+use Rattle.search.proofs.Heads.{candidateOne}
 use Rattle.search.proofs.FirstLetters.{Known}
 use Rattle.search.proofs.open.Reads as «open»
 use Rattle.search.proofs.open.Kinds as open-kinds
-use Rattle.search.proofs.+open+open_each+open_listed+pair.Lts-open as open-lts
+use Rattle.search.proofs.+open+open_each+open_listed+pair+pair_each.Lts-open as open-lts
 use Rattle.search.proofs.open_each.Reads as open-each
 use Rattle.search.proofs.open_each.Kinds as open-each-kinds
-use Rattle.search.proofs.+open+open_each+open_listed+pair.Lts-open_each as open-each-lts
+use Rattle.search.proofs.+open+open_each+open_listed+pair+pair_each.Lts-open_each as open-each-lts
 use Rattle.search.proofs.open_listed.Reads as open-listed
 use Rattle.search.proofs.open_listed.Kinds as open-listed-kinds
-use Rattle.search.proofs.+open+open_each+open_listed+pair.Lts-open_listed as open-listed-lts
+use Rattle.search.proofs.+open+open_each+open_listed+pair+pair_each.Lts-open_listed as open-listed-lts
 use Rattle.search.proofs.pair.Reads as pair
 use Rattle.search.proofs.pair.Kinds as pair-kinds
-use Rattle.search.proofs.+open+open_each+open_listed+pair.Lts-pair as pair-lts
+use Rattle.search.proofs.+open+open_each+open_listed+pair+pair_each.Lts-pair as pair-lts
+use Rattle.search.proofs.pair_each.Reads as pair-each
+use Rattle.search.proofs.pair_each.Kinds as pair-each-kinds
+use Rattle.search.proofs.+open+open_each+open_listed+pair+pair_each.Lts-pair_each as pair-each-lts
+use Rattle.search.proofs.forced.lead.Reads as lead-reads
 use Rattle.listing.proofs.opening.next_entry.Reads as next-entry-reads
 use Rattle.listing.proofs.opening.ways_on.Reads as ways-on-reads
 use Rattle.listing.proofs.pairing.take.Reads as take-reads
@@ -41,16 +46,19 @@ use Rattle.search.proofs.starts.first_letter.Reads as first-letter-read
 use Rattle.search.proofs.starts.look.Reads as look-reads
 
 abbrev pub μ-open : Measures 8 open-kinds.ps ℕ
-μ-open κs a = 3 * stepsAfter (a .1 .1 .1 .1 .1 .1 .1 .1 .1 .0) (a .1 .1 .1 .1 .1 .1 .1 .1 .1 .1 .0) + 1
+μ-open κs a = 4 * stepsAfter (a .1 .1 .1 .1 .1 .1 .1 .1 .1 .0) (a .1 .1 .1 .1 .1 .1 .1 .1 .1 .1 .0) + 1
 
 abbrev pub μ-open-each : Measures 8 open-each-kinds.ps ℕ
-μ-open-each κs a = 3 * stepsAfter (a .1 .1 .1 .1 .1 .1 .1 .1 .1 .0) (a .1 .1 .1 .1 .1 .1 .1 .1 .1 .1 .0)
+μ-open-each κs a = 4 * stepsAfter (a .1 .1 .1 .1 .1 .1 .1 .1 .1 .0) (a .1 .1 .1 .1 .1 .1 .1 .1 .1 .1 .0)
 
 abbrev pub μ-open-listed : Measures 9 open-listed-kinds.ps ℕ
-μ-open-listed κs a = 3 * stepsAfter (a .1 .1 .1 .1 .1 .1 .1 .1 .1 .0) (a .1 .1 .1 .1 .1 .1 .1 .1 .1 .1 .0)
+μ-open-listed κs a = 4 * stepsAfter (a .1 .1 .1 .1 .1 .1 .1 .1 .1 .0) (a .1 .1 .1 .1 .1 .1 .1 .1 .1 .1 .0)
 
 abbrev pub μ-pair : Measures 8 pair-kinds.ps ℕ
-μ-pair κs a = 3 * stepsAfter (a .1 .1 .1 .1 .1 .1 .1 .1 .1 .0) (a .1 .1 .1 .1 .1 .1 .1 .1 .1 .1 .0) + 2
+μ-pair κs a = 4 * stepsAfter (a .1 .1 .1 .1 .1 .1 .1 .1 .1 .0) (a .1 .1 .1 .1 .1 .1 .1 .1 .1 .1 .0) + 3
+
+abbrev pub μ-pair-each : Measures 8 pair-each-kinds.ps ℕ
+μ-pair-each κs a = 4 * stepsAfter (a .1 .1 .1 .1 .1 .1 .1 .1 .1 .0) (a .1 .1 .1 .1 .1 .1 .1 .1 .1 .1 .0) + 2
 
 abbrev pub open-at : ℕ → In 8 open-kinds.ps
 open-at t = and 8 open-kinds.ps (is 8 open-kinds.ps μ-open t) open.Pre
@@ -76,6 +84,12 @@ pair-at t = and 8 pair-kinds.ps (is 8 pair-kinds.ps μ-pair t) pair.Pre
 abbrev pub pair-below : ℕ → In 8 pair-kinds.ps
 pair-below t = and 8 pair-kinds.ps (falls 8 pair-kinds.ps _<_ μ-pair t) pair.Pre
 
+abbrev pub pair-each-at : ℕ → In 8 pair-each-kinds.ps
+pair-each-at t = and 8 pair-each-kinds.ps (is 8 pair-each-kinds.ps μ-pair-each t) pair-each.Pre
+
+abbrev pub pair-each-below : ℕ → In 8 pair-each-kinds.ps
+pair-each-below t = and 8 pair-each-kinds.ps (falls 8 pair-each-kinds.ps _<_ μ-pair-each t) pair-each.Pre
+
 abbrev pub open-claims : ℕ → open-lts.Claims
 open-claims t = (may-stop-reads.Asked, may-stop-reads.Learnt, stop-reads.Asked, stop-reads.Learnt, pair-below t, pair.Post, choose-reads.Asked, choose-reads.Learnt, open-each-below t, open-each.Post, open-listed-below t, open-listed.Post)
 
@@ -86,7 +100,10 @@ abbrev pub open-listed-claims : ℕ → open-listed-lts.Claims
 open-listed-claims t = (enter-reads.Asked, enter-reads.Learnt, pair-below t, pair.Post)
 
 abbrev pub pair-claims : ℕ → pair-lts.Claims
-pair-claims t = (goes-on-reads.Asked, goes-on-reads.Learnt, open-below t, open.Post, put-ended-reads.Asked, put-ended-reads.Learnt, next-letter-reads.Asked, next-letter-reads.Learnt, candidate-count-reads.Asked, candidate-count-reads.Learnt, candidate-reads.Asked, candidate-reads.Learnt, take-reads.Asked, take-reads.Learnt, pair-below t, pair.Post)
+pair-claims t = (lead-reads.Asked, lead-reads.Learnt, pair-each-below t, pair-each.Post)
+
+abbrev pub pair-each-claims : ℕ → pair-each-lts.Claims
+pair-each-claims t = (goes-on-reads.Asked, goes-on-reads.Learnt, open-below t, open.Post, put-ended-reads.Asked, put-ended-reads.Learnt, next-letter-reads.Asked, next-letter-reads.Learnt, candidate-count-reads.Asked, candidate-count-reads.Learnt, candidate-reads.Asked, candidate-reads.Learnt, take-reads.Asked, take-reads.Learnt, pair-below t, pair.Post)
 
 -- entry e is the next that may open, and those before it have offered what they find
 abbrev pub open-each-Inv-loop : open-each-lts.InvT-loop
@@ -106,12 +123,12 @@ open-listed-Inv-loop image index h asked path word forms masks reach place trail
 abbrev pub open-listed-μ-loop : open-listed-lts.MeasureT-loop
 open-listed-μ-loop image index h asked path word forms masks reach place trail list many out₀ capacity found n₀ k₀ out n k = many - k
 
-abbrev pub pair-Inv-loop : pair-lts.InvT-loop
-pair-Inv-loop image index h asked path word forms masks reach place trail out₀ capacity found last n₀ letter asks many k₀ out n k =
+abbrev pub pair-each-Inv-loop : pair-each-lts.InvT-loop
+pair-each-Inv-loop image index h asked path word forms masks reach place trail out₀ capacity found last n₀ letter asks many k₀ out n k =
     (k ≤ many) × (((length out ≡ length out₀) × (n ≤ capacity)) × Turns (put capacity) (candidateOne image (queryBy asked path word) (withLast place last) trail (letter .0)) (out₀, n₀) (out, n) k)
 
-abbrev pub pair-μ-loop : pair-lts.MeasureT-loop
-pair-μ-loop image index h asked path word forms masks reach place trail out₀ capacity found last n₀ letter asks many k₀ out n k = many - k
+abbrev pub pair-each-μ-loop : pair-each-lts.MeasureT-loop
+pair-each-μ-loop image index h asked path word forms masks reach place trail out₀ capacity found last n₀ letter asks many k₀ out n k = many - k
 
 -- a need of one of them, or a place of its code, at the measure t. Where a need takes `.kept .1 .1 .. .0` of a call, that is: the buffer keeps its length
 abbrev pub OfOpen : ℕ → (open-lts.Claims → In 8 open-kinds.ps → Out 8 open-kinds.ps open-kinds.r → Type 0) → Type 0
@@ -123,5 +140,8 @@ OfEach t f = f (open-each-claims t) (open-each-at t) open-each.Post open-each-In
 abbrev pub OfListed : ℕ → (open-listed-lts.Claims → In 9 open-listed-kinds.ps → Out 9 open-listed-kinds.ps open-listed-kinds.r → open-listed-lts.InvT-loop → open-listed-lts.MeasureT-loop → Type 0) → Type 0
 OfListed t f = f (open-listed-claims t) (open-listed-at t) open-listed.Post open-listed-Inv-loop open-listed-μ-loop
 
-abbrev pub OfPair : ℕ → (pair-lts.Claims → In 8 pair-kinds.ps → Out 8 pair-kinds.ps pair-kinds.r → pair-lts.InvT-loop → pair-lts.MeasureT-loop → Type 0) → Type 0
-OfPair t f = f (pair-claims t) (pair-at t) pair.Post pair-Inv-loop pair-μ-loop
+abbrev pub OfPair : ℕ → (pair-lts.Claims → In 8 pair-kinds.ps → Out 8 pair-kinds.ps pair-kinds.r → Type 0) → Type 0
+OfPair t f = f (pair-claims t) (pair-at t) pair.Post
+
+abbrev pub OfPairEach : ℕ → (pair-each-lts.Claims → In 8 pair-each-kinds.ps → Out 8 pair-each-kinds.ps pair-each-kinds.r → pair-each-lts.InvT-loop → pair-each-lts.MeasureT-loop → Type 0) → Type 0
+OfPairEach t f = f (pair-each-claims t) (pair-each-at t) pair-each.Post pair-each-Inv-loop pair-each-μ-loop
