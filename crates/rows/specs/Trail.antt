@@ -1,8 +1,9 @@
 -- A reading as far as a search has come, as the model's reading, and the numbers of its row.
-use Prim.Native.Nat.{ℕ, _≤_}
+use Prim.Native.Nat.{ℕ, _-_, _≤_}
 use mathlib.Core.Path.{_≡_}
-use mathlib.Core.List.{[], _∷_, _++_}
-use lib.ListN.{take, getD}
+use mathlib.Core.List.{List, [], _∷_, _++_}
+use lib.ListN.{take, getD, replicate}
+use Rattle.model.specs.Lists.{flatMap, numberBytes}
 use Rattle.model.specs.Readings.{Reading}
 use Rattle.model.specs.Rows.{rowNumbers}
 use Rattle.rows.specs.declared.Trail.{Trail}
@@ -32,3 +33,7 @@ pub record Holds (t : Trail) (r : Reading) (entries pairs : ℕ) : Type 0 where
 -- the number at place k of a row
 abbrev pub rowNumber : Reading → ℕ → ℕ
 rowNumber r k = getD (rowNumbers r) k 0
+
+-- a row whose first k numbers are written, and whose other places are unused
+unfoldable pub rowUpTo : Reading → ℕ → List ℕ
+rowUpTo r k = flatMap numberBytes (take k (rowNumbers r) ++ replicate (58 - k) 65535)

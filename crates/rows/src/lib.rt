@@ -2,10 +2,10 @@
 ghost use mathlib.Core.Path.{_≡_};
 ghost use mathlib.Core.List.{[]};
 ghost use Prim.Native.Nat.{_^_, _<_, _≤_};
-ghost use lib.ListN.{length, getD};
-ghost use Rattle.model.specs.Rows.{padded, rowBytes, rowCount, replyNumber};
+ghost use lib.ListN.{length, replicate};
+ghost use Rattle.model.specs.Rows.{rowBytes, rowCount, replyNumber};
 ghost use Rattle.model.specs.Demand.{replyRows};
-ghost use Rattle.rows.specs.Trail.{readingOf, Short, Holds, rowNumber};
+ghost use Rattle.rows.specs.Trail.{readingOf, Short, Holds, rowUpTo};
 ghost use Rattle.rows.specs.Fill.{put, replyFor, replyOf};
 
 // A reading as far as a search has come: its entries and its pairs.
@@ -27,56 +27,53 @@ pub fn no_trail() -> Trail
     }
 }
 
-// What stands in a row's unused places.
-const UNUSED: u16 = 65535;
-
-fn entry_place(t: Trail, i: usize) -> u16
-    requires { ⌜ Short t × (i < 16) ⌝ }
-    ensures { λ r. ⌜ r ≡ getD (padded 16 (readingOf t .path)) i 0 ⌝ }
+// Every place of a row unused: 65535 is 255 twice.
+fn blank(row: &mut [u8])
+    requires { ⌜ length (now row) ≡ 116 ⌝ }
+    ensures { λ _. ⌜ now (row .exit) ≡ replicate 116 255 ⌝ }
 {
-    if i < t.entries {
-        return t.path[i];
+    let mut i = 0;
+    while i < 116 {
+        row[i] = 255;
+        i += 1;
     }
-    UNUSED
 }
 
-fn pair_place(t: Trail, i: usize) -> u16
-    requires { ⌜ Short t × (i < 40) ⌝ }
-    ensures { λ r. ⌜ r ≡ getD (padded 40 (readingOf t .pairing)) i 0 ⌝ }
+// How many entries, and each of them; the places that they leave unused are blank.
+fn write_entries(row: &mut [u8], t: Trail)
+    requires { ⌜ (now row ≡ rowUpTo (readingOf t) 0) × Short t ⌝ }
+    ensures { λ _. ⌜ now (row .exit) ≡ rowUpTo (readingOf t) 17 ⌝ }
 {
-    if i < t.pairs {
-        return t.pairing[i] as u16;
+    image::seal::put_number(row, 0, t.entries);
+    let mut i = 0;
+    while i < t.entries {
+        let n = t.path[i];
+        image::seal::put_number(row, 2 * i + 2, n as usize);
+        i += 1;
     }
-    UNUSED
 }
 
-// The number at place k of a row.
-fn row_number(t: Trail, k: usize) -> u16
-    requires { ⌜ Short t × (k < 58) ⌝ }
-    ensures { λ r. ⌜ r ≡ rowNumber (readingOf t) k ⌝ }
+// How many pairs, and each of them, after the entries.
+fn write_pairs(row: &mut [u8], t: Trail)
+    requires { ⌜ (now row ≡ rowUpTo (readingOf t) 17) × Short t ⌝ }
+    ensures { λ _. ⌜ now (row .exit) ≡ rowUpTo (readingOf t) 58 ⌝ }
 {
-    if k == 0 {
-        return t.entries as u16;
+    image::seal::put_number(row, 34, t.pairs);
+    let mut i = 0;
+    while i < t.pairs {
+        let n = t.pairing[i];
+        image::seal::put_number(row, 2 * i + 36, n as usize);
+        i += 1;
     }
-    if k <= 16 {
-        return entry_place(t, k - 1);
-    }
-    if k == 17 {
-        return t.pairs as u16;
-    }
-    pair_place(t, k - 18)
 }
 
 pub fn write_row(row: &mut [u8], t: Trail)
     requires { ⌜ (length (now row) ≡ 116) × Short t ⌝ }
     ensures { λ _. ⌜ now (row .exit) ≡ rowBytes (readingOf t) ⌝ }
 {
-    let mut k = 0;
-    while k < 58 {
-        let n = row_number(t, k);
-        image::seal::put_number(row, 2 * k, n as usize);
-        k += 1;
-    }
+    blank(row);
+    write_entries(row, t);
+    write_pairs(row, t);
 }
 
 // One step of a listing: puts a row after those that were found before, and answers how many are found now. One that has no room is counted all the same, so that the
