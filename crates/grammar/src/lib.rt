@@ -1,5 +1,6 @@
 // The image check with its verdict, and the view of an entry's form with its companion.
 ghost use mathlib.Core.Path.{_≡_};
+ghost use mathlib.Core.List.{_++_};
 ghost use lib.Dec.{T};
 ghost use lib.ListN.{replicate};
 ghost use Rattle.model.specs.Lists.{below, flatMap};
@@ -33,19 +34,19 @@ pub fn check(image: &[u8]) -> Verdict
     }
 }
 
-// The same, for callers that go on to make an index: test 7 keeps the columns that it finds as the index's first rows. `columns` is all 0 before; after
-// a refusal it may have anything.
-pub fn check_columns(image: &[u8], columns: &mut [u8]) -> Verdict
-    requires { ⌜ now columns ≡ replicate 8192 0 ⌝ }
+// The same, for callers that go on to make an index: test 7 keeps the columns that it finds as the index's first rows. `index` is all 0 before; after a
+// refusal it may have anything.
+pub fn check_columns(image: &[u8], index: &mut [u8]) -> Verdict
+    requires { ⌜ now index ≡ replicate 39424 0 ⌝ }
     ensures verdict { λ r. ⌜ verdictOf r ≡ imageVerdict (now (image .entry)) ⌝ }
-    ensures rows { λ r. ⌜ (verdictOf r ≡ accepted → now (columns .exit) ≡ flatMap (columnRow (now (image .entry))) (below 32)) ⌝ }
+    ensures rows { λ r. ⌜ (verdictOf r ≡ accepted → now (index .exit) ≡ flatMap (columnRow (now (image .entry))) (below 32) ++ replicate 31232 0) ⌝ }
 {
     let early = check_tables(image);
     match early {
         Verdict::Refused(k) => Verdict::Refused(k),
         Verdict::Accepted => {
             let h = image::read_header(image);
-            if !tables::keep_columns(image, h, columns) {
+            if !tables::keep_columns(image, h, &mut index[0..8192]) {
                 return Verdict::Refused(7);
             }
             check_lexicon(image, h)

@@ -1,9 +1,12 @@
 -- `check_columns` meets its contract: the verdict of `check`, and of an accepted image the columns that test 7 found.
 use borrow.Author.Needs.{needs}
 use borrow.Author.Tests.{not-true, not-false}
-use mathlib.Core.Path.{_≡_, sym, ap, subst, _∙_}
-use mathlib.Core.List.{List}
+use mathlib.Core.Path.{_≡_, refl, sym, ap, ap₂, subst, _∙_}
+use mathlib.Core.List.{List, _++_}
 use Prim.Native.Nat.{ℕ}
+use native.Mathlib.Omega.{arith}
+use lib.ListN.{length, take, length-replicate}
+use Rattle.tables.proofs.RowByRow.{take-replicate, drop-replicate}
 use Rattle.model.specs.Blocks.{header}
 use Rattle.model.specs.Refusals.{accepted}
 use Rattle.model.proofs.Booleans.{of-true}
@@ -38,10 +41,19 @@ enum-told c = search needs
 read-header-requires : tie.Need-read-header-requires
 read-header-requires c κs = let image = c .before .before .before .before .before .args .image .now in laid-some image (header image) (early-passed image (passed c) .0)
 
+sub-keep-columns : tie.Need-sub-keep-columns
+sub-keep-columns c = search needs
+
+part-keep-columns-start : tie.Need-part-keep-columns-start
+part-keep-columns-start c = search needs
+
+part-keep-columns-end : tie.Need-part-keep-columns-end
+part-keep-columns-end c = omega (arith, ap length (c .before .before .before .before .before .before .pre) ∙ length-replicate {A = ℕ} 39424 0)
+
 keep-columns-requires : tie.Need-keep-columns-requires
 keep-columns-requires c κs =
     let read = c .before in
-    (read-laid read, (of-true _ (early-passed (image read) (passed (read .before)) .2), read .before .before .before .before .before .before .pre))
+    (read-laid read, (of-true _ (early-passed (image read) (passed (read .before)) .2), ap (take 8192) (read .before .before .before .before .before .before .pre) ∙ take-replicate 8192 39424 0 (omega arith)))
 
 same-length : tie.Need-same-length
 same-length c = search needs
@@ -71,7 +83,10 @@ returns-3 c =
     let kept = left .before .before .before in
     let read = kept .before .before in
     let right = not-false (kept .keep-columns .result) (left .if1 .left) in
-    (c .check-lexicon .ensures ∙ lexicon-judged (image read) (passed (read .before)) (sym (kept .keep-columns .ensures .0) ∙ right), λ e. kept .keep-columns .ensures .1 right)
+    let start = read .before .before .before .before .before .before in (
+      c .check-lexicon .ensures ∙ lexicon-judged (image read) (passed (read .before)) (sym (kept .keep-columns .ensures .0) ∙ right),
+      λ e. ap₂ (λ (x y : List ℕ). x ++ y) (kept .keep-columns .ensures .1 right) (drop-replicate (start .args .index .now) 39424 8192 8192 31232 0 (start .pre) refl refl),
+    )
 
 pub check-columns-spec : {M : Type 1} → statement M
 check-columns-spec =
@@ -81,6 +96,9 @@ check-columns-spec =
     enum-known-early
     enum-told
     read-header-requires
+    sub-keep-columns
+    part-keep-columns-start
+    part-keep-columns-end
     keep-columns-requires
     same-length
     returns
