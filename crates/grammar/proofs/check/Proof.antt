@@ -1,12 +1,11 @@
 -- `check` meets its contract: the first that fails of tests 1 to 8 and then 14.
 use borrow.Author.Needs.{needs}
 use borrow.Author.Tests.{not-true, not-false}
-use mathlib.Core.Bool.{true}
 use mathlib.Core.Path.{_≡_, sym, ap, subst, _∙_}
 use mathlib.Core.List.{List}
 use Prim.Native.Nat.{ℕ}
 use Rattle.model.specs.Blocks.{header}
-use Rattle.model.specs.Refusals.{accepted, rightColumns}
+use Rattle.model.specs.Refusals.{accepted}
 use Rattle.model.proofs.Booleans.{of-true}
 use Rattle.image.specs.Header.{headerOf}
 use Rattle.image.specs.Laid.{Laid}

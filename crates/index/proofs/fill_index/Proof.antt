@@ -1,7 +1,7 @@
 -- `fill_index` meets its contract: the rows of the rules as they were, and the other rows after them.
 use borrow.Author.Needs.{needs}
 use native.Mathlib.Omega.{arith}
-use mathlib.Core.Path.{_≡_, ap, _∙_}
+use mathlib.Core.Path.{_∙_}
 use mathlib.Core.List.{List}
 use Prim.Native.Nat.{ℕ}
 use Rattle.model.specs.Lists.{below, flatMap}

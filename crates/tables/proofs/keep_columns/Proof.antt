@@ -18,7 +18,7 @@ use Rattle.model.proofs.Lists.{every-more, every-fails}
 use Rattle.tables.proofs.Lists.{fails, passes}
 use Rattle.tables.proofs.Laws.{columns-read}
 use Rattle.tables.proofs.Rows.{length-columnRow, columns-stored, no-columns}
-use Rattle.tables.proofs.RowByRow.{rowsTo, rows-none, length-rowsTo, lent-row, rows-more, rows-all}
+use Rattle.tables.proofs.RowByRow.{rowsTo, rows-none, lent-row, rows-more, rows-all}
 use Rattle.tables.proofs.keep_columns.Statement.{statement}
 use Rattle.tables.proofs.keep_columns.Tie as tie
 
