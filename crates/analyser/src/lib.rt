@@ -4,12 +4,16 @@ pub mod own;
 pub mod request;
 
 ghost use mathlib.Core.Path.{_≡_};
+ghost use mathlib.Core.List.{_++_};
+ghost use lib.ListN.{replicate};
+ghost use Rattle.model.specs.Lists.{below, flatMap};
 ghost use Rattle.model.specs.Blocks.{header};
 ghost use Rattle.model.specs.Query.{analysis, generation};
 ghost use Rattle.model.specs.Refusals.{accepted, imageVerdict};
 ghost use Rattle.model.specs.Rows.{rowCount};
 ghost use Rattle.model.specs.Calls.{listingReply, afterListing};
 ghost use Rattle.image.specs.Header.{headerOf};
+ghost use Rattle.image.specs.Index.{columnRow};
 ghost use Rattle.rows.specs.Fill.{replyOf};
 ghost use Rattle.analyser.specs.Request.{requestOf};
 use crate::request::Direction;
@@ -33,25 +37,37 @@ pub fn generate(image: &[u8], path: &[u8], out: &mut [u8]) -> Reply
     list(image, Direction::Generation, path, out)
 }
 
-// The image check, once, and then the listing over the index.
+// The image check, once, which keeps the index's first rows; and then the listing over the index.
 fn list(image: &[u8], d: Direction, asked: &[u8], out: &mut [u8]) -> Reply
     ensures reply { λ r. ⌜ replyOf r ≡ listingReply (now (image .entry)) (requestOf d (now (asked .entry))) (rowCount (now (out .entry))) ⌝ }
     ensures bytes { λ r. ⌜ now (out .exit) ≡ afterListing (now (image .entry)) (requestOf d (now (asked .entry))) (now (out .entry)) ⌝ }
 {
-    let verdict = grammar::check(image);
+    let mut index = [0u8; 39424];
+    let verdict = grammar::check_columns(image, &mut index);
     match verdict {
         Verdict::Refused(k) => Reply::Refused(k),
-        Verdict::Accepted => list_accepted(image, image::read_header(image), d, asked, out),
+        Verdict::Accepted => {
+            let h = image::read_header(image);
+            list_accepted(image, h, &mut index, d, asked, out)
+        }
     }
 }
 
-fn list_accepted(image: &[u8], h: Header, d: Direction, asked: &[u8], out: &mut [u8]) -> Reply
+// `index` has the rows of columns, and is all 0 after them.
+fn list_accepted(
+    image: &[u8],
+    h: Header,
+    index: &mut [u8],
+    d: Direction,
+    asked: &[u8],
+    out: &mut [u8],
+) -> Reply
     requires { ⌜ imageVerdict (now image) ≡ accepted ⌝ }
     requires { ⌜ headerOf h ≡ header (now image) ⌝ }
+    requires { ⌜ now index ≡ flatMap (columnRow (now image)) (below 32) ++ replicate 31232 0 ⌝ }
     ensures reply { λ r. ⌜ replyOf r ≡ listingReply (now (image .entry)) (requestOf d (now (asked .entry))) (rowCount (now (out .entry))) ⌝ }
     ensures bytes { λ r. ⌜ now (out .exit) ≡ afterListing (now (image .entry)) (requestOf d (now (asked .entry))) (now (out .entry)) ⌝ }
 {
-    let mut index = [0u8; 39424];
-    index::fill_index(image, h, &mut index);
-    crate::indexed::list(image, &index, h, d, asked, out)
+    index::fill_index(image, h, index);
+    crate::indexed::list(image, index, h, d, asked, out)
 }

@@ -1,10 +1,13 @@
 // What the line program has once a run: the verdict on the image, and of an accepted one the header and the index.
 ghost use mathlib.Core.Path.{_≡_};
+ghost use mathlib.Core.List.{_++_};
 ghost use Prim.Native.Nat.{ℕ};
-ghost use lib.ListN.{replicate};
+ghost use lib.ListN.{length, replicate};
+ghost use Rattle.model.specs.Lists.{below, flatMap};
 ghost use Rattle.model.specs.Refusals.{refused};
 ghost use Rattle.image.specs.Header.{headerOf};
 ghost use Rattle.image.specs.Accepted.{Accepted};
+ghost use Rattle.image.specs.Index.{columnRow};
 ghost use Rattle.analyser.specs.Indexed.{Indexed};
 ghost use Rattle.grammar.specs.Answers.{verdictOf};
 ghost use Rattle.answers.specs.OnceARun.{OnceARun};
@@ -16,35 +19,50 @@ pub struct Prepared {
     pub h: Header,
 }
 
-// The index, and after it the index of forms. `index` is all 0 before.
+// The index, and after it the index of forms. `index` has the rows of columns, and is all 0 after them.
 fn fill(image: &[u8], h: Header, index: &mut [u8])
     requires { ⌜ Accepted (now image) (headerOf h) ⌝ }
-    requires { ⌜ now index ≡ replicate 186112 0 ⌝ }
+    requires { ⌜ now index ≡ (flatMap (columnRow (now image)) (below 32) ++ replicate 31232 0) ++ replicate 146688 0 ⌝ }
     ensures { λ r. ⌜ Indexed (now (image .entry)) (now (index .exit)) ⌝ }
 {
     index::fill_index(image, h, &mut index[0..39424]);
     forms::fill(image, h, &mut index[39424..186112]);
 }
 
-// The image check, and of an accepted image the header and the larger index. `index` is all 0 before.
+// All bytes 0 again.
+fn clear(bytes: &mut [u8])
+    ensures { λ _. ⌜ now (bytes .exit) ≡ replicate (length (now (bytes .entry))) 0 ⌝ }
+{
+    let n = bytes.len();
+    let mut i: usize = 0;
+    while i < n {
+        bytes[i] = 0;
+        i += 1;
+    }
+}
+
+// The image check, and of an accepted image the header and the larger index. `index` is all 0 before, and after a refusal.
 pub fn prepare(image: &[u8], index: &mut [u8]) -> Prepared
     requires { ⌜ now index ≡ replicate 186112 0 ⌝ }
     ensures had { λ r. ⌜ OnceARun (now (image .entry)) (now (index .exit)) (headerOf (r .h)) (verdictOf (r .verdict)) ⌝ }
     ensures kept { λ r. ⌜ ((k : ℕ) → verdictOf (r .verdict) ≡ refused k → now (index .exit) ≡ now (index .entry)) ⌝ }
 {
-    let verdict = grammar::check(image);
+    let verdict = grammar::check_columns(image, &mut index[0..39424]);
     match verdict {
-        Verdict::Refused(k) => Prepared {
-            verdict: Verdict::Refused(k),
-            h: Header {
-                form: 0,
-                letters: 0,
-                pairs: 0,
-                rules: 0,
-                lexicons: 0,
-                entries: 0,
-            },
-        },
+        Verdict::Refused(k) => {
+            clear(index);
+            Prepared {
+                verdict: Verdict::Refused(k),
+                h: Header {
+                    form: 0,
+                    letters: 0,
+                    pairs: 0,
+                    rules: 0,
+                    lexicons: 0,
+                    entries: 0,
+                },
+            }
+        }
         Verdict::Accepted => {
             let h = image::read_header(image);
             fill(image, h, index);

@@ -18,10 +18,10 @@ use Rattle.image.specs.Laid.{Limited, Laid}
 use Rattle.image.specs.Accepted.{Accepted}
 use Rattle.lexicon.proofs.Laws as entries
 use Rattle.layout.proofs.Laid.{laid}
-use Rattle.grammar.specs.Answers.{recordsVerdict}
+use Rattle.grammar.specs.Answers.{tablesVerdict, recordsVerdict, lexiconVerdict}
 
--- tests 4 to 8, and then 14
 module _ (image : List ℕ) where
+  -- tests 4 to 6
   pub refused-4 : rightLetters image ≡ false → refused 4 ≡ recordsVerdict image
   unfolding recordsVerdict
   refused-4 e = rw e refl
@@ -34,46 +34,44 @@ module _ (image : List ℕ) where
   unfolding recordsVerdict
   refused-6 a b e = rw (a, b, e) refl
 
-  pub refused-7 : rightLetters image ≡ true → rightPairs image ≡ true → rightTables image ≡ true → rightColumns image ≡ false → refused 7 ≡ recordsVerdict image
+  pub accepted-records : rightLetters image ≡ true → rightPairs image ≡ true → rightTables image ≡ true → accepted ≡ recordsVerdict image
   unfolding recordsVerdict
-  refused-7 a b c e = rw (a, b, c, e) refl
+  accepted-records a b e = rw (a, b, e) refl
 
-  -- past those four: tests 8 and 14 together, and apart
-  module _ (a : rightLetters image ≡ true) (b : rightPairs image ≡ true) (c : rightTables image ≡ true) (d : rightColumns image ≡ true) where
-    last-two : recordsVerdict image ≡ unless (rightEntries image) 8 (unless (rightForms image) 14 accepted)
-    unfolding recordsVerdict
-    last-two = rw (a, b, c, d) refl
-
-    pub accepted-records : true ≡ (rightEntries image && rightForms image) → accepted ≡ recordsVerdict image
-    accepted-records e = go (rightEntries image) (rightForms image) e ∙ sym last-two
-      where
-        go : (x y : Bool) → true ≡ (x && y) → accepted ≡ unless x 8 (unless y 14 accepted)
-        go true true e = refl
-        go true false e = absurd (subst T e tt)
-        go false y e = absurd (subst T e tt)
-
-    pub refused-8 : rightEntries image ≡ false → refused 8 ≡ recordsVerdict image
-    refused-8 e = sym (last-two ∙ ap (λ (x : Bool). unless x 8 (unless (rightForms image) 14 accepted)) e)
-
-    pub refused-14 : false ≡ (rightEntries image && rightForms image) → rightEntries image ≡ true → refused 14 ≡ recordsVerdict image
-    refused-14 e f = sym (last-two ∙ ap₂ (λ (x y : Bool). unless x 8 (unless y 14 accepted)) f (sym (e ∙ ap (λ (x : Bool). x && rightForms image) f)))
-
-  -- tests 1 to 3
-  pub refused-1 : rightLength image ≡ false → refused 1 ≡ imageVerdict image
-  unfolding imageVerdict imageTests formatTests
+  -- tests 1 to 3 before them
+  pub refused-1 : rightLength image ≡ false → refused 1 ≡ tablesVerdict image
+  unfolding tablesVerdict
   refused-1 e = rw e refl
 
-  pub refused-2 : rightLength image ≡ true → rightChecks image ≡ false → refused 2 ≡ imageVerdict image
-  unfolding imageVerdict imageTests formatTests
+  pub refused-2 : rightLength image ≡ true → rightChecks image ≡ false → refused 2 ≡ tablesVerdict image
+  unfolding tablesVerdict
   refused-2 a e = rw (a, e) refl
 
-  pub refused-3 : rightLength image ≡ true → rightChecks image ≡ true → rightLayout image ≡ false → refused 3 ≡ imageVerdict image
-  unfolding imageVerdict imageTests formatTests
+  pub refused-3 : rightLength image ≡ true → rightChecks image ≡ true → rightLayout image ≡ false → refused 3 ≡ tablesVerdict image
+  unfolding tablesVerdict
   refused-3 a b e = rw (a, b, e) refl
 
-  pub records-judged : rightLength image ≡ true → rightChecks image ≡ true → rightLayout image ≡ true → recordsVerdict image ≡ imageVerdict image
-  unfolding imageVerdict imageTests formatTests recordsVerdict
+  pub records-judged : rightLength image ≡ true → rightChecks image ≡ true → rightLayout image ≡ true → recordsVerdict image ≡ tablesVerdict image
+  unfolding tablesVerdict recordsVerdict
   records-judged a b c = rw (a, b, c) refl
+
+  -- tests 8 and 14 together, and apart
+  pub accepted-lexicon : true ≡ (rightEntries image && rightForms image) → accepted ≡ lexiconVerdict image
+  unfolding lexiconVerdict
+  accepted-lexicon e = go (rightEntries image) (rightForms image) e
+    where
+      go : (x y : Bool) → true ≡ (x && y) → accepted ≡ unless x 8 (unless y 14 accepted)
+      go true true e = refl
+      go true false e = absurd (subst T e tt)
+      go false y e = absurd (subst T e tt)
+
+  pub refused-8 : rightEntries image ≡ false → refused 8 ≡ lexiconVerdict image
+  unfolding lexiconVerdict
+  refused-8 e = rw e refl
+
+  pub refused-14 : false ≡ (rightEntries image && rightForms image) → rightEntries image ≡ true → refused 14 ≡ lexiconVerdict image
+  unfolding lexiconVerdict
+  refused-14 e f = sym (ap₂ (λ (x y : Bool). unless x 8 (unless y 14 accepted)) f (sym (e ∙ ap (λ (x : Bool). x && rightForms image) f)))
 
 -- a verdict that accepts, of tests one after the other
 passed : (b : Bool) (k : ℕ) (v : Verdict) → unless b k v ≡ accepted → (b ≡ true) × (v ≡ accepted)
@@ -92,6 +90,33 @@ accepted-image image e =
     let t7 = passed (rightColumns image) 7 _ (t6 .1) in
     let t8 = passed (rightEntries image) 8 _ (t7 .1) in
     record { laid = laid image (t1 .0) (t3 .0); pairs-right = t5 .0; tables-right = t6 .0; columns-right = t7 .0; entries-right = t8 .0 }
+
+-- test 7 between the two
+module _ (image : List ℕ) where
+  pub refused-early : (k : ℕ) → tablesVerdict image ≡ refused k → refused k ≡ imageVerdict image
+  unfolding imageVerdict imageTests formatTests tablesVerdict
+  refused-early k e = sym (tests-refused ((1, rightLength image) ∷ (2, rightChecks image) ∷ (3, rightLayout image) ∷ (4, rightLetters image) ∷ (5, rightPairs image) ∷ (6, rightTables image) ∷ []) ((7, rightColumns image) ∷ (8, rightEntries image) ∷ (14, rightForms image) ∷ []) k e)
+
+  module _ (early : tablesVerdict image ≡ accepted) where
+    pub early-passed : Laid image (header image) × (rightPairs image ≡ true) × (rightTables image ≡ true)
+    unfolding tablesVerdict
+    early-passed =
+        let t1 = passed (rightLength image) 1 _ early in
+        let t2 = passed (rightChecks image) 2 _ (t1 .1) in
+        let t3 = passed (rightLayout image) 3 _ (t2 .1) in
+        let t4 = passed (rightLetters image) 4 _ (t3 .1) in
+        let t5 = passed (rightPairs image) 5 _ (t4 .1) in
+        (laid image (t1 .0) (t3 .0), t5 .0, passed (rightTables image) 6 _ (t5 .1) .0)
+
+    late : imageVerdict image ≡ unless (rightColumns image) 7 (lexiconVerdict image)
+    unfolding imageVerdict imageTests formatTests tablesVerdict lexiconVerdict
+    late = tests-accepted ((1, rightLength image) ∷ (2, rightChecks image) ∷ (3, rightLayout image) ∷ (4, rightLetters image) ∷ (5, rightPairs image) ∷ (6, rightTables image) ∷ []) ((7, rightColumns image) ∷ (8, rightEntries image) ∷ (14, rightForms image) ∷ []) early
+
+    pub refused-7 : rightColumns image ≡ false → refused 7 ≡ imageVerdict image
+    refused-7 e = sym (late ∙ ap (λ (b : Bool). unless b 7 (lexiconVerdict image)) e)
+
+    pub lexicon-judged : rightColumns image ≡ true → lexiconVerdict image ≡ imageVerdict image
+    lexicon-judged e = sym (late ∙ ap (λ (b : Bool). unless b 7 (lexiconVerdict image)) e)
 
 pub laid-some : (image : List ℕ) (h : Header) → Laid image h → 512 ≤ length image
 unfolding kinds blockTotal

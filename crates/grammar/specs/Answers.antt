@@ -2,7 +2,7 @@
 use mathlib.Core.List.{List, [], _∷_}
 use Prim.Native.Nat.{ℕ}
 use Rattle.model.specs.Refusals as refusals
-use Rattle.model.specs.Refusals.{firstFailing, rightLetters, rightPairs, rightTables, rightColumns, rightEntries, rightForms}
+use Rattle.model.specs.Refusals.{firstFailing, rightLength, rightChecks, rightLayout, rightLetters, rightPairs, rightTables, rightEntries, rightForms}
 use Rattle.model.specs.Beside as beside
 use Rattle.grammar.specs.declared.Verdict.{Verdict}
 use Rattle.grammar.specs.declared.Verdict.the-variants as verdict
@@ -17,6 +17,12 @@ abbrev pub formReplyOf : FormReply → beside.FormReply
 formReplyOf (form.Letters n) = beside.FormReply.letters n
 formReplyOf (form.Refused k) = beside.FormReply.refused k
 
--- tests 4 to 8, and then 14
+-- tests 1 to 6; of these, 4 to 6; and 8 and then 14
+unfoldable pub tablesVerdict : List ℕ → refusals.Verdict
+tablesVerdict image = firstFailing ((1, rightLength image) ∷ (2, rightChecks image) ∷ (3, rightLayout image) ∷ (4, rightLetters image) ∷ (5, rightPairs image) ∷ (6, rightTables image) ∷ [])
+
 unfoldable pub recordsVerdict : List ℕ → refusals.Verdict
-recordsVerdict image = firstFailing ((4, rightLetters image) ∷ (5, rightPairs image) ∷ (6, rightTables image) ∷ (7, rightColumns image) ∷ (8, rightEntries image) ∷ (14, rightForms image) ∷ [])
+recordsVerdict image = firstFailing ((4, rightLetters image) ∷ (5, rightPairs image) ∷ (6, rightTables image) ∷ [])
+
+unfoldable pub lexiconVerdict : List ℕ → refusals.Verdict
+lexiconVerdict image = firstFailing ((8, rightEntries image) ∷ (14, rightForms image) ∷ [])

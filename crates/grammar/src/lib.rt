@@ -1,10 +1,15 @@
 // The image check with its verdict, and the view of an entry's form with its companion.
 ghost use mathlib.Core.Path.{_≡_};
-ghost use Rattle.model.specs.Refusals.{imageVerdict};
+ghost use mathlib.Core.List.{_++_};
+ghost use lib.Dec.{T};
+ghost use lib.ListN.{replicate};
+ghost use Rattle.model.specs.Lists.{below, flatMap};
+ghost use Rattle.model.specs.Refusals.{accepted, rightPairs, imageVerdict};
 ghost use Rattle.model.specs.Beside.{letters, formReply, viewed};
 ghost use Rattle.image.specs.Header.{headerOf};
 ghost use Rattle.image.specs.Laid.{Laid};
-ghost use Rattle.grammar.specs.Answers.{verdictOf, formReplyOf, recordsVerdict};
+ghost use Rattle.image.specs.Index.{columnRow};
+ghost use Rattle.grammar.specs.Answers.{verdictOf, formReplyOf, tablesVerdict, recordsVerdict, lexiconVerdict};
 use image::Header;
 
 pub enum Verdict {
@@ -15,6 +20,43 @@ pub enum Verdict {
 // Tests 1 to 8 and then 14, each over the whole image before the next.
 pub fn check(image: &[u8]) -> Verdict
     ensures { λ r. ⌜ verdictOf r ≡ imageVerdict (now (image .entry)) ⌝ }
+{
+    let early = check_tables(image);
+    match early {
+        Verdict::Refused(k) => Verdict::Refused(k),
+        Verdict::Accepted => {
+            let h = image::read_header(image);
+            if !tables::right_columns(image, h) {
+                return Verdict::Refused(7);
+            }
+            check_lexicon(image, h)
+        }
+    }
+}
+
+// The same, for callers that go on to make an index: test 7 keeps the columns that it finds as the index's first rows. `index` is all 0 before; after a
+// refusal it may have anything.
+pub fn check_columns(image: &[u8], index: &mut [u8]) -> Verdict
+    requires { ⌜ now index ≡ replicate 39424 0 ⌝ }
+    ensures verdict { λ r. ⌜ verdictOf r ≡ imageVerdict (now (image .entry)) ⌝ }
+    ensures rows { λ r. ⌜ (verdictOf r ≡ accepted → now (index .exit) ≡ flatMap (columnRow (now (image .entry))) (below 32) ++ replicate 31232 0) ⌝ }
+{
+    let early = check_tables(image);
+    match early {
+        Verdict::Refused(k) => Verdict::Refused(k),
+        Verdict::Accepted => {
+            let h = image::read_header(image);
+            if !tables::keep_columns(image, h, &mut index[0..8192]) {
+                return Verdict::Refused(7);
+            }
+            check_lexicon(image, h)
+        }
+    }
+}
+
+// Tests 1 to 6.
+fn check_tables(image: &[u8]) -> Verdict
+    ensures { λ r. ⌜ verdictOf r ≡ tablesVerdict (now (image .entry)) ⌝ }
 {
     if !image::seal::right_length(image.len()) {
         return Verdict::Refused(1);
@@ -28,7 +70,7 @@ pub fn check(image: &[u8]) -> Verdict
     check_records(image, image::read_header(image))
 }
 
-// Tests 4 to 8 and then 14, on an image whose blocks are laid out. The last two are made in one walk, and told apart where one fails.
+// Tests 4 to 6, on an image whose blocks are laid out.
 fn check_records(image: &[u8], h: Header) -> Verdict
     requires { ⌜ Laid (now image) (headerOf h) ⌝ }
     ensures { λ r. ⌜ verdictOf r ≡ recordsVerdict (now (image .entry)) ⌝ }
@@ -42,9 +84,15 @@ fn check_records(image: &[u8], h: Header) -> Verdict
     if !tables::right_tables(image, h) {
         return Verdict::Refused(6);
     }
-    if !tables::right_columns(image, h) {
-        return Verdict::Refused(7);
-    }
+    Verdict::Accepted
+}
+
+// Tests 8 and then 14, made in one walk, and told apart where one fails.
+fn check_lexicon(image: &[u8], h: Header) -> Verdict
+    requires { ⌜ Laid (now image) (headerOf h) ⌝ }
+    requires { ⌜ T (rightPairs (now image)) ⌝ }
+    ensures { λ r. ⌜ verdictOf r ≡ lexiconVerdict (now (image .entry)) ⌝ }
+{
     if lexicon::right_lexicon(image, h) {
         return Verdict::Accepted;
     }

@@ -12,7 +12,7 @@ use Rattle.model.specs.Lists.{below, given}
 use Rattle.model.specs.Blocks.{header}
 use Rattle.image.specs.Index.{only, indexRow, candidates, candidateRow}
 use Rattle.index.specs.Candidates.{isCandidate}
-use Rattle.index.proofs.RowByRow.{take-replicate}
+use Rattle.tables.proofs.RowByRow.{take-replicate}
 
 only-append : (f : ℕ → Bool) (xs ys : List ℕ) → only f (xs ++ ys) ≡ only f xs ++ only f ys
 only-append f [] ys = refl

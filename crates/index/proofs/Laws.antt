@@ -4,10 +4,10 @@ use native.Mathlib.Omega.{arith}
 use mathlib.Core.Bool.{Bool, true, false, _||_}
 use mathlib.Core.Path.{_≡_, refl, sym, ap, ap₂, _∙_}
 use mathlib.Core.Logic.{_⊎_, inl, inr}
-use mathlib.Core.List.{List, [], _∷_, _++_, append-nil, List·Memᴰ, List·Memᴰ·head, List·Memᴰ·tail, List·Memᴰ·append-cases, List·Memᴰ·eq-of-singleton, List·Memᴰ·not-nil}
-use lib.ListN.{length, getD, drop, replicate, length-append, length-take, length-replicate, List·getD-append}
+use mathlib.Core.List.{List, [], _∷_, _++_, append-assoc, append-nil, List·Memᴰ, List·Memᴰ·head, List·Memᴰ·tail, List·Memᴰ·append-cases, List·Memᴰ·eq-of-singleton, List·Memᴰ·not-nil}
+use lib.ListN.{length, getD, drop, replicate, length-append, List·getD-append}
 use lib.Seq.{getD-take, getD-drop, getD-append-add}
-use lib.Dec.{leb, ltb, eqb}
+use lib.Dec.{leb, eqb}
 use borrow.Author.Tests.{lt-ltb, le-leb}
 use Rattle.model.specs.Lists.{below, given, flatMap, isZero, byte, number, numberBytes}
 use Rattle.model.specs.Blocks.{Header, header}
@@ -17,6 +17,7 @@ use Rattle.model.proofs.Lists.{member-at, length-below, getD-below, below-from}
 use Rattle.model.proofs.Parts.{length-parts, part-at}
 use Rattle.model.proofs.Sealing.{number-back}
 use Rattle.tables.proofs.Laws.{length-columnsOf}
+use Rattle.tables.proofs.Rows.{length-indexRow, length-columnRow, columns-part}
 use Rattle.image.specs.Laid.{Laid}
 use Rattle.image.specs.Accepted.{Accepted}
 use Rattle.image.specs.Index.{only, indexRow, columnRow, candidates, candidateRow, ruleRows, lexiconRow, indexOf}
@@ -26,10 +27,6 @@ pub laid-rules : {image : List ℕ} {h : Header} → Laid image h → h .rules �
 laid-rules l = ap (λ (k : Header). k .rules) (l .header-is)
 
 -- rows of the index
-pub length-indexRow : (xs : List ℕ) → length (indexRow xs) ≡ 256
-unfolding indexRow
-length-indexRow xs = omega (arith, length-take 256 (xs ++ replicate 256 0), length-append xs (replicate 256 0), length-replicate {A = ℕ} 256 0)
-
 pub row-byte : (xs : List ℕ) (i : ℕ) → i < 256 → i < length xs → byte (indexRow xs) i ≡ getD xs i 0
 unfolding indexRow
 row-byte xs i h k = getD-take 256 (xs ++ replicate 256 0) i 0 h ∙ List·getD-append xs (replicate 256 0) 0 i k
@@ -42,31 +39,22 @@ joined-byte w f n rest wide k i h l =
     ∙ ap (λ (xs : List ℕ). byte xs i) (part-at w f (below n) (λ j m. wide j) rest k 0 (omega (arith, length-below n)) ∙ ap f (getD-below n k h))
 
 module _ (image : List ℕ) where
-  pub length-columnRow : (r : ℕ) → length (columnRow image r) ≡ 256
-  unfolding columnRow
-  length-columnRow r = length-indexRow (given (ltb r (header image .rules)) (columnsOf image r))
-
   pub length-candidateRow : (a : ℕ) → length (candidateRow image a) ≡ 256
   unfolding candidateRow
   length-candidateRow a = length-indexRow (given (leb a (header image .letters)) (length (candidates image a) ∷ candidates image a))
 
-  pub columns-part : length (flatMap (columnRow image) (below 32)) ≡ 8192
-  columns-part = length-parts 256 (columnRow image) (below 32) (λ r m. length-columnRow r) ∙ ap (λ (n : ℕ). 256 * n) (length-below 32)
-
   pub candidates-part : length (flatMap (candidateRow image) (below 121)) ≡ 30976
   candidates-part = length-parts 256 (candidateRow image) (below 121) (λ a m. length-candidateRow a) ∙ ap (λ (n : ℕ). 256 * n) (length-below 121)
 
-  pub rule-rows : (columns candidates : List ℕ) → columns ≡ flatMap (columnRow image) (below 32) → candidates ≡ flatMap (candidateRow image) (below 121) → columns ++ candidates ≡ ruleRows image
-  unfolding ruleRows
-  rule-rows columns candidates e f = ap₂ (λ (x y : List ℕ). x ++ y) e f
-
-  pub all-rows : (rules lexicons : List ℕ) → rules ≡ ruleRows image → lexicons ≡ lexiconRow image → rules ++ lexicons ≡ indexOf image
-  unfolding indexOf
-  all-rows rules lexicons e f = ap₂ (λ (x y : List ℕ). x ++ y) e f
+  pub all-rows : (rest : List ℕ) → rest ≡ flatMap (candidateRow image) (below 121) ++ lexiconRow image → flatMap (columnRow image) (below 32) ++ rest ≡ indexOf image
+  unfolding indexOf ruleRows
+  all-rows rest e =
+      let columns = flatMap (columnRow image) (below 32) in
+      ap (λ (l : List ℕ). columns ++ l) e ∙ sym (append-assoc columns (flatMap (candidateRow image) (below 121)) (lexiconRow image))
 
   pub length-ruleRows : length (ruleRows image) ≡ 39168
   unfolding ruleRows
-  length-ruleRows = omega (arith, length-append (flatMap (columnRow image) (below 32)) (flatMap (candidateRow image) (below 121)), columns-part, candidates-part)
+  length-ruleRows = omega (arith, length-append (flatMap (columnRow image) (below 32)) (flatMap (candidateRow image) (below 121)), columns-part image, candidates-part)
 
   length-lexiconRow : length (lexiconRow image) ≡ 256
   unfolding lexiconRow
@@ -90,7 +78,7 @@ module _ (image : List ℕ) where
   unfolding ruleRows columnRow
   index-column r p h k l m =
       rule-byte (256 * r + p) (omega arith)
-      ∙ joined-byte 256 (columnRow image) 32 (flatMap (candidateRow image) (below 121)) length-columnRow r p k m
+      ∙ joined-byte 256 (columnRow image) 32 (flatMap (candidateRow image) (below 121)) (length-columnRow image) r p k m
       ∙ ap (λ (b : Bool). byte (indexRow (given b (columnsOf image r))) p) (lt-ltb r (header image .rules) h)
       ∙ row-byte (columnsOf image r) p m (omega (arith, length-columnsOf image r))
 
@@ -101,7 +89,7 @@ module _ (image : List ℕ) where
       let columns = flatMap (columnRow image) (below 32) in
       let rows = flatMap (candidateRow image) (below 121) in
       rule-byte (256 * (32 + a) + i) (omega arith)
-      ∙ ap (byte (columns ++ rows)) (omega (arith, columns-part))
+      ∙ ap (byte (columns ++ rows)) (omega (arith, columns-part image))
       ∙ getD-append-add columns rows (256 * a + i) 0
       ∙ ap (λ (xs : List ℕ). byte xs (256 * a + i)) (sym (append-none rows))
       ∙ joined-byte 256 (candidateRow image) 121 [] length-candidateRow a i k l

@@ -12,7 +12,7 @@ use Rattle.model.specs.Lexicon.{firstEntry}
 use Rattle.model.proofs.Lists.{length-below, flatMap-below}
 use Rattle.model.proofs.Parts.{length-parts}
 use Rattle.image.specs.Index.{indexRow, lexiconRow}
-use Rattle.index.proofs.RowByRow.{take-replicate}
+use Rattle.tables.proofs.RowByRow.{take-replicate}
 
 module _ (image : List ℕ) where
   -- where the lexicons below x begin, and zeros

@@ -1,5 +1,4 @@
 pub mod Laws
-pub mod RowByRow
-mod Columns
+pub mod Parts
 mod Lexicons
 pub mod Candidates

@@ -1,13 +1,14 @@
-// The index of an accepted image, filled row by row: the column of each rule for each pair, for each lexical letter the pairs that may pair it or
-// stand before it, and where each lexicon begins. It is filled once a call or once a run; a step only reads it.
+// The index of an accepted image, filled row by row: after the columns that the check kept, for each lexical letter the pairs that may pair it or stand
+// before it, and where each lexicon begins. It is filled once a call or once a run; a step only reads it.
 ghost use mathlib.Core.Path.{_≡_};
+ghost use mathlib.Core.List.{_++_};
 ghost use Prim.Native.Nat.{_≤_, _<_};
 ghost use lib.ListN.{replicate};
 ghost use Rattle.model.specs.Lists.{below, flatMap};
 ghost use Rattle.image.specs.Header.{headerOf};
 ghost use Rattle.image.specs.Laid.{Laid};
 ghost use Rattle.image.specs.Accepted.{Accepted};
-ghost use Rattle.image.specs.Index.{columnRow, candidateRow, ruleRows, lexiconRow, indexOf};
+ghost use Rattle.image.specs.Index.{columnRow, candidateRow, lexiconRow, indexOf};
 ghost use Rattle.index.specs.Candidates.{isCandidate};
 use image::Header;
 use letters::Lexical;
@@ -43,7 +44,7 @@ fn fill_row(image: &[u8], h: Header, a: Lexical, row: &mut [u8])
     row[0] = n as u8;
 }
 
-// The rows of all letters. `out` is the index from byte 8192 on, all 0 before.
+// The rows of all letters. `out` is the index from byte 8192 to byte 39167, all 0 before.
 fn fill_candidates(image: &[u8], h: Header, out: &mut [u8])
     requires { ⌜ Laid (now image) (headerOf h) ⌝ }
     requires { ⌜ now out ≡ replicate 30976 0 ⌝ }
@@ -57,32 +58,6 @@ fn fill_candidates(image: &[u8], h: Header, out: &mut [u8])
         fill_row(image, h, Lexical(a as u8), &mut out[from..to]);
         a += 1;
     }
-}
-
-// The rows of all rules, by the choice that test 7 makes. `out` is the index up to byte 8191, all 0 before.
-fn fill_columns(image: &[u8], h: Header, out: &mut [u8])
-    requires { ⌜ Accepted (now image) (headerOf h) ⌝ }
-    requires { ⌜ now out ≡ replicate 8192 0 ⌝ }
-    ensures { λ _. ⌜ now (out .exit) ≡ flatMap (columnRow (now (image .entry))) (below 32) ⌝ }
-{
-    let rules = h.rules;
-    let mut r: usize = 0;
-    while r < rules {
-        let from = 256 * r;
-        let to = from + 256;
-        let _ = tables::choose_columns(image, h, r, &mut out[from..to]);
-        r += 1;
-    }
-}
-
-// The rows of the rules and of the letters. `out` is the index up to byte 39167, all 0 before.
-fn fill_rules(image: &[u8], h: Header, out: &mut [u8])
-    requires { ⌜ Accepted (now image) (headerOf h) ⌝ }
-    requires { ⌜ now out ≡ replicate 39168 0 ⌝ }
-    ensures { λ _. ⌜ now (out .exit) ≡ ruleRows (now (image .entry)) ⌝ }
-{
-    fill_columns(image, h, &mut out[0..8192]);
-    fill_candidates(image, h, &mut out[8192..39168]);
 }
 
 // Where each lexicon begins, and after the last the count of all entries. `row` is the last of the index, all 0 before.
@@ -102,12 +77,21 @@ fn fill_lexicons(image: &[u8], h: Header, row: &mut [u8])
     image::seal::put_number(row, 2 * lexicons, first);
 }
 
-// The whole index. `out` is all 0 before.
+// The rows after those of the rules. `out` is the index from byte 8192 on, all 0 before.
+fn fill_rest(image: &[u8], h: Header, out: &mut [u8])
+    requires { ⌜ Laid (now image) (headerOf h) ⌝ }
+    requires { ⌜ now out ≡ replicate 31232 0 ⌝ }
+    ensures { λ _. ⌜ now (out .exit) ≡ flatMap (candidateRow (now (image .entry))) (below 121) ++ lexiconRow (now (image .entry)) ⌝ }
+{
+    fill_candidates(image, h, &mut out[0..30976]);
+    fill_lexicons(image, h, &mut out[30976..31232]);
+}
+
+// The whole index. `out` has the rows of columns that the check kept, and is all 0 after them.
 pub fn fill_index(image: &[u8], h: Header, out: &mut [u8])
     requires { ⌜ Accepted (now image) (headerOf h) ⌝ }
-    requires { ⌜ now out ≡ replicate 39424 0 ⌝ }
+    requires { ⌜ now out ≡ flatMap (columnRow (now image)) (below 32) ++ replicate 31232 0 ⌝ }
     ensures { λ _. ⌜ now (out .exit) ≡ indexOf (now (image .entry)) ⌝ }
 {
-    fill_rules(image, h, &mut out[0..39168]);
-    fill_lexicons(image, h, &mut out[39168..39424]);
+    fill_rest(image, h, &mut out[8192..39424]);
 }

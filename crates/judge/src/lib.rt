@@ -2,10 +2,13 @@
 mod reading;
 
 ghost use mathlib.Core.Path.{_≡_};
-ghost use lib.ListN.{length};
+ghost use mathlib.Core.List.{_++_};
+ghost use lib.ListN.{replicate};
+ghost use Rattle.model.specs.Lists.{below, flatMap};
 ghost use Rattle.model.specs.Beside.{judged};
 ghost use Rattle.image.specs.Header.{headerOf};
 ghost use Rattle.image.specs.Accepted.{Accepted};
+ghost use Rattle.image.specs.Index.{columnRow};
 ghost use Rattle.judge.specs.Answers.{judgementOf, judgedAccepted};
 use grammar::Verdict;
 use image::Header;
@@ -16,20 +19,31 @@ pub enum Judgement {
     Refused(u8),
 }
 
-// The image check, and then the tests of the path and the pairing.
+// The image check, which keeps the index's first rows, and then the tests of the path and the pairing.
 pub fn judge(image: &[u8], path: &[u8], pairing: &[u8]) -> Judgement
     ensures { λ r. ⌜ judgementOf r ≡ judged (now (image .entry)) (now (path .entry)) (now (pairing .entry)) ⌝ }
 {
-    let verdict = grammar::check(image);
+    let mut index = [0u8; 39424];
+    let verdict = grammar::check_columns(image, &mut index);
     match verdict {
         Verdict::Refused(k) => Judgement::Refused(k),
-        Verdict::Accepted => judge_accepted(image, image::read_header(image), path, pairing),
+        Verdict::Accepted => {
+            let h = image::read_header(image);
+            judge_accepted(image, h, &mut index, path, pairing)
+        }
     }
 }
 
-// Tests 11 to 13 in order, and then the reading. The index is made where they hold.
-fn judge_accepted(image: &[u8], h: Header, path: &[u8], pairing: &[u8]) -> Judgement
+// Tests 11 to 13 in order, and then the reading. The index, which has the rows of columns and is all 0 after them, is filled where they hold.
+fn judge_accepted(
+    image: &[u8],
+    h: Header,
+    index: &mut [u8],
+    path: &[u8],
+    pairing: &[u8],
+) -> Judgement
     requires { ⌜ Accepted (now image) (headerOf h) ⌝ }
+    requires { ⌜ now index ≡ flatMap (columnRow (now image)) (below 32) ++ replicate 31232 0 ⌝ }
     ensures { λ r. ⌜ judgementOf r ≡ judgedAccepted (now (image .entry)) (now (path .entry)) (now (pairing .entry)) ⌝ }
 {
     if !rules::paths::path_length_right(path) {
@@ -41,9 +55,8 @@ fn judge_accepted(image: &[u8], h: Header, path: &[u8], pairing: &[u8]) -> Judge
     if !crate::reading::pairing_right(h, pairing) {
         return Judgement::Refused(13);
     }
-    let mut index = [0u8; 39424];
-    index::fill_index(image, h, &mut index);
-    if crate::reading::is_reading(image, &index, h, path, pairing) {
+    index::fill_index(image, h, index);
+    if crate::reading::is_reading(image, index, h, path, pairing) {
         return Judgement::Holds;
     }
     Judgement::Fails

@@ -6,3 +6,5 @@ pub mod Breadths
 pub mod Laws
 pub mod Unique
 pub mod Passes
+pub mod RowByRow
+pub mod Rows

@@ -8,12 +8,14 @@ ghost use mathlib.Core.Path.{_≡_};
 ghost use mathlib.Core.List.{_++_};
 ghost use Prim.Native.Nat.{_*_, _+_, _<_, _≤_};
 ghost use lib.Dec.{T, ltb};
-ghost use lib.ListN.{length, drop};
-ghost use Rattle.model.specs.Lists.{every};
+ghost use mathlib.Core.Bool.{true};
+ghost use lib.ListN.{length, drop, replicate};
+ghost use Rattle.model.specs.Lists.{every, below, flatMap};
 ghost use Rattle.model.specs.RuleTables.{table, isTable, columnCount, columnsOf};
 ghost use Rattle.model.specs.Refusals.{rightTables, rightColumns};
 ghost use Rattle.image.specs.Header.{headerOf};
 ghost use Rattle.image.specs.Laid.{Laid};
+ghost use Rattle.image.specs.Index.{columnRow};
 
 // What test 6 asks of one table.
 fn is_table(t: &[u8], letters: usize) -> bool
@@ -69,7 +71,7 @@ pub fn right_tables(image: &[u8], h: image::Header) -> bool
 }
 
 // The columns that rule r takes for pair 0, 1, .. P-1 and the boundary pair, written to the front of `out`; whether every one of them
-// is a column. Test 7 and an index of columns are both made of this.
+// is a column. Test 7 is made of this, with and without the columns kept.
 pub fn choose_columns(image: &[u8], h: image::Header, r: usize, out: &mut [u8]) -> bool
     requires { ⌜ Laid (now image) (headerOf h) ⌝ }
     requires { ⌜ r < headerOf h .rules ⌝ }
@@ -84,7 +86,7 @@ pub fn choose_columns(image: &[u8], h: image::Header, r: usize, out: &mut [u8]) 
     columns::put_columns(&best, h.pairs + 1, columns as u8, out)
 }
 
-// Test 7 of the image check.
+// Test 7 of the image check, for callers that need no columns.
 pub fn right_columns(image: &[u8], h: image::Header) -> bool
     requires { ⌜ Laid (now image) (headerOf h) ⌝ }
     requires { ⌜ T (rightTables (now image)) ⌝ }
@@ -95,6 +97,27 @@ pub fn right_columns(image: &[u8], h: image::Header) -> bool
     let mut r = 0;
     while r < rules {
         if !choose_columns(image, h, r, &mut chosen) {
+            return false;
+        }
+        r += 1;
+    }
+    true
+}
+
+// The same test, which keeps the columns: row r of `out`, 256 bytes, has those of rule r. `out` is all 0 before; after a failure it may have anything.
+pub fn keep_columns(image: &[u8], h: image::Header, out: &mut [u8]) -> bool
+    requires { ⌜ Laid (now image) (headerOf h) ⌝ }
+    requires { ⌜ T (rightTables (now image)) ⌝ }
+    requires { ⌜ now out ≡ replicate 8192 0 ⌝ }
+    ensures { λ ok. ⌜ ok ≡ rightColumns (now (image .entry)) ⌝ }
+    ensures { λ ok. ⌜ (ok ≡ true → now (out .exit) ≡ flatMap (columnRow (now (image .entry))) (below 32)) ⌝ }
+{
+    let rules = h.rules;
+    let mut r: usize = 0;
+    while r < rules {
+        let from = 256 * r;
+        let to = from + 256;
+        if !choose_columns(image, h, r, &mut out[from..to]) {
             return false;
         }
         r += 1;

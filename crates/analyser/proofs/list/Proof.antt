@@ -11,11 +11,14 @@ use Rattle.analyser.proofs.list.Statement.{statement}
 use Rattle.analyser.proofs.list.Tie as tie
 
 -- in the arm of an accepted image
-passed : (c : tie.After-enum-told) → imageVerdict (c .before .before .before .before .before .before .args .image .now) ≡ accepted
-passed c = sym (c .before .before .check .ensures) ∙ ap verdictOf (c .enum-told .given .1)
+passed : (c : tie.After-enum-told) → imageVerdict (c .before .before .before .before .before .before .before .before .args .image .now) ≡ accepted
+passed c = sym (c .before .before .before .check-columns .ensures .0) ∙ ap verdictOf (c .enum-told .given .1)
 
-check-requires : tie.Need-check-requires
-check-requires c κs = search needs
+slice-aggregate-check-columns : tie.Need-slice-aggregate-check-columns
+slice-aggregate-check-columns c = search needs
+
+check-columns-requires : tie.Need-check-columns-requires
+check-columns-requires c κs = search needs
 
 enum-known-verdict : tie.Need-enum-known-verdict
 enum-known-verdict c = search needs
@@ -24,16 +27,24 @@ enum-told : tie.Need-enum-told
 enum-told c = search needs
 
 read-header-requires : tie.Need-read-header-requires
-read-header-requires c κs = let image = c .before .before .before .before .before .before .args .image .now in laid-some image (header image) (accepted-image image (passed c) .laid)
+read-header-requires c κs =
+    let image = c .before .before .before .before .before .before .before .before .args .image .now in
+    laid-some image (header image) (accepted-image image (passed c) .laid)
+
+slice-aggregate-list-accepted : tie.Need-slice-aggregate-list-accepted
+slice-aggregate-list-accepted c = search needs
 
 list-accepted-requires : tie.Need-list-accepted-requires
-list-accepted-requires c κs = (passed (c .before .before), c .before .read-header .ensures)
+list-accepted-requires c κs =
+    let read = c .before .before in
+    let told = read .before in
+    (passed told, (read .read-header .ensures, told .before .before .before .check-columns .ensures .1 (ap verdictOf (told .enum-told .given .1))))
 
 returns : tie.Need-returns
 returns c =
     let told = c .before in
-    let a = told .before .before .before .before .before .before .args in
-    image-refused (a .image .now) (requestOf (a .d) (a .asked .now)) (a .out .now) (told .verdict .given .0 .0) (sym (told .before .before .check .ensures) ∙ ap verdictOf (told .verdict .given .1))
+    let a = told .before .before .before .before .before .before .before .before .args in
+    image-refused (a .image .now) (requestOf (a .d) (a .asked .now)) (a .out .now) (told .verdict .given .0 .0) (sym (told .before .before .before .check-columns .ensures .0) ∙ ap verdictOf (told .verdict .given .1))
 
 same-length : tie.Need-same-length
 same-length c = search needs
@@ -45,10 +56,12 @@ pub list-spec : {M : Type 1} → statement M
 list-spec =
     tie.close
     (tie.spec
-    check-requires
+    slice-aggregate-check-columns
+    check-columns-requires
     enum-known-verdict
     enum-told
     read-header-requires
+    slice-aggregate-list-accepted
     list-accepted-requires
     returns
     same-length

@@ -21,23 +21,20 @@ small {image} {index} e =
     let long : length index ≡ 39424 = ap length e ∙ length-indexOf image in
     record { long = omega (arith, long); index-is = take-all 39424 index (omega (arith, long)) ∙ e; forms-are = inl (length-drop 39424 index ∙ omega (arith, long)) }
 
-slice-aggregate-fill-index : tie.Need-slice-aggregate-fill-index
-slice-aggregate-fill-index c = search needs
-
 fill-index-requires : tie.Need-fill-index-requires
-fill-index-requires c κs = let s = c .before .before .before .before in (accepted-by (s .args .image .now) (headerOf (s .args .h)) (s .pre .0) (s .pre .1), search needs)
-
-slice-aggregate-list : tie.Need-slice-aggregate-list
-slice-aggregate-list c = search needs
+fill-index-requires c κs = let s = c .before .before .before .before .before in (accepted-by (s .args .image .now) (headerOf (s .args .h)) (s .pre .0) (s .pre .1 .0), s .pre .1 .1)
 
 list-requires : tie.Need-list-requires
-list-requires c κs = let s = c .before .before .before .before .before .before .before .before in (s .pre .0, (s .pre .1, small (c .before .before .before .fill-index .ensures)))
+list-requires c κs = let s = c .before .before .before .before .before .before .before .before .before .before in (s .pre .0, (s .pre .1 .0, small (c .before .before .before .before .fill-index .ensures)))
 
 same-length : tie.Need-same-length
 same-length c = search needs
+
+same-length-2 : tie.Need-same-length-2
+same-length-2 c = search needs
 
 returns : tie.Need-returns
 returns c = search needs
 
 pub list-accepted-spec : {M : Type 1} → statement M
-list-accepted-spec = tie.close (tie.spec slice-aggregate-fill-index fill-index-requires slice-aggregate-list list-requires same-length returns)
+list-accepted-spec = tie.close (tie.spec fill-index-requires list-requires same-length same-length-2 returns)

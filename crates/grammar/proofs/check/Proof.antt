@@ -1,67 +1,76 @@
 -- `check` meets its contract: the first that fails of tests 1 to 8 and then 14.
 use borrow.Author.Needs.{needs}
 use borrow.Author.Tests.{not-true, not-false}
-use mathlib.Core.Bool.{true}
-use mathlib.Core.Path.{_≡_, sym, subst, _∙_}
-use Rattle.model.specs.Refusals.{rightLength, rightChecks, rightLayout}
-use Rattle.model.proofs.Sealing.{right-some}
+use mathlib.Core.Path.{_≡_, sym, ap, subst, _∙_}
+use mathlib.Core.List.{List}
+use Prim.Native.Nat.{ℕ}
+use Rattle.model.specs.Blocks.{header}
+use Rattle.model.specs.Refusals.{accepted}
+use Rattle.model.proofs.Booleans.{of-true}
+use Rattle.image.specs.Header.{headerOf}
 use Rattle.image.specs.Laid.{Laid}
-use Rattle.layout.proofs.Laid.{laid}
-use Rattle.grammar.proofs.Verdicts.{refused-1, refused-2, refused-3, records-judged}
+use Rattle.grammar.specs.Answers.{verdictOf, tablesVerdict}
+use Rattle.grammar.proofs.Verdicts.{laid-some, refused-early, early-passed, refused-7, lexicon-judged}
 use Rattle.grammar.proofs.check.Statement.{statement}
 use Rattle.grammar.proofs.check.Tie as tie
 
--- past each test, it holds
-length-right : (c : tie.Else1) → rightLength (c .before .before .before .args .image .now) ≡ true
-unfolding rightLength
-length-right c = sym (c .before .right-length .ensures) ∙ not-false (c .before .right-length .result) (c .if1 .left)
+-- in the arm of an image that passes tests 1 to 6
+passed : (c : tie.After-enum-told) → tablesVerdict (c .before .before .before .before .args .image .now) ≡ accepted
+passed c = sym (c .before .before .check-tables .ensures) ∙ ap verdictOf (c .enum-told .given .1)
 
-checks-right : (c : tie.Else2) → rightChecks (c .before .before .before .before .before .args .image .now) ≡ true
-checks-right c = sym (c .before .right-checks .ensures) ∙ not-false (c .before .right-checks .result) (c .if2 .left)
+module _ (c : tie.After-read-header) where
+  abbrev image : List ℕ
+  image = c .before .before .before .before .before .args .image .now
 
-layout-right : (c : tie.Else3) → rightLayout (c .before .before .before .before .before .before .before .args .image .now) ≡ true
-layout-right c = sym (c .before .right-layout .ensures) ∙ not-false (c .before .right-layout .result) (c .if3 .left)
+  read-laid : Laid image (headerOf (c .read-header .result))
+  read-laid = subst (Laid image) (sym (c .read-header .ensures)) (early-passed image (passed (c .before)) .0)
 
-right-length-requires : tie.Need-right-length-requires
-right-length-requires c κs = search needs
+check-tables-requires : tie.Need-check-tables-requires
+check-tables-requires c κs = search needs
 
-returns : tie.Need-returns
-unfolding rightLength
-returns c = refused-1 (c .before .before .before .args .image .now) (sym (c .before .right-length .ensures) ∙ not-true (c .before .right-length .result) (c .if1 .taken))
+enum-known-early : tie.Need-enum-known-early
+enum-known-early c = search needs
 
-right-checks-requires : tie.Need-right-checks-requires
-right-checks-requires c κs = length-right c
-
-returns-2 : tie.Need-returns-2
-returns-2 c = refused-2 (c .before .before .before .before .before .args .image .now) (length-right (c .before .before)) (sym (c .before .right-checks .ensures) ∙ not-true (c .before .right-checks .result) (c .if2 .taken))
-
-right-layout-requires : tie.Need-right-layout-requires
-right-layout-requires c κs = length-right (c .before .before)
-
-returns-3 : tie.Need-returns-3
-returns-3 c = refused-3 (c .before .before .before .before .before .before .before .args .image .now) (length-right (c .before .before .before .before)) (checks-right (c .before .before)) (sym (c .before .right-layout .ensures) ∙ not-true (c .before .right-layout .result) (c .if3 .taken))
+enum-told : tie.Need-enum-told
+enum-told c = search needs
 
 read-header-requires : tie.Need-read-header-requires
-read-header-requires c κs = right-some (c .before .before .before .before .before .before .before .args .image .now) (length-right (c .before .before .before .before))
+read-header-requires c κs = let image = c .before .before .before .before .args .image .now in laid-some image (header image) (early-passed image (passed c) .0)
 
-check-records-requires : tie.Need-check-records-requires
-check-records-requires c κs =
-    let image = c .before .before .before .before .before .before .before .before .args .image .now in
-    subst (Laid image) (sym (c .read-header .ensures)) (laid image (length-right (c .before .before .before .before .before)) (layout-right (c .before)))
+right-columns-requires : tie.Need-right-columns-requires
+right-columns-requires c κs = (read-laid c, of-true _ (early-passed (image c) (passed (c .before)) .2))
 
-returns-4 : tie.Need-returns-4
-returns-4 c = c .check-records .ensures ∙ records-judged (c .before .before .before .before .before .before .before .before .before .args .image .now) (length-right (c .before .before .before .before .before .before)) (checks-right (c .before .before .before .before)) (layout-right (c .before .before))
+returns : tie.Need-returns
+returns c =
+    let read = c .before .before in
+    refused-7 (image read) (passed (read .before)) (sym (c .before .right-columns .ensures) ∙ not-true (c .before .right-columns .result) (c .if1 .taken))
+
+check-lexicon-requires : tie.Need-check-lexicon-requires
+check-lexicon-requires c κs =
+    let read = c .before .before in
+    (read-laid read, of-true _ (early-passed (image read) (passed (read .before)) .1))
+
+returns-2 : tie.Need-returns-2
+returns-2 c =
+    let told = c .before in
+    refused-early (told .before .before .before .before .args .image .now) (told .early .given .0 .0) (sym (told .before .before .check-tables .ensures) ∙ ap verdictOf (told .early .given .1))
+
+returns-3 : tie.Need-returns-3
+returns-3 c =
+    let left = c .before in
+    let read = left .before .before in
+    c .check-lexicon .ensures ∙ lexicon-judged (image read) (passed (read .before)) (sym (left .before .right-columns .ensures) ∙ not-false (left .before .right-columns .result) (left .if1 .left))
 
 pub check-spec : {M : Type 1} → statement M
 check-spec =
     tie.close
     (tie.spec
-    right-length-requires
-    returns
-    right-checks-requires
-    returns-2
-    right-layout-requires
-    returns-3
+    check-tables-requires
+    enum-known-early
+    enum-told
     read-header-requires
-    check-records-requires
-    returns-4)
+    right-columns-requires
+    returns
+    check-lexicon-requires
+    returns-2
+    returns-3)

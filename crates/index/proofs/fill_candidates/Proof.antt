@@ -10,7 +10,7 @@ use Rattle.letters.proofs.Laws.{laid-letters}
 use Rattle.image.specs.Index.{candidateRow}
 use Rattle.index.proofs.Laws.{length-candidateRow}
 use Rattle.index.proofs.Candidates.{no-candidates}
-use Rattle.index.proofs.RowByRow.{rowsTo, rows-none, length-rowsTo, lent-row, rows-more, rows-all}
+use Rattle.tables.proofs.RowByRow.{rowsTo, rows-none, length-rowsTo, lent-row, rows-more, rows-all}
 use Rattle.index.proofs.fill_candidates.Statement.{statement}
 use Rattle.index.proofs.fill_candidates.Tie as tie
 

@@ -1,47 +1,37 @@
--- `fill_index` meets its contract: the rows of rules and letters, and the lexicons' row after them.
+-- `fill_index` meets its contract: the rows of the rules as they were, and the other rows after them.
 use borrow.Author.Needs.{needs}
 use native.Mathlib.Omega.{arith}
-use mathlib.Core.Path.{ap, _∙_}
-use lib.ListN.{length}
-use borrow.Rule.Slice.PartMut.{same-len-mid}
-use Rattle.index.proofs.Laws.{length-ruleRows, all-rows}
-use Rattle.index.proofs.RowByRow.{length-zeros, first-part, second-part, both-parts}
+use mathlib.Core.Path.{_∙_}
+use mathlib.Core.List.{List}
+use Prim.Native.Nat.{ℕ}
+use Rattle.model.specs.Lists.{below, flatMap}
+use Rattle.image.specs.Index.{columnRow}
+use Rattle.tables.proofs.Rows.{columns-part}
+use Rattle.index.proofs.Laws.{all-rows}
+use Rattle.index.proofs.Parts.{length-bytes, last-part, last-filled}
 use Rattle.index.proofs.fill_index.Statement.{statement}
 use Rattle.index.proofs.fill_index.Tie as tie
 
-sub-fill-rules : tie.Need-sub-fill-rules
-sub-fill-rules c = search needs
+abbrev columns : List ℕ → List ℕ
+columns image = flatMap (columnRow image) (below 32)
 
-part-fill-rules-start : tie.Need-part-fill-rules-start
-part-fill-rules-start c = search needs
+sub-fill-rest : tie.Need-sub-fill-rest
+sub-fill-rest c = search needs
 
-part-fill-rules-end : tie.Need-part-fill-rules-end
-part-fill-rules-end c =
+part-fill-rest-start : tie.Need-part-fill-rest-start
+part-fill-rest-start c = search needs
+
+part-fill-rest-end : tie.Need-part-fill-rest-end
+part-fill-rest-end c =
     let s = c .before .before in
-    omega (arith, length-zeros 39168 256 (s .args .out .now) (s .pre .1))
+    let image = s .args .image .now in
+    omega (arith, length-bytes 8192 31232 (columns image) (s .args .out .now) (columns-part image) (s .pre .1))
 
-fill-rules-requires : tie.Need-fill-rules-requires
-fill-rules-requires c κs =
+fill-rest-requires : tie.Need-fill-rest-requires
+fill-rest-requires c κs =
     let s = c .before .before .before in
-    (s .pre .0, first-part 39168 256 (s .args .out .now) (s .pre .1))
-
-sub-fill-lexicons : tie.Need-sub-fill-lexicons
-sub-fill-lexicons c = search needs
-
-part-fill-lexicons-start : tie.Need-part-fill-lexicons-start
-part-fill-lexicons-start c = search needs
-
-part-fill-lexicons-end : tie.Need-part-fill-lexicons-end
-part-fill-lexicons-end c =
-    let filled = c .before .before in
-    let s = filled .before .before .before .before in
-    omega (arith, same-len-mid 0 39168 (s .args .out .now) (filled .fill-rules .last .1 .1 .0) (filled .fill-rules .kept .1 .1 .0), length-zeros 39168 256 (s .args .out .now) (s .pre .1))
-
-fill-lexicons-requires : tie.Need-fill-lexicons-requires
-fill-lexicons-requires c κs =
-    let filled = c .before .before .before in
-    let s = filled .before .before .before .before in
-    (s .pre .0 .laid, second-part 39168 256 (s .args .out .now) (s .pre .1) (filled .fill-rules .last .1 .1 .0) (ap length (filled .fill-rules .ensures) ∙ length-ruleRows (s .args .image .now)))
+    let image = s .args .image .now in
+    (s .pre .0 .laid, last-part 8192 31232 (columns image) (s .args .out .now) (columns-part image) (s .pre .1))
 
 same-length : tie.Need-same-length
 same-length c = search needs
@@ -49,25 +39,10 @@ same-length c = search needs
 returns : tie.Need-returns
 returns c =
     let done = c .before .before in
-    let filled = done .before .before .before .before in
-    let s = filled .before .before .before .before in
+    let s = done .before .before .before .before in
     let image = s .args .image .now in
-    let rules = filled .fill-rules .last .1 .1 .0 in
-    let lexicons = done .fill-lexicons .last .1 .1 .0 in
-    both-parts 39168 256 (s .args .out .now) (s .pre .1) rules (ap length (filled .fill-rules .ensures) ∙ length-ruleRows image) lexicons
-    ∙ all-rows image rules lexicons (filled .fill-rules .ensures) (done .fill-lexicons .ensures)
+    let rest = done .fill-rest .last .1 .1 .0 in
+    last-filled 8192 31232 (columns image) (s .args .out .now) (columns-part image) (s .pre .1) rest ∙ all-rows image rest (done .fill-rest .ensures)
 
 pub fill-index-spec : {M : Type 1} → statement M
-fill-index-spec =
-    tie.close
-    (tie.spec
-    sub-fill-rules
-    part-fill-rules-start
-    part-fill-rules-end
-    fill-rules-requires
-    sub-fill-lexicons
-    part-fill-lexicons-start
-    part-fill-lexicons-end
-    fill-lexicons-requires
-    same-length
-    returns)
+fill-index-spec = tie.close (tie.spec sub-fill-rest part-fill-rest-start part-fill-rest-end fill-rest-requires same-length returns)

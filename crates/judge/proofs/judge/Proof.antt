@@ -11,11 +11,14 @@ use Rattle.judge.proofs.judge.Statement.{statement}
 use Rattle.judge.proofs.judge.Tie as tie
 
 -- in the arm of an accepted image
-passed : (c : tie.After-enum-told) → imageVerdict (c .before .before .before .before .before .before .args .image .now) ≡ accepted
-passed c = sym (c .before .before .check .ensures) ∙ ap verdictOf (c .enum-told .given .1)
+passed : (c : tie.After-enum-told) → imageVerdict (c .before .before .before .before .before .before .before .before .args .image .now) ≡ accepted
+passed c = sym (c .before .before .before .check-columns .ensures .0) ∙ ap verdictOf (c .enum-told .given .1)
 
-check-requires : tie.Need-check-requires
-check-requires c κs = search needs
+slice-aggregate-check-columns : tie.Need-slice-aggregate-check-columns
+slice-aggregate-check-columns c = search needs
+
+check-columns-requires : tie.Need-check-columns-requires
+check-columns-requires c κs = search needs
 
 enum-known-verdict : tie.Need-enum-known-verdict
 enum-known-verdict c = search needs
@@ -25,35 +28,41 @@ enum-told c = search needs
 
 read-header-requires : tie.Need-read-header-requires
 read-header-requires c κs =
-    let image = c .before .before .before .before .before .before .args .image .now in
+    let image = c .before .before .before .before .before .before .before .before .args .image .now in
     laid-some image (header image) (accepted-image image (passed c) .laid)
+
+slice-aggregate-judge-accepted : tie.Need-slice-aggregate-judge-accepted
+slice-aggregate-judge-accepted c = search needs
 
 judge-accepted-requires : tie.Need-judge-accepted-requires
 judge-accepted-requires c κs =
-    let told = c .before in
-    let image = told .before .before .before .before .before .before .args .image .now in
-    subst (Accepted image) (sym (c .read-header .ensures)) (accepted-image image (passed told))
+    let read = c .before in
+    let told = read .before in
+    let image = told .before .before .before .before .before .before .before .before .args .image .now in
+    (subst (Accepted image) (sym (read .read-header .ensures)) (accepted-image image (passed told)), told .before .before .before .check-columns .ensures .1 (ap verdictOf (told .enum-told .given .1)))
 
 returns : tie.Need-returns
 returns c =
     let told = c .before in
-    let start = told .before .before .before .before .before .before in
-    image-refused (start .args .image .now) (start .args .path .now) (start .args .pairing .now) (told .verdict .given .0 .0) (sym (told .before .before .check .ensures) ∙ ap verdictOf (told .verdict .given .1))
+    let start = told .before .before .before .before .before .before .before .before in
+    image-refused (start .args .image .now) (start .args .path .now) (start .args .pairing .now) (told .verdict .given .0 .0) (sym (told .before .before .before .check-columns .ensures .0) ∙ ap verdictOf (told .verdict .given .1))
 
 returns-2 : tie.Need-returns-2
 returns-2 c =
-    let told = c .before .before in
-    let start = told .before .before .before .before .before .before in
-    c .judge-accepted .ensures ∙ image-accepted (start .args .image .now) (start .args .path .now) (start .args .pairing .now) (passed told)
+    let told = c .before .before .before .before in
+    let start = told .before .before .before .before .before .before .before .before in
+    c .before .judge-accepted .ensures ∙ image-accepted (start .args .image .now) (start .args .path .now) (start .args .pairing .now) (passed told)
 
 pub judge-spec : {M : Type 1} → statement M
 judge-spec =
     tie.close
     (tie.spec
-    check-requires
+    slice-aggregate-check-columns
+    check-columns-requires
     enum-known-verdict
     enum-told
     read-header-requires
+    slice-aggregate-judge-accepted
     judge-accepted-requires
     returns
     returns-2)

@@ -4,7 +4,7 @@ use native.Mathlib.Nat.{add-suc, add-zero}
 use native.Mathlib.Numerals.{add-one}
 use native.Mathlib.Omega.{arith}
 use mathlib.Core.Path.{_≡_, refl, sym, ap, ap₂, _∙_}
-use mathlib.Core.List.{List, [], _∷_, _++_, append-assoc, append-nil}
+use mathlib.Core.List.{List, _∷_, _++_, append-assoc, append-nil}
 use lib.ListN.{length, take, drop, replicate, length-append, length-replicate, replicate-append-replicate}
 use lib.Seq.{take-at, drop-at}
 use borrow.Rule.Slice.PartMut.{putMid}
@@ -80,23 +80,3 @@ module _ (row : ℕ → List ℕ) (wide : (i : ℕ) → length (row i) ≡ 256) 
     rows-all a h k =
         let e : a + (rows - a) ≡ rows = omega arith in
         sym (rows-rest a (rows - a) h) ∙ ap (λ (n : ℕ). flatMap row (below n)) e
-
--- two parts of bytes that are all 0, filled one after the other
-module _ (m n : ℕ) (zeros : List ℕ) (e : zeros ≡ replicate (m + n) 0) where
-  pub length-zeros : length zeros ≡ m + n
-  length-zeros = ap length e ∙ length-replicate (m + n) 0
-
-  pub first-part : take m zeros ≡ replicate m 0
-  first-part = ap (take m) e ∙ take-replicate m (m + n) 0 (omega arith)
-
-  module _ (xs : List ℕ) (k : length xs ≡ m) where
-    left-over : drop m (xs ++ drop m zeros) ≡ replicate n 0
-    left-over = drop-at xs (drop m zeros) m k ∙ drop-replicate zeros (m + n) m m n 0 e refl refl
-
-    pub second-part : take n (drop m (xs ++ drop m zeros)) ≡ replicate n 0
-    second-part = ap (take n) left-over ∙ take-replicate n n 0 (omega arith)
-
-    pub both-parts : (ys : List ℕ) → putMid m n (xs ++ drop m zeros) ys ≡ xs ++ ys
-    both-parts ys =
-        let l : drop n (drop m (xs ++ drop m zeros)) ≡ [] = drop-replicate (drop m (xs ++ drop m zeros)) n n n 0 0 left-over refl (omega arith) in
-        ap₂ (λ (x y : List ℕ). x ++ (ys ++ y)) (take-at xs (drop m zeros) m k) l ∙ ap (λ (y : List ℕ). xs ++ y) (append-nil ys)
