@@ -1,4 +1,4 @@
--- The larger index of an accepted image: 146,688 bytes in six parts, for callers that ask many words of one image.
+-- The index of forms of an accepted image: 146,688 bytes in six parts, for callers that ask many words of one image.
 use Prim.Native.Nat.{ℕ, suc, _+_, _<_, _≤_}
 use mathlib.Core.Path.{_≡_}
 use mathlib.Core.List.{List}

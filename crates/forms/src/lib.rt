@@ -1,4 +1,4 @@
-// The larger index of an accepted image, for callers that ask many words of one image: which letters pair, which lexicons are worth looking ahead in, and each
+// The index of forms of an accepted image, for callers that ask many words of one image: which letters pair, which lexicons are worth looking ahead in, and each
 // lexicon's entries in an order that puts like beginnings together. It is filled once a run.
 ghost use mathlib.Core.Path.{_≡_};
 ghost use lib.ListN.{length};
