@@ -66,7 +66,7 @@ module _ (g : Grammar) (q : Query) where
   unfolding readingAt
   step-is n r x ls = map-same (after (goAt g q (opens n) n x) (grow (opens n) r x)) (λ l. after n r (x ∷ l)) ls (λ l m. join-grow (opens n) r (readingAt g q (goAt g q (opens n) n x) l) x) ∙ sym (map-map (after n r) (λ l. x ∷ l) ls)
 
-  gather-walk : (k : ℕ) (n : Node) (r : Reading) → gather g q k n r ≡ map (after n r) (walk (tree g q) k n)
+  pub gather-walk : (k : ℕ) (n : Node) (r : Reading) → gather g q k n r ≡ map (after n r) (walk (tree g q) k n)
   unfolding gather walk
   gather-walk zero n r = end-is (complete g q n) n r
   gather-walk (suc k) n r =

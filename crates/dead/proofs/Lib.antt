@@ -1,0 +1,2 @@
+-- Laws that the proofs of functions cite; `Dead` is for the callers too.
+pub mod Dead
