@@ -1,0 +1,54 @@
+-- `is_narrow` meets its contract.
+use borrow.Author.Needs.{needs}
+use borrow.Author.Count.{below-more}
+use native.Mathlib.Omega.{arith}
+use Prim.Native.Nat.{ℕ, _-_, _<_, _≤_}
+use lib.ListN.{getD}
+use Rattle.dead.specs.Dead.{Narrow}
+use Rattle.dead.proofs.is_narrow.Statement.{statement}
+use Rattle.dead.proofs.is_narrow.Tie as tie
+
+abbrev Inv-loop : tie.InvT-loop
+Inv-loop key i₀ i = (i ≤ 40) × ((k : ℕ) → k < i → getD key k 0 < 65536)
+
+abbrev μ-loop : tie.MeasureT-loop
+μ-loop key i₀ i = 40 - i
+
+loop-holds : tie.Need-loop-holds Inv-loop μ-loop
+loop-holds c = search needs
+
+mul-if1 : tie.Need-mul-if1 Inv-loop μ-loop
+mul-if1 c = search needs
+
+element-copy-out-if1 : tie.Need-element-copy-out-if1 Inv-loop μ-loop
+element-copy-out-if1 c = search needs
+
+returns : tie.Need-returns Inv-loop μ-loop
+returns c = search needs
+
+add-i : tie.Need-add-i Inv-loop μ-loop
+add-i c = search needs
+
+loop-less : tie.Need-loop-less Inv-loop μ-loop
+loop-less c = search needs
+
+loop-again : tie.Need-loop-again Inv-loop μ-loop
+loop-again c = search needs
+
+returns-2 : tie.Need-returns-2 Inv-loop μ-loop
+returns-2 c = search needs
+
+pub is-narrow-spec : {M : Type 1} → statement M
+is-narrow-spec =
+    tie.close
+    (tie.spec
+    Inv-loop
+    μ-loop
+    loop-holds
+    mul-if1
+    element-copy-out-if1
+    returns
+    add-i
+    loop-less
+    loop-again
+    returns-2)

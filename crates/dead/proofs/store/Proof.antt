@@ -1,0 +1,67 @@
+-- `store` meets its contract.
+use borrow.Author.Needs.{needs}
+use native.Mathlib.Omega.{arith}
+use mathlib.Core.Path.{_≡_}
+use Prim.Native.Nat.{_-_, _≤_}
+use lib.ListN.{length}
+use Rattle.dead.specs.Dead.{Narrow}
+use Rattle.dead.proofs.Agreeing.{Agree, agree-set, agree-all}
+use Rattle.dead.proofs.store.Statement.{statement}
+use Rattle.dead.proofs.store.Tie as tie
+
+abbrev Inv-loop : tie.InvT-loop
+Inv-loop slot₀ key i₀ slot i = (i ≤ 40) × ((length slot ≡ 40) × Agree slot key i)
+
+abbrev μ-loop : tie.MeasureT-loop
+μ-loop slot₀ key i₀ slot i = 40 - i
+
+loop-holds : tie.Need-loop-holds Inv-loop μ-loop
+loop-holds c = search needs
+
+mul-slot : tie.Need-mul-slot Inv-loop μ-loop
+mul-slot c = search needs
+
+element-copy-out-slot : tie.Need-element-copy-out-slot Inv-loop μ-loop
+element-copy-out-slot c = search needs
+
+cast-slot : tie.Need-cast-slot Inv-loop μ-loop
+cast-slot c = search needs
+
+mul-slot-2 : tie.Need-mul-slot-2 Inv-loop μ-loop
+mul-slot-2 c = search needs
+
+slice-write-slot : tie.Need-slice-write-slot Inv-loop μ-loop
+slice-write-slot c = search needs
+
+add-i : tie.Need-add-i Inv-loop μ-loop
+add-i c = search needs
+
+loop-less : tie.Need-loop-less Inv-loop μ-loop
+loop-less c = search needs
+
+loop-again : tie.Need-loop-again Inv-loop μ-loop
+loop-again c = search needs
+
+same-length : tie.Need-same-length Inv-loop μ-loop
+same-length c = search needs
+
+returns : tie.Need-returns Inv-loop μ-loop
+returns c = search needs
+
+pub store-spec : {M : Type 1} → statement M
+store-spec =
+    tie.close
+    (tie.spec
+    Inv-loop
+    μ-loop
+    loop-holds
+    mul-slot
+    element-copy-out-slot
+    cast-slot
+    mul-slot-2
+    slice-write-slot
+    add-i
+    loop-less
+    loop-again
+    same-length
+    returns)
