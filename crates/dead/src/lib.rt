@@ -76,7 +76,7 @@ fn wide(x: u16) -> usize
 
 // Whether the slot has the node's numbers, each of them.
 fn same(slot: &[u16], key: &[usize; 40]) -> bool
-    requires { ⌜ length (now slot) ≡ 40 ⌝ }
+    requires { ⌜ (length (now slot) ≡ 40) × (length (now key) ≡ 40) ⌝ }
     ensures { λ r. ⌜ (r ≡ true → now (slot .entry) ≡ now (key .entry)) ⌝ }
 {
     let mut i = 0;
@@ -115,7 +115,7 @@ fn is_narrow(key: &[usize; 40]) -> bool
 }
 
 fn store(slot: &mut [u16], key: &[usize; 40])
-    requires { ⌜ (length (now slot) ≡ 40) × Narrow (now key) ⌝ }
+    requires { ⌜ (length (now slot) ≡ 40) × ((length (now key) ≡ 40) × Narrow (now key)) ⌝ }
     ensures { λ _. ⌜ now (slot .exit) ≡ now (key .entry) ⌝ }
 {
     let mut i = 0;

@@ -1,7 +1,9 @@
--- `is_narrow` meets its contract.
+-- `is_narrow` meets its contract: at the loop's head the first i numbers fit.
 use borrow.Author.Needs.{needs}
 use borrow.Author.Count.{below-more}
 use native.Mathlib.Omega.{arith}
+use mathlib.Core.Bool.{true≢false}
+use mathlib.Core.Path.{sym}
 use Prim.Native.Nat.{ℕ, _-_, _<_, _≤_}
 use lib.ListN.{getD}
 use Rattle.dead.specs.Dead.{Narrow}
@@ -24,7 +26,7 @@ element-copy-out-if1 : tie.Need-element-copy-out-if1 Inv-loop μ-loop
 element-copy-out-if1 c = search needs
 
 returns : tie.Need-returns Inv-loop μ-loop
-returns c = search needs
+returns c = λ e. absurd (true≢false (sym e))
 
 add-i : tie.Need-add-i Inv-loop μ-loop
 add-i c = search needs
@@ -33,10 +35,11 @@ loop-less : tie.Need-loop-less Inv-loop μ-loop
 loop-less c = search needs
 
 loop-again : tie.Need-loop-again Inv-loop μ-loop
-loop-again c = search needs
+loop-again c = let at = c .before .before .before in (search needs, below-more _ _ (at .loop .inv .1) (omega (arith, c .if1 .left)))
 
 returns-2 : tie.Need-returns-2 Inv-loop μ-loop
-returns-2 c = search needs
+unfolding Narrow
+returns-2 c = λ e k h. c .before .loop .inv .1 k (omega (arith, c .loop-test .left))
 
 pub is-narrow-spec : {M : Type 1} → statement M
 is-narrow-spec =

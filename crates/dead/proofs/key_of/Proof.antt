@@ -1,9 +1,12 @@
--- `key_of` meets its contract.
+-- `key_of` meets its contract: at the loop's head the first eight numbers and i states are in their places.
 use borrow.Author.Needs.{needs}
 use native.Mathlib.Omega.{arith}
-use mathlib.Core.Path.{_≡_}
-use Prim.Native.Nat.{_+_, _-_, _≤_}
-use lib.ListN.{length}
+use mathlib.Core.Path.{_≡_, sym, ap, _∙_, subst}
+use mathlib.Core.List.{List, [], _∷_}
+use Prim.Native.Nat.{ℕ, _+_, _-_, _≤_}
+use lib.ListN.{length, getD, replicate}
+use lib.Seq.{getD-drop}
+use Rattle.listing.specs.declared.place.Place.{Place}
 use Rattle.dead.specs.Dead.{keyOf}
 use Rattle.dead.proofs.Agreeing.{Agree, agree-front, agree-set, agree-all}
 use Rattle.dead.proofs.key_of.Statement.{statement}
@@ -43,7 +46,10 @@ array-write-key-8 : tie.Need-array-write-key-8 Inv-loop μ-loop
 array-write-key-8 c = search needs
 
 loop-holds : tie.Need-loop-holds Inv-loop μ-loop
-loop-holds c = search needs
+loop-holds c =
+    let a = c .before .args in
+    let p = a .t1 in
+    (search needs, (search needs, agree-front ((a .pairs + 1) ∷ a .entries ∷ p .from ∷ p .to ∷ p .last ∷ p .nulls ∷ p .surface .letters ∷ p .surface .nulls ∷ []) (replicate 32 0) (p .states)))
 
 element-copy-out-state : tie.Need-element-copy-out-state Inv-loop μ-loop
 element-copy-out-state c = search needs
@@ -67,10 +73,22 @@ loop-less : tie.Need-loop-less Inv-loop μ-loop
 loop-less c = search needs
 
 loop-again : tie.Need-loop-again Inv-loop μ-loop
-loop-again c = search needs
+loop-again c =
+    let at = c .before .before in
+    let a = at .before .before .args in
+    let i = at .loop .i in
+    let key = keyOf (a .t1) (a .entries) (a .pairs) in
+    let f : 8 + i ≡ i + 8 = omega arith in
+    let state : getD (a .t1 .states) i 0 ≡ getD key (i + 8) 0 = getD-drop 8 key i 0 ∙ ap (λ (k : ℕ). getD key k 0) f in
+    let e : (i + 8) + 1 ≡ (i + 1) + 8 = omega arith in
+    (search needs, (search needs, rw e at (agree-set (at .loop .key) key (i + 8) (getD (a .t1 .states) i 0) (omega arith) state (at .loop .inv .1 .1))))
 
 returns : tie.Need-returns Inv-loop μ-loop
-returns c = search needs
+returns c =
+    let at = c .before in
+    let a = at .before .before .args in
+    let l : length (a .t1 .states) ≡ 32 = search needs in
+    agree-all (at .loop .key) (keyOf (a .t1) (a .entries) (a .pairs)) 40 (at .loop .inv .1 .0) (omega arith) (λ k h. at .loop .inv .1 .1 k (omega (arith, c .loop-test .left)))
 
 pub key-of-spec : {M : Type 1} → statement M
 key-of-spec =

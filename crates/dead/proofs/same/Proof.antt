@@ -1,8 +1,11 @@
--- `same` meets its contract.
+-- `same` meets its contract: at the loop's head the first i numbers are the same.
 use borrow.Author.Needs.{needs}
 use borrow.Author.Count.{below-more}
 use native.Mathlib.Omega.{arith}
+use mathlib.Core.Bool.{true≢false}
+use mathlib.Core.Path.{_≡_, sym, _∙_}
 use Prim.Native.Nat.{_-_, _≤_}
+use lib.ListN.{length}
 use Rattle.dead.proofs.Agreeing.{Agree, agree-all}
 use Rattle.dead.proofs.same.Statement.{statement}
 use Rattle.dead.proofs.same.Tie as tie
@@ -32,7 +35,7 @@ element-copy-out-if1 : tie.Need-element-copy-out-if1 Inv-loop μ-loop
 element-copy-out-if1 c = search needs
 
 returns : tie.Need-returns Inv-loop μ-loop
-returns c = search needs
+returns c = λ e. absurd (true≢false (sym e))
 
 add-i : tie.Need-add-i Inv-loop μ-loop
 add-i c = search needs
@@ -41,10 +44,16 @@ loop-less : tie.Need-loop-less Inv-loop μ-loop
 loop-less c = search needs
 
 loop-again : tie.Need-loop-again Inv-loop μ-loop
-loop-again c = search needs
+loop-again c =
+    let at = c .before .before .before .before .before in
+    (search needs, below-more _ _ (at .loop .inv .1) (sym (c .before .before .wide .ensures) ∙ c .if1 .left))
 
 returns-2 : tie.Need-returns-2 Inv-loop μ-loop
-returns-2 c = search needs
+returns-2 c =
+    let at = c .before in
+    let a = at .before .before .args in
+    let pre = at .before .before .pre in
+    λ e. agree-all (a .slot .now) (a .key .now) 40 (pre .0) (pre .1) (λ k h. at .loop .inv .1 k (omega (arith, c .loop-test .left)))
 
 pub same-spec : {M : Type 1} → statement M
 same-spec =

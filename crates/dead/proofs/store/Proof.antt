@@ -1,9 +1,9 @@
--- `store` meets its contract.
+-- `store` meets its contract: at the loop's head the first i numbers are stored.
 use borrow.Author.Needs.{needs}
 use native.Mathlib.Omega.{arith}
-use mathlib.Core.Path.{_≡_}
+use mathlib.Core.Path.{_≡_, refl}
 use Prim.Native.Nat.{_-_, _≤_}
-use lib.ListN.{length}
+use lib.ListN.{length, getD}
 use Rattle.dead.specs.Dead.{Narrow}
 use Rattle.dead.proofs.Agreeing.{Agree, agree-set, agree-all}
 use Rattle.dead.proofs.store.Statement.{statement}
@@ -25,7 +25,8 @@ element-copy-out-slot : tie.Need-element-copy-out-slot Inv-loop μ-loop
 element-copy-out-slot c = search needs
 
 cast-slot : tie.Need-cast-slot Inv-loop μ-loop
-cast-slot c = search needs
+unfolding Narrow
+cast-slot c = let at = c .before .before in omega (arith, at .before .pre .1 .1 (at .loop .i) (omega arith))
 
 mul-slot-2 : tie.Need-mul-slot-2 Inv-loop μ-loop
 mul-slot-2 c = search needs
@@ -40,13 +41,20 @@ loop-less : tie.Need-loop-less Inv-loop μ-loop
 loop-less c = search needs
 
 loop-again : tie.Need-loop-again Inv-loop μ-loop
-loop-again c = search needs
+loop-again c =
+    let at = c .before .before in
+    let i = at .loop .i in
+    let key = at .before .args .key .now in
+    (search needs, (search needs, agree-set (at .loop .slot) key i (getD key i 0) (omega arith) refl (at .loop .inv .1 .1)))
 
 same-length : tie.Need-same-length Inv-loop μ-loop
 same-length c = search needs
 
 returns : tie.Need-returns Inv-loop μ-loop
-returns c = search needs
+returns c =
+    let at = c .before in
+    let key = at .before .args .key .now in
+    agree-all (at .loop .slot) key 40 (at .loop .inv .1 .0) (at .before .pre .1 .0) (λ k h. at .loop .inv .1 .1 k (omega (arith, c .loop-test .left)))
 
 pub store-spec : {M : Type 1} → statement M
 store-spec =
