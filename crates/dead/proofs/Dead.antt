@@ -1,10 +1,9 @@
 -- A blank table remembers nothing; where nothing is found after one trail nothing is found after another as long; a node's numbers tell the node.
-use Prim.Native.Nat.{ℕ, _+_, _*_, _-_, _<_, _≤_}
-use native.Mathlib.Decide.{decLt}
+use Prim.Native.Nat.{ℕ, _+_, _*_}
 use native.Mathlib.Omega.{arith}
 use mathlib.Core.Path.{_≡_, refl, sym, ap, _∙_, subst}
 use mathlib.Core.List.{List, [], _∷_, map}
-use lib.ListN.{length, getD, take, drop, replicate, length-replicate, getD-replicate, List·getD-eq-default}
+use lib.ListN.{getD, drop, replicate, length-replicate, getD-replicate}
 use lib.Seq.{getD-take, getD-drop}
 use Rattle.model.specs.Grammar.{Grammar}
 use Rattle.model.specs.Readings.{Reading}

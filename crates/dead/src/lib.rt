@@ -42,20 +42,20 @@ fn key_of(place: Place, entries: usize, pairs: usize) -> [usize; 40]
     key
 }
 
-// A hash with one number more.
+// A hash with one number more: the middle of a product, which each digit of both has a part in.
 fn mix(x: usize, y: usize) -> usize
     requires { ⌜ x < 4294967296 ⌝ }
     ensures { λ r. ⌜ r < 4294967296 ⌝ }
 {
-    (x + y % 65536) * 2654435769 % 4294967296
+    (x + y % 65536) * 2654435769 / 65536 % 4294967296
 }
 
 fn hash_of(key: &[usize; 40]) -> usize {
     let mut x = 0;
-    let mut i = 0;
-    while i < 40 {
-        x = mix(x, key[i]);
-        i += 1;
+    let mut n = 0;
+    while n < 40 {
+        x = mix(x, key[n]);
+        n += 1;
     }
     x
 }
@@ -65,7 +65,7 @@ fn slot_of(size: usize, key: &[usize; 40]) -> usize
     requires { ⌜ 40 ≤ size ⌝ }
     ensures { λ r. ⌜ 40 * r + 40 ≤ size ⌝ }
 {
-    hash_of(key) / 256 % (size / 40)
+    hash_of(key) % (size / 40)
 }
 
 fn wide(x: u16) -> usize
@@ -79,12 +79,12 @@ fn same(slot: &[u16], key: &[usize; 40]) -> bool
     requires { ⌜ (length (now slot) ≡ 40) × (length (now key) ≡ 40) ⌝ }
     ensures { λ r. ⌜ (r ≡ true → now (slot .entry) ≡ now (key .entry)) ⌝ }
 {
-    let mut i = 0;
-    while i < 40 {
-        if wide(slot[i]) != key[i] {
+    let mut k = 0;
+    while k < 40 {
+        if wide(slot[k]) != key[k] {
             return false;
         }
-        i += 1;
+        k += 1;
     }
     true
 }
@@ -104,12 +104,12 @@ pub fn recall(table: &[u16], place: Place, entries: usize, pairs: usize) -> bool
 fn is_narrow(key: &[usize; 40]) -> bool
     ensures { λ r. ⌜ (r ≡ true → Narrow (now (key .entry))) ⌝ }
 {
-    let mut i = 0;
-    while i < 40 {
-        if 65535 < key[i] {
+    let mut j = 0;
+    while j < 40 {
+        if 65535 < key[j] {
             return false;
         }
-        i += 1;
+        j += 1;
     }
     true
 }
@@ -118,10 +118,10 @@ fn store(slot: &mut [u16], key: &[usize; 40])
     requires { ⌜ (length (now slot) ≡ 40) × ((length (now key) ≡ 40) × Narrow (now key)) ⌝ }
     ensures { λ _. ⌜ now (slot .exit) ≡ now (key .entry) ⌝ }
 {
-    let mut i = 0;
-    while i < 40 {
-        slot[i] = key[i] as u16;
-        i += 1;
+    let mut at = 0;
+    while at < 40 {
+        slot[at] = key[at] as u16;
+        at += 1;
     }
 }
 

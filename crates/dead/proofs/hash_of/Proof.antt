@@ -5,10 +5,10 @@ use Rattle.dead.proofs.hash_of.Statement.{statement}
 use Rattle.dead.proofs.hash_of.Tie as tie
 
 abbrev Inv-loop : tie.InvT-loop
-Inv-loop key x₀ i₀ x i = (i ≤ 40) × (x < 4294967296)
+Inv-loop key x₀ n₀ x n = (n ≤ 40) × (x < 4294967296)
 
 abbrev μ-loop : tie.MeasureT-loop
-μ-loop key x₀ i₀ x i = 40 - i
+μ-loop key x₀ n₀ x n = 40 - n
 
 loop-holds : tie.Need-loop-holds Inv-loop μ-loop
 loop-holds c = search needs
@@ -22,8 +22,8 @@ element-copy-out-mix c = search needs
 mix-requires : tie.Need-mix-requires Inv-loop μ-loop
 mix-requires c κs = search needs
 
-add-i : tie.Need-add-i Inv-loop μ-loop
-add-i c = search needs
+add-n : tie.Need-add-n Inv-loop μ-loop
+add-n c = search needs
 
 loop-less : tie.Need-loop-less Inv-loop μ-loop
 loop-less c = search needs
@@ -44,7 +44,7 @@ hash-of-spec =
     mul-mix
     element-copy-out-mix
     mix-requires
-    add-i
+    add-n
     loop-less
     loop-again
     returns)

@@ -1,4 +1,4 @@
--- `is_narrow` meets its contract: at the loop's head the first i numbers fit.
+-- `is_narrow` meets its contract: at the loop's head the first j numbers fit.
 use borrow.Author.Needs.{needs}
 use borrow.Author.Count.{below-more}
 use native.Mathlib.Omega.{arith}
@@ -11,10 +11,10 @@ use Rattle.dead.proofs.is_narrow.Statement.{statement}
 use Rattle.dead.proofs.is_narrow.Tie as tie
 
 abbrev Inv-loop : tie.InvT-loop
-Inv-loop key i₀ i = (i ≤ 40) × ((k : ℕ) → k < i → getD key k 0 < 65536)
+Inv-loop key j₀ j = (j ≤ 40) × ((k : ℕ) → k < j → getD key k 0 < 65536)
 
 abbrev μ-loop : tie.MeasureT-loop
-μ-loop key i₀ i = 40 - i
+μ-loop key j₀ j = 40 - j
 
 loop-holds : tie.Need-loop-holds Inv-loop μ-loop
 loop-holds c = search needs
@@ -28,8 +28,8 @@ element-copy-out-if1 c = search needs
 returns : tie.Need-returns Inv-loop μ-loop
 returns c = λ e. absurd (true≢false (sym e))
 
-add-i : tie.Need-add-i Inv-loop μ-loop
-add-i c = search needs
+add-j : tie.Need-add-j Inv-loop μ-loop
+add-j c = search needs
 
 loop-less : tie.Need-loop-less Inv-loop μ-loop
 loop-less c = search needs
@@ -51,7 +51,7 @@ is-narrow-spec =
     mul-if1
     element-copy-out-if1
     returns
-    add-i
+    add-j
     loop-less
     loop-again
     returns-2)

@@ -1,12 +1,11 @@
 -- `key_of` meets its contract: at the loop's head the first eight numbers and i states are in their places.
 use borrow.Author.Needs.{needs}
 use native.Mathlib.Omega.{arith}
-use mathlib.Core.Path.{_≡_, sym, ap, _∙_, subst}
-use mathlib.Core.List.{List, [], _∷_}
+use mathlib.Core.Path.{_≡_, ap, _∙_}
+use mathlib.Core.List.{[], _∷_}
 use Prim.Native.Nat.{ℕ, _+_, _-_, _≤_}
 use lib.ListN.{length, getD, replicate}
 use lib.Seq.{getD-drop}
-use Rattle.listing.specs.declared.place.Place.{Place}
 use Rattle.dead.specs.Dead.{keyOf}
 use Rattle.dead.proofs.Agreeing.{Agree, agree-front, agree-set, agree-all}
 use Rattle.dead.proofs.key_of.Statement.{statement}

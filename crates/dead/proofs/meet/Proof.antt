@@ -1,10 +1,9 @@
 -- `meet` meets its contract: with a slot by what is known, without one nothing is remembered.
 use borrow.Author.Needs.{needs}
 use native.Mathlib.Omega.{arith}
-use mathlib.Core.Path.{_≡_}
-use Prim.Native.Nat.{ℕ}
 use lib.ListN.{length-set}
 use Rattle.dead.proofs.Slots.{no-slot}
+use Rattle.dead.proofs.Answers.{on-dead, on-gave-up, gave-up-dead}
 use Rattle.dead.proofs.meet.Statement.{statement}
 use Rattle.dead.proofs.meet.Tie as tie
 
@@ -21,7 +20,7 @@ slice-read-count : tie.Need-slice-read-count
 slice-read-count c = search needs
 
 returns-2 : tie.Need-returns-2
-returns-2 c = ((λ e. absurd (let z : _≡_ {A = ℕ} 0 1 = cc in omega arith)), ((λ e. search needs), (λ image q known. known)))
+returns-2 c = ((λ e. absurd (gave-up-dead e)), ((λ e. search needs), (λ image q known. known)))
 
 add-table : tie.Need-add-table
 add-table c = search needs
@@ -33,7 +32,7 @@ same-length-2 : tie.Need-same-length-2
 same-length-2 c = search needs
 
 returns-3 : tie.Need-returns-3
-returns-3 c = ((λ e. absurd (let z : _≡_ {A = ℕ} 0 1 = cc in omega arith)), ((λ e. absurd (let z : _≡_ {A = ℕ} 0 1 = cc in omega arith)), (λ image q known. no-slot image q _ (simp length-set (omega arith)))))
+returns-3 c = ((λ e. absurd (on-dead e)), ((λ e. absurd (on-gave-up e)), (λ image q known. no-slot image q _ (simp length-set (omega arith)))))
 
 pub meet-spec : {M : Type 1} → statement M
 meet-spec =

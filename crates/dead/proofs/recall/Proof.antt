@@ -1,8 +1,8 @@
 -- `recall` meets its contract: the slot that is compared has the node's numbers.
 use borrow.Author.Needs.{needs}
 use native.Mathlib.Omega.{arith}
-use mathlib.Core.Path.{_≡_, ap, _∙_}
-use Prim.Native.Nat.{ℕ, _+_, _*_, _-_}
+use mathlib.Core.Path.{_≡_, _∙_}
+use Prim.Native.Nat.{_+_, _*_, _-_}
 use Rattle.dead.proofs.Slots.{recalled}
 use Rattle.dead.proofs.recall.Statement.{statement}
 use Rattle.dead.proofs.recall.Tie as tie

@@ -1,20 +1,19 @@
--- `same` meets its contract: at the loop's head the first i numbers are the same.
+-- `same` meets its contract: at the loop's head the first k numbers are the same.
 use borrow.Author.Needs.{needs}
 use borrow.Author.Count.{below-more}
 use native.Mathlib.Omega.{arith}
 use mathlib.Core.Bool.{true≢false}
-use mathlib.Core.Path.{_≡_, sym, _∙_}
+use mathlib.Core.Path.{sym, _∙_}
 use Prim.Native.Nat.{_-_, _≤_}
-use lib.ListN.{length}
 use Rattle.dead.proofs.Agreeing.{Agree, agree-all}
 use Rattle.dead.proofs.same.Statement.{statement}
 use Rattle.dead.proofs.same.Tie as tie
 
 abbrev Inv-loop : tie.InvT-loop
-Inv-loop slot key i₀ i = (i ≤ 40) × Agree slot key i
+Inv-loop slot key k₀ k = (k ≤ 40) × Agree slot key k
 
 abbrev μ-loop : tie.MeasureT-loop
-μ-loop slot key i₀ i = 40 - i
+μ-loop slot key k₀ k = 40 - k
 
 loop-holds : tie.Need-loop-holds Inv-loop μ-loop
 loop-holds c = search needs
@@ -37,8 +36,8 @@ element-copy-out-if1 c = search needs
 returns : tie.Need-returns Inv-loop μ-loop
 returns c = λ e. absurd (true≢false (sym e))
 
-add-i : tie.Need-add-i Inv-loop μ-loop
-add-i c = search needs
+add-k : tie.Need-add-k Inv-loop μ-loop
+add-k c = search needs
 
 loop-less : tie.Need-loop-less Inv-loop μ-loop
 loop-less c = search needs
@@ -53,7 +52,7 @@ returns-2 c =
     let at = c .before in
     let a = at .before .before .args in
     let pre = at .before .before .pre in
-    λ e. agree-all (a .slot .now) (a .key .now) 40 (pre .0) (pre .1) (λ k h. at .loop .inv .1 k (omega (arith, c .loop-test .left)))
+    λ e. agree-all (a .slot .now) (a .key .now) 40 (pre .0) (pre .1) (λ i h. at .loop .inv .1 i (omega (arith, c .loop-test .left)))
 
 pub same-spec : {M : Type 1} → statement M
 same-spec =
@@ -68,7 +67,7 @@ same-spec =
     mul-if1
     element-copy-out-if1
     returns
-    add-i
+    add-k
     loop-less
     loop-again
     returns-2)

@@ -13,7 +13,7 @@ rem-result : tie.Need-rem-result
 rem-result c = search needs
 
 returns : tie.Need-returns
-returns c = omega (arith, mod-lt (c .hash-of .result / 256) {m = c .before .args .size / 40} (omega arith))
+returns c = omega (arith, mod-lt (c .hash-of .result) {m = c .before .args .size / 40} (omega arith))
 
 pub slot-of-spec : {M : Type 1} → statement M
 slot-of-spec = tie.close (tie.spec hash-of-requires rem-result returns)

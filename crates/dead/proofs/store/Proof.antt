@@ -1,4 +1,4 @@
--- `store` meets its contract: at the loop's head the first i numbers are stored.
+-- `store` meets its contract: at the loop's head the numbers before `at` are stored.
 use borrow.Author.Needs.{needs}
 use native.Mathlib.Omega.{arith}
 use mathlib.Core.Path.{_≡_, refl}
@@ -10,10 +10,10 @@ use Rattle.dead.proofs.store.Statement.{statement}
 use Rattle.dead.proofs.store.Tie as tie
 
 abbrev Inv-loop : tie.InvT-loop
-Inv-loop slot₀ key i₀ slot i = (i ≤ 40) × ((length slot ≡ 40) × Agree slot key i)
+Inv-loop slot₀ key at₀ slot at = (at ≤ 40) × ((length slot ≡ 40) × Agree slot key at)
 
 abbrev μ-loop : tie.MeasureT-loop
-μ-loop slot₀ key i₀ slot i = 40 - i
+μ-loop slot₀ key at₀ slot at = 40 - at
 
 loop-holds : tie.Need-loop-holds Inv-loop μ-loop
 loop-holds c = search needs
@@ -26,7 +26,7 @@ element-copy-out-slot c = search needs
 
 cast-slot : tie.Need-cast-slot Inv-loop μ-loop
 unfolding Narrow
-cast-slot c = let at = c .before .before in omega (arith, at .before .pre .1 .1 (at .loop .i) (omega arith))
+cast-slot c = let at = c .before .before in omega (arith, at .before .pre .1 .1 (at .loop .at) (omega arith))
 
 mul-slot-2 : tie.Need-mul-slot-2 Inv-loop μ-loop
 mul-slot-2 c = search needs
@@ -34,8 +34,8 @@ mul-slot-2 c = search needs
 slice-write-slot : tie.Need-slice-write-slot Inv-loop μ-loop
 slice-write-slot c = search needs
 
-add-i : tie.Need-add-i Inv-loop μ-loop
-add-i c = search needs
+add-at : tie.Need-add-at Inv-loop μ-loop
+add-at c = search needs
 
 loop-less : tie.Need-loop-less Inv-loop μ-loop
 loop-less c = search needs
@@ -43,7 +43,7 @@ loop-less c = search needs
 loop-again : tie.Need-loop-again Inv-loop μ-loop
 loop-again c =
     let at = c .before .before in
-    let i = at .loop .i in
+    let i = at .loop .at in
     let key = at .before .args .key .now in
     (search needs, (search needs, agree-set (at .loop .slot) key i (getD key i 0) (omega arith) refl (at .loop .inv .1 .1)))
 
@@ -68,7 +68,7 @@ store-spec =
     cast-slot
     mul-slot-2
     slice-write-slot
-    add-i
+    add-at
     loop-less
     loop-again
     same-length
