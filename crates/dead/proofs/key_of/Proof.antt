@@ -2,9 +2,8 @@
 use borrow.Author.Needs.{needs}
 use native.Mathlib.Omega.{arith}
 use mathlib.Core.Path.{_≡_, ap, _∙_}
-use mathlib.Core.List.{[], _∷_}
 use Prim.Native.Nat.{ℕ, _+_, _-_, _≤_}
-use lib.ListN.{length, getD, replicate}
+use lib.ListN.{length, getD, take, replicate}
 use lib.Seq.{getD-drop}
 use Rattle.dead.specs.Dead.{keyOf}
 use Rattle.dead.proofs.Agreeing.{Agree, agree-front, agree-set, agree-all}
@@ -47,8 +46,7 @@ array-write-key-8 c = search needs
 loop-holds : tie.Need-loop-holds Inv-loop μ-loop
 loop-holds c =
     let a = c .before .args in
-    let p = a .t1 in
-    (search needs, (search needs, agree-front ((a .pairs + 1) ∷ a .entries ∷ p .from ∷ p .to ∷ p .last ∷ p .nulls ∷ p .surface .letters ∷ p .surface .nulls ∷ []) (replicate 32 0) (p .states)))
+    (search needs, (search needs, agree-front (take 8 (keyOf (a .t1) (a .entries) (a .pairs))) (replicate 32 0) (a .t1 .states)))
 
 element-copy-out-state : tie.Need-element-copy-out-state Inv-loop μ-loop
 element-copy-out-state c = search needs
