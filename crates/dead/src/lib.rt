@@ -42,7 +42,7 @@ fn key_of(place: Place, entries: usize, pairs: usize) -> [usize; 40]
     key
 }
 
-// A hash with one number more: the middle of a product, which each digit of both has a part in.
+// A hash with one number more: the middle of a product.
 fn mix(x: usize, y: usize) -> usize
     requires { ⌜ x < 4294967296 ⌝ }
     ensures { λ r. ⌜ r < 4294967296 ⌝ }
@@ -142,6 +142,7 @@ pub fn remember(table: &mut [u16], place: Place, entries: usize, pairs: usize)
     store(&mut table[at..to], &key);
 }
 
+// What the table tells of a node. With a table no search gives up.
 fn known(table: &[u16], place: Place, entries: usize, pairs: usize) -> Met
     requires { ⌜ (40 ≤ length (now table)) × (pairs ≤ 40) ⌝ }
     ensures dead { λ r. ⌜ (r ≡ Met.Dead → (image : List ℕ) (q : Query) → Remembered image q (now (table .entry)) → DeadAt image q place entries pairs) ⌝ }
