@@ -78,6 +78,10 @@ module _ {image index : List ℕ} {h : Header} {place : Place} {trail : Trail} (
     pub stop-turn : (q : Query) → stopsAfter image (place .last) ≡ true → foundAt image q next trail ≡ stopOne image q place trail
     stop-turn q t = found.stop-one image q place trail (opens-here ∙ o) t next (go image q (trail .entries) (trail .pairs))
 
+  -- what the ending finds, and then what the entries find
+  pub open-parts : (q : Query) → opensAt place ≡ true → foundAt image q place trail ≡ stopOne image q place trail ++ flatMap (entryOne image q place trail) (below (h .entries))
+  open-parts q o = found.open-all image q place trail (opens-here ∙ o) ∙ ap (λ (g : Header). stopOne image q place trail ++ flatMap (entryOne image q place trail) (below (g .entries))) same-header
+
   -- with no entry to spare, only what ends; with no pair to spare, only what is complete
   pub open-last : (q : Query) → opensAt place ≡ true → 16 ≤ trail .entries → foundAt image q place trail ≡ stopOne image q place trail
   open-last q o = found.open-full image q place trail (opens-here ∙ o)

@@ -1,4 +1,5 @@
 pub mod Turns
+pub mod Giving
 pub mod Standing
 pub mod Candidates
 pub mod Heads

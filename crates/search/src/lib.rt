@@ -6,8 +6,8 @@ pub mod starts;
 
 ghost use mathlib.Core.Bool.{true};
 ghost use mathlib.Core.Path.{_≡_};
-ghost use Prim.Native.Nat.{_<_, _≤_};
-ghost use lib.ListN.{length, take};
+ghost use Prim.Native.Nat.{ℕ, _<_, _≤_};
+ghost use lib.ListN.{length, take, replicate};
 ghost use Rattle.model.specs.Lists.{below, flatMap};
 ghost use Rattle.model.specs.GrammarOf.{grammarOf};
 ghost use Rattle.model.specs.Rows.{rowCount};
@@ -20,8 +20,11 @@ ghost use Rattle.rows.specs.Fill.{put};
 ghost use Rattle.listing.specs.Asked.{queryBy};
 ghost use Rattle.listing.specs.Search.{foundAt, entryOne};
 ghost use Rattle.filter.specs.Sieve.{MayBe, Writable, Sieve};
+ghost use Rattle.dead.specs.Dead.{Remembered};
 ghost use Rattle.search.specs.Listed.{Listed};
+ghost use Rattle.search.specs.Offered.{Offered};
 ghost use Rattle.search.specs.Here.{opensAt, Underway};
+use dead::Met;
 use image::Header;
 use listing::asked::Asked;
 use listing::level::Level;
@@ -46,12 +49,15 @@ pub fn open(
     out: &mut [u8],
     capacity: usize,
     found: usize,
+    table: &mut [u16],
 ) -> usize
     requires { ⌜ Underway (now image) (now index) (headerOf h) place trail ⌝ }
     requires { ⌜ Sieve (now image) (queryBy asked (now path) (now word)) (now forms) (now masks) (now reach) ⌝ }
     requires { ⌜ opensAt place ≡ true ⌝ }
     requires { ⌜ (capacity ≡ rowCount (now out)) × (found ≤ capacity) ⌝ }
-    ensures { λ r. ⌜ (now (out .exit), r) ≡ offerAll (put capacity) (now (out .entry), found) (foundAt (now (image .entry)) (queryBy asked (now (path .entry)) (now (word .entry))) place trail) ⌝ }
+    requires { ⌜ (1 ≤ length (now table)) × Remembered (now image) (queryBy asked (now path) (now word)) (now table) ⌝ }
+    ensures rows { λ r. ⌜ Offered capacity (now (out .entry), found) (foundAt (now (image .entry)) (queryBy asked (now (path .entry)) (now (word .entry))) place trail) (now (out .exit), r) (length (now (table .entry))) ⌝ }
+    ensures table { λ r. ⌜ Remembered (now (image .entry)) (queryBy asked (now (path .entry)) (now (word .entry))) (now (table .exit)) ⌝ }
 {
     let mut n = found;
     if listing::place::may_stop(image, h, place) {
@@ -71,6 +77,7 @@ pub fn open(
             out,
             capacity,
             n,
+            table,
         );
         if capacity < n {
             return n;
@@ -111,6 +118,7 @@ pub fn open(
             out,
             capacity,
             n,
+            table,
         );
     }
     open_listed(
@@ -130,6 +138,7 @@ pub fn open(
         out,
         capacity,
         n,
+        table,
     )
 }
 
@@ -150,12 +159,15 @@ pub fn open_each(
     out: &mut [u8],
     capacity: usize,
     found: usize,
+    table: &mut [u16],
 ) -> usize
     requires { ⌜ Underway (now image) (now index) (headerOf h) place trail ⌝ }
     requires { ⌜ Sieve (now image) (queryBy asked (now path) (now word)) (now forms) (now masks) (now reach) ⌝ }
     requires { ⌜ (opensAt place ≡ true) × (trail .entries < 16) ⌝ }
     requires { ⌜ (capacity ≡ rowCount (now out)) × (found ≤ capacity) ⌝ }
-    ensures { λ r. ⌜ (now (out .exit), r) ≡ offerAll (put capacity) (now (out .entry), found) (flatMap (entryOne (now (image .entry)) (queryBy asked (now (path .entry)) (now (word .entry))) place trail) (below (h .entries))) ⌝ }
+    requires { ⌜ (1 ≤ length (now table)) × Remembered (now image) (queryBy asked (now path) (now word)) (now table) ⌝ }
+    ensures rows { λ r. ⌜ Offered capacity (now (out .entry), found) (flatMap (entryOne (now (image .entry)) (queryBy asked (now (path .entry)) (now (word .entry))) place trail) (below (h .entries))) (now (out .exit), r) (length (now (table .entry))) ⌝ }
+    ensures table { λ r. ⌜ Remembered (now (image .entry)) (queryBy asked (now (path .entry)) (now (word .entry))) (now (table .exit)) ⌝ }
 {
     let path_asked = asked.path;
     let word_asked = asked.word;
@@ -199,6 +211,7 @@ pub fn open_each(
                 out,
                 capacity,
                 n,
+                table,
             );
             if capacity < n {
                 return n;
@@ -227,13 +240,16 @@ pub fn open_listed(
     out: &mut [u8],
     capacity: usize,
     found: usize,
+    table: &mut [u16],
 ) -> usize
     requires { ⌜ Underway (now image) (now index) (headerOf h) place trail ⌝ }
     requires { ⌜ Sieve (now image) (queryBy asked (now path) (now word)) (now forms) (now masks) (now reach) ⌝ }
     requires { ⌜ (opensAt place ≡ true) × (trail .entries < 16) ⌝ }
     requires { ⌜ ((many ≤ 64) × (many ≤ length (now list))) × Listed (now image) (queryBy asked (now path) (now word)) place trail (take many (now list)) ⌝ }
     requires { ⌜ (capacity ≡ rowCount (now out)) × (found ≤ capacity) ⌝ }
-    ensures { λ r. ⌜ (now (out .exit), r) ≡ offerAll (put capacity) (now (out .entry), found) (flatMap (entryOne (now (image .entry)) (queryBy asked (now (path .entry)) (now (word .entry))) place trail) (below (h .entries))) ⌝ }
+    requires { ⌜ (1 ≤ length (now table)) × Remembered (now image) (queryBy asked (now path) (now word)) (now table) ⌝ }
+    ensures rows { λ r. ⌜ Offered capacity (now (out .entry), found) (flatMap (entryOne (now (image .entry)) (queryBy asked (now (path .entry)) (now (word .entry))) place trail) (below (h .entries))) (now (out .exit), r) (length (now (table .entry))) ⌝ }
+    ensures table { λ r. ⌜ Remembered (now (image .entry)) (queryBy asked (now (path .entry)) (now (word .entry))) (now (table .exit)) ⌝ }
 {
     let mut n = found;
     let mut k: usize = 0;
@@ -259,6 +275,7 @@ pub fn open_listed(
             out,
             capacity,
             n,
+            table,
         );
         if capacity < n {
             return n;
@@ -284,12 +301,27 @@ pub fn pair(
     out: &mut [u8],
     capacity: usize,
     found: usize,
+    table: &mut [u16],
 ) -> usize
     requires { ⌜ Underway (now image) (now index) (headerOf h) place trail ⌝ }
     requires { ⌜ Sieve (now image) (queryBy asked (now path) (now word)) (now forms) (now masks) (now reach) ⌝ }
     requires { ⌜ (capacity ≡ rowCount (now out)) × (found ≤ capacity) ⌝ }
-    ensures { λ r. ⌜ (now (out .exit), r) ≡ offerAll (put capacity) (now (out .entry), found) (foundAt (now (image .entry)) (queryBy asked (now (path .entry)) (now (word .entry))) place trail) ⌝ }
+    requires { ⌜ (1 ≤ length (now table)) × Remembered (now image) (queryBy asked (now path) (now word)) (now table) ⌝ }
+    ensures rows { λ r. ⌜ Offered capacity (now (out .entry), found) (foundAt (now (image .entry)) (queryBy asked (now (path .entry)) (now (word .entry))) place trail) (now (out .exit), r) (length (now (table .entry))) ⌝ }
+    ensures table { λ r. ⌜ Remembered (now (image .entry)) (queryBy asked (now (path .entry)) (now (word .entry))) (now (table .exit)) ⌝ }
 {
+    let entries = trail.entries;
+    let pairs = trail.pairs;
+    let met = dead::meet(table, place, entries, pairs);
+    match met {
+        Met::Dead => {
+            return found;
+        }
+        Met::GaveUp => {
+            return capacity + 2;
+        }
+        Met::On => {}
+    }
     let word_asked = asked.word;
     let led = crate::forced::lead(image, index, h, word_asked, word, place, trail);
     let over = led.over;
@@ -298,7 +330,7 @@ pub fn pair(
     }
     let next = led.place;
     let longer = led.trail;
-    pair_each(
+    let n = pair_each(
         image,
         index,
         h,
@@ -313,7 +345,12 @@ pub fn pair(
         out,
         capacity,
         found,
-    )
+        table,
+    );
+    if n == found {
+        dead::remember(table, place, entries, pairs);
+    }
+    n
 }
 
 // Where a letter is left or the path has ended: the reading that ends here, and then each pair that may come next. Where the path can only end, it does
@@ -333,11 +370,14 @@ pub fn pair_each(
     out: &mut [u8],
     capacity: usize,
     found: usize,
+    table: &mut [u16],
 ) -> usize
     requires { ⌜ Underway (now image) (now index) (headerOf h) place trail ⌝ }
     requires { ⌜ Sieve (now image) (queryBy asked (now path) (now word)) (now forms) (now masks) (now reach) ⌝ }
     requires { ⌜ (capacity ≡ rowCount (now out)) × (found ≤ capacity) ⌝ }
-    ensures { λ r. ⌜ (now (out .exit), r) ≡ offerAll (put capacity) (now (out .entry), found) (foundAt (now (image .entry)) (queryBy asked (now (path .entry)) (now (word .entry))) place trail) ⌝ }
+    requires { ⌜ (1 ≤ length (now table)) × Remembered (now image) (queryBy asked (now path) (now word)) (now table) ⌝ }
+    ensures rows { λ r. ⌜ Offered capacity (now (out .entry), found) (foundAt (now (image .entry)) (queryBy asked (now (path .entry)) (now (word .entry))) place trail) (now (out .exit), r) (length (now (table .entry))) ⌝ }
+    ensures table { λ r. ⌜ Remembered (now (image .entry)) (queryBy asked (now (path .entry)) (now (word .entry))) (now (table .exit)) ⌝ }
 {
     let mut last = place.last;
     let mut n = found;
@@ -358,6 +398,7 @@ pub fn pair_each(
                 out,
                 capacity,
                 found,
+                table,
             );
         }
         last = ENDED;
@@ -397,6 +438,7 @@ pub fn pair_each(
                 out,
                 capacity,
                 n,
+                table,
             );
             if capacity < n {
                 return n;
@@ -407,8 +449,8 @@ pub fn pair_each(
     n
 }
 
-// All readings, from the first lexicon on, with the states that the rules come to at the front; none where one fails there.
-pub fn search(
+// All readings, from the first lexicon on, with the states that the rules come to at the front; none where one fails there. The table is blank.
+fn from_start(
     image: &[u8],
     index: &[u8],
     h: Header,
@@ -417,11 +459,13 @@ pub fn search(
     word: &[u8],
     forms: &[u8],
     out: &mut [u8],
+    table: &mut [u16],
 ) -> usize
     requires { ⌜ Accepted (now image) (headerOf h) ⌝ }
     requires { ⌜ now index ≡ indexOf (now image) ⌝ }
     requires { ⌜ MayBe (now image) (now forms) × Writable (now word) ⌝ }
-    ensures { λ r. ⌜ (now (out .exit), r) ≡ offerAll (put (rowCount (now (out .entry)))) (now (out .entry), 0) (readings (grammarOf (now (image .entry))) (queryBy asked (now (path .entry)) (now (word .entry)))) ⌝ }
+    requires { ⌜ ((n : ℕ) × ((1 ≤ n) × (now table ≡ replicate n 0))) ⌝ }
+    ensures { λ r. ⌜ Offered (rowCount (now (out .entry))) (now (out .entry), 0) (readings (grammarOf (now (image .entry))) (queryBy asked (now (path .entry)) (now (word .entry)))) (now (out .exit), r) (length (now (table .entry))) ⌝ }
 {
     let capacity = out.len() / 116;
     let begun = rules::states::begin_all(image, index, h);
@@ -471,5 +515,70 @@ pub fn search(
         out,
         capacity,
         0,
+        table,
     )
+}
+
+// The same with a table that only counts: where that gives up, a beginning of the rows is written, and two more are told than there is room for.
+pub fn try_search(
+    image: &[u8],
+    index: &[u8],
+    h: Header,
+    asked: Asked,
+    path: &[u8],
+    word: &[u8],
+    forms: &[u8],
+    out: &mut [u8],
+) -> usize
+    requires { ⌜ Accepted (now image) (headerOf h) ⌝ }
+    requires { ⌜ now index ≡ indexOf (now image) ⌝ }
+    requires { ⌜ MayBe (now image) (now forms) × Writable (now word) ⌝ }
+    ensures { λ r. ⌜ Offered (rowCount (now (out .entry))) (now (out .entry), 0) (readings (grammarOf (now (image .entry))) (queryBy asked (now (path .entry)) (now (word .entry)))) (now (out .exit), r) 1 ⌝ }
+{
+    let mut table = [0u16; 1];
+    from_start(image, index, h, asked, path, word, forms, out, &mut table)
+}
+
+// The same with a table that remembers dead ends: it does not give up.
+pub fn search_long(
+    image: &[u8],
+    index: &[u8],
+    h: Header,
+    asked: Asked,
+    path: &[u8],
+    word: &[u8],
+    forms: &[u8],
+    out: &mut [u8],
+) -> usize
+    requires { ⌜ Accepted (now image) (headerOf h) ⌝ }
+    requires { ⌜ now index ≡ indexOf (now image) ⌝ }
+    requires { ⌜ MayBe (now image) (now forms) × Writable (now word) ⌝ }
+    ensures { λ r. ⌜ (now (out .exit), r) ≡ offerAll (put (rowCount (now (out .entry)))) (now (out .entry), 0) (readings (grammarOf (now (image .entry))) (queryBy asked (now (path .entry)) (now (word .entry)))) ⌝ }
+{
+    let mut table = [0u16; 40960];
+    from_start(image, index, h, asked, path, word, forms, out, &mut table)
+}
+
+// All readings: dead ends are remembered only where the search turns out long. The rows that were written before are written again.
+pub fn search(
+    image: &[u8],
+    index: &[u8],
+    h: Header,
+    asked: Asked,
+    path: &[u8],
+    word: &[u8],
+    forms: &[u8],
+    out: &mut [u8],
+) -> usize
+    requires { ⌜ Accepted (now image) (headerOf h) ⌝ }
+    requires { ⌜ now index ≡ indexOf (now image) ⌝ }
+    requires { ⌜ MayBe (now image) (now forms) × Writable (now word) ⌝ }
+    ensures { λ r. ⌜ (now (out .exit), r) ≡ offerAll (put (rowCount (now (out .entry)))) (now (out .entry), 0) (readings (grammarOf (now (image .entry))) (queryBy asked (now (path .entry)) (now (word .entry)))) ⌝ }
+{
+    let capacity = out.len() / 116;
+    let found = try_search(image, index, h, asked, path, word, forms, out);
+    if found < capacity + 2 {
+        return found;
+    }
+    search_long(image, index, h, asked, path, word, forms, out)
 }

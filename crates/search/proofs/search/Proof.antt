@@ -1,99 +1,40 @@
--- `search` meets its contract: from the root, all readings; none where a rule fails at the front.
+-- `search` meets its contract: what was given up is searched again, over the rows that it left.
 use borrow.Author.Needs.{needs}
-use borrow.Author.Tests.{not-true, not-false}
 use native.Mathlib.Omega.{arith}
-use mathlib.Core.Bool.{Bool, true, false}
-use mathlib.Core.Path.{_≡_, refl, sym, ap, _∙_, subst}
-use lib.Seq.{length-take-le}
-use Rattle.model.specs.Rows.{rowCount}
-use Rattle.rules.specs.Live.{BegunOf}
-use Rattle.rows.specs.Offering.{offerAll}
+use mathlib.Core.Path.{_≡_, refl, sym, ap, _∙_}
+use Prim.Native.Nat.{ℕ, _/_}
+use mathlib.Core.List.{List}
+use lib.ListN.{length}
 use Rattle.rows.specs.Fill.{put}
-use Rattle.listing.specs.Asked.{pathPattern, queryBy}
-use Rattle.search.specs.Here.{opensAt}
-use Rattle.search.proofs.Starting.{start-underway, start-found, dead-found}
+use Rattle.rows.specs.Offering.{offerAll}
+use Rattle.rows.proofs.Offering.{offer-by}
+use Rattle.search.proofs.Giving.{offered-all, offered-again}
 use Rattle.search.proofs.search.Statement.{statement}
 use Rattle.search.proofs.search.Tie as tie
 
--- the front
-module _ (c : tie.After-begin-all) where
-  abbrev start : tie.Start
-  start = c .before .before .before .before .before .before .before
+try-search-requires : tie.Need-try-search-requires
+try-search-requires c κs = search needs
 
-  front : (b : Bool) → c .begin-all .result .alive ≡ b → BegunOf (start .args .image .now) b (c .begin-all .result .states)
-  front b e = subst (λ (b : Bool). BegunOf (start .args .image .now) b (c .begin-all .result .states)) e (c .begin-all .ensures)
-
--- the empty trail, and the root that stands beside it
-module _ (c : tie.After-no-trail) where
-  abbrev beginning : tie.After-begin-all
-  beginning = c .before .before .before
-
-  begun : BegunOf (start beginning .args .image .now) true (beginning .begin-all .result .states)
-  begun = front beginning true (not-false (beginning .begin-all .result .alive) (c .before .before .if1 .left))
-
-begin-all-requires : tie.Need-begin-all-requires
-begin-all-requires c κs = search needs
-
-returns : tie.Need-returns
-unfolding offerAll
-returns c =
-    let d = c .before in
-    let a = start d .args in
-    sym (ap (offerAll (put (rowCount (a .out .now))) (a .out .now, 0)) (dead-found (a .image .now) (queryBy (a .asked) (a .path .now) (a .word .now)) (d .begin-all .result .states) (front d false (not-true (d .begin-all .result .alive) (c .if1 .taken)))))
-
-no-trail-requires : tie.Need-no-trail-requires
-no-trail-requires c κs = search needs
-
-slice-aggregate-prepare : tie.Need-slice-aggregate-prepare
-slice-aggregate-prepare c = search needs
-
-slice-aggregate-prepare-2 : tie.Need-slice-aggregate-prepare-2
-slice-aggregate-prepare-2 c = search needs
-
-prepare-requires : tie.Need-prepare-requires
-prepare-requires c κs = let s = c .before .before .before .before .before .before .before .before .before .before .before .before in (s .pre .0, (s .pre .1 .0, (s .pre .1 .1, (refl, refl))))
-
-slice-aggregate-open : tie.Need-slice-aggregate-open
-slice-aggregate-open c = sym (length-take-le (c .before .before .before .prepare .result) (c .before .before .before .before .before .before .before .before .before .before .before .before .before .before .before .before .args .forms .now) (c .before .before .before .prepare .ensures .0))
-
-slice-aggregate-open-2 : tie.Need-slice-aggregate-open-2
-slice-aggregate-open-2 c = search needs
-
-slice-aggregate-open-3 : tie.Need-slice-aggregate-open-3
-slice-aggregate-open-3 c = search needs
-
-open-requires : tie.Need-open-requires
-unfolding opensAt
-open-requires c κs =
-    let t = c .before .before .before .before .before .before .before .before .before in
-    let s = start (beginning t) in
-    let a = s .args in
-    (start-underway (s .pre .0) (s .pre .1 .0) (begun t) (t .no-trail .ensures), (c .before .before .before .before .before .before .prepare .ensures .1 (pathPattern (a .asked .path) (a .path .now)), (refl, (refl, omega arith))))
+add-if1 : tie.Need-add-if1
+add-if1 c = search needs
 
 same-length : tie.Need-same-length
 same-length c = search needs
 
+returns : tie.Need-returns
+returns c = offered-all (c .if1 .taken) (c .before .before .before .try-search .ensures)
+
+search-long-requires : tie.Need-search-long-requires
+search-long-requires c κs = search needs
+
+same-length-2 : tie.Need-same-length-2
+same-length-2 c = search needs
+
 returns-2 : tie.Need-returns-2
 returns-2 c =
-    let t = c .before .before .before .before .before .before .before .before .before .before .before .before in
-    let s = start (beginning t) in
-    let a = s .args in
-    c .before .before .«open» .ensures
-    ∙ ap (offerAll (put (rowCount (a .out .now))) (a .out .now, 0)) (start-found (s .pre .0) (s .pre .1 .0) (begun t) (t .no-trail .ensures) (queryBy (a .asked) (a .path .now) (a .word .now)))
+    let first = c .before .before .before .before .before .before .before .try-search in
+    let kept = first .kept .1 .1 .1 .1 .1 .1 .1 .0 in
+    offered-again (omega (arith, c .before .before .before .before .if1 .left)) (first .ensures) (c .before .before .search-long .ensures ∙ offer-by (ap (λ (n : ℕ). put (n / 116)) kept) _ _)
 
 pub search-spec : {M : Type 1} → statement M
-search-spec =
-    tie.close
-    (tie.spec
-    begin-all-requires
-    returns
-    no-trail-requires
-    slice-aggregate-prepare
-    slice-aggregate-prepare-2
-    prepare-requires
-    slice-aggregate-open
-    slice-aggregate-open-2
-    slice-aggregate-open-3
-    open-requires
-    same-length
-    returns-2)
+search-spec = tie.close (tie.spec try-search-requires add-if1 same-length returns search-long-requires same-length-2 returns-2)

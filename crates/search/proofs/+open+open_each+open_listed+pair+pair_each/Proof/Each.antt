@@ -5,7 +5,7 @@ use native.Mathlib.Decide.{decLt}
 use native.Mathlib.Omega.{arith}
 use borrow.Author.Needs.{needs}
 use mathlib.Core.Bool.{Bool, false}
-use mathlib.Core.Logic.{⊎-elim}
+use mathlib.Core.Logic.{inl, inr, ⊎-elim}
 use mathlib.Core.Path.{_≡_, refl, sym, ap, _∙_, subst}
 use mathlib.Core.List.{List, []}
 use lib.ListN.{length, set}
@@ -24,11 +24,12 @@ use Rattle.listing.specs.declared.opening.Range.{Range}
 use Rattle.listing.specs.Asked.{pathPattern, queryBy}
 use Rattle.listing.specs.Opening.{mayEnter, WaysOf, NextOf}
 use Rattle.listing.proofs.Searching.{stopOne, stop-none}
-use Rattle.search.proofs.Turns.{turns-none, turns-more, turns-skip, turns-far, turns-stop, turns-all, turns-is, state-is}
-use Rattle.search.proofs.Heads.{Opening, last-in, stop-fills, stop-underway, stop-less, stop-turn, open-last, entry-few, open-offered, entry-none, open-underway, open-less, open-turn}
+use Rattle.search.proofs.Turns.{turns-none, turns-more, turns-skip, turns-far, turns-stop, turns-all, turns-is}
+use Rattle.search.proofs.Giving.{gave-turn, offered-same, offered-all}
+use Rattle.search.proofs.Heads.{Opening, last-in, entry-few, entry-none, open-underway, open-less, open-turn}
 use Rattle.search.proofs.FirstLetters.{Known, known-none, known-more}
 use Rattle.search.proofs.+open+open_each+open_listed+pair+pair_each.Lts-open_each as lts
-use Rattle.search.proofs.+open+open_each+open_listed+pair+pair_each.Proof.Shared.{OfEach}
+use Rattle.search.proofs.+open+open_each+open_listed+pair+pair_each.Proof.Shared.{Tabled, OfEach}
 
 -- none may open before the next one
 before-next : {may : ℕ → Bool} {bound e : ℕ} {ways : Range} → WaysOf may bound ways → NextOf may bound (ways .low) e → (k : ℕ) → k < e → may k ≡ false
@@ -57,7 +58,7 @@ module _ (t : ℕ) where
 
   -- from each of them back to the one before
   abbrev start : Head → OfEach t lts.Start
-  start w = w .before .before .before .before .before .before .before .before .before .before
+  start w = w .before .before .before .before .before .before .before .before .before .before .before
 
   abbrev head : Turn → Head
   head c = c .before .before
@@ -76,14 +77,14 @@ module _ (t : ℕ) where
 
   pub ways-on-requires : OfEach t lts.Need-ways-on-requires
   ways-on-requires c κs =
-      let s = c .before .before .before .before .before .before .before .before in
+      let s = c .before .before .before .before .before .before .before .before .before in
       let underway = s .pre .1 .0 in
       (underway .accepted, (underway .indexed, last-in underway (s .pre .1 .1 .1 .0 .0)))
 
   -- the entries that may open
-  ways : (w : OfEach t lts.After-ways-on) → let a = w .before .before .before .before .before .before .before .before .before .args in WaysOf (mayEnter (a .image .now) (query (w .before .before .before .before .before .before .before .before .before) .entries) (a .place .last) (a .trail .entries)) (a .h .entries) (w .ways-on .result)
+  ways : (w : OfEach t lts.After-ways-on) → let a = w .before .before .before .before .before .before .before .before .before .before .args in WaysOf (mayEnter (a .image .now) (query (w .before .before .before .before .before .before .before .before .before .before) .entries) (a .place .last) (a .trail .entries)) (a .h .entries) (w .ways-on .result)
   ways w =
-      let s = w .before .before .before .before .before .before .before .before .before in
+      let s = w .before .before .before .before .before .before .before .before .before .before in
       let a = s .args in
       subst (λ (n : ℕ). WaysOf (mayEnter (a .image .now) (query s .entries) (a .place .last) (a .trail .entries)) n (w .ways-on .result)) (ap (λ (g : Header). g .entries) (sym (s .pre .1 .0 .accepted .laid .header-is))) (w .ways-on .ensures)
 
@@ -97,7 +98,7 @@ module _ (t : ℕ) where
       let r = ways (c .before) in
       let next = c .next-entry .ensures _ r in
       let none : (e : ℕ) → e < c .next-entry .result → entryOne (a .image .now) (query s) (a .place) (a .trail) e ≡ [] = λ e k. entry-none (opening c) (query s) e (before-next r next e k) in
-      ((next .onward, (next .in-bound, next .passes)), ((refl, s .pre .1 .1 .1 .1 .1), (turns-far (c .next-entry .result) turns-none (omega arith) (λ e i k. none e k), known-none)))
+      ((refl, s .pre .1 .1 .1 .1 .1 .1), ((next .onward, (next .in-bound, next .passes)), ((refl, s .pre .1 .1 .1 .1 .0 .1), (turns-far (c .next-entry .result) turns-none (omega arith) (λ e i k. none e k), known-none))))
 
   pub first-letter-requires : OfEach t lts.Need-first-letter-requires
   first-letter-requires c κs = (opening (head c) .underway .accepted, c .loop-test .taken)
@@ -129,8 +130,8 @@ module _ (t : ℕ) where
       let letter = first .before .first-letter in
       let a = start w .args in
       ⊎-elim
-      (λ v. rw (v .2) (known-more (loop .inv .1 .1 .1) (loop .e) (letter .result .0) (v .1 .result) (letter-few first) (letter .ensures .0) (v .1 .ensures (pathPattern (a .asked .path) (a .path .now)))))
-      (λ v. rw (v .1) (loop .inv .1 .1 .1))
+      (λ v. rw (v .2) (known-more (loop .inv .1 .1 .1 .1) (loop .e) (letter .result .0) (v .1 .result) (letter-few first) (letter .ensures .0) (v .1 .ensures (pathPattern (a .asked .path) (a .path .now)))))
+      (λ v. rw (v .1) (loop .inv .1 .1 .1 .1))
       (c .if1 .came)
 
   pub array-read-if2 : OfEach t lts.Need-array-read-if2
@@ -168,7 +169,7 @@ module _ (t : ℕ) where
 
   pub pair-requires : OfEach t lts.Need-pair-requires
   pair-requires c κs =
-      let at = c .before in
+      let at = c .before .before in
       let here = entered at in
       let w = head here in
       let s = start w in
@@ -177,33 +178,44 @@ module _ (t : ℕ) where
       let next = at .enter in
       let holds = longer here in
       let less = open-less o (loop .e) holds (next .result) (next .ensures .0) (query s) in
-      (omega (arith, s .pre .0, less), (open-underway o (loop .e) holds (next .result) (next .ensures .0) (next .ensures .1), (s .pre .1 .1 .0, (rw (loop .inv .1 .0 .0) (s .pre .1 .1 .1 .1 .0), loop .inv .1 .0 .1))))
+      (omega (arith, s .pre .0, less), (open-underway o (loop .e) holds (next .result) (next .ensures .0) (next .ensures .1), (s .pre .1 .1 .0, ((rw (loop .inv .1 .1 .0 .0) (s .pre .1 .1 .1 .1 .0 .0), loop .inv .1 .1 .0 .1), (omega (arith, s .pre .1 .1 .1 .1 .1 .0, loop .inv .0 .0), loop .inv .0 .1)))))
 
-  -- the rows are full
+  -- the rows are full, or the search is given up
   pub same-length : OfEach t lts.Need-same-length
   same-length c =
-      let made = c .before .before .before in
-      let here = entered (made .before .before) in
-      made .pair .kept .1 .1 .1 .1 .1 .1 .1 .1 .1 .1 .1 .0 ∙ here .before .loop .inv .1 .0 .0
+      let made = c .before .before .before .before .before in
+      let here = entered (made .before .before .before) in
+      made .pair .kept .1 .1 .1 .1 .1 .1 .1 .1 .1 .1 .1 .0 ∙ here .before .loop .inv .1 .1 .0 .0
+
+  pub same-length-2 : OfEach t lts.Need-same-length-2
+  same-length-2 c =
+      let made = c .before .before .before .before .before in
+      let here = entered (made .before .before .before) in
+      made .pair .kept .1 .1 .1 .1 .1 .1 .1 .1 .1 .1 .1 .1 .1 .1 .0 ∙ here .before .loop .inv .0 .0
 
   pub returns : OfEach t lts.Need-returns
   returns c =
-      let made = c .before .before .before in
-      let at = made .before .before in
+      let made = c .before .before .before .before .before in
+      let at = made .before .before .before in
       let here = entered at in
       let w = head here in
       let s = start w in
       let loop = here .before .loop in
       let next = at .enter in
-      turns-stop (put-keeps (s .args .capacity)) (s .args .h .entries)
-      (turns-more _ (loop .inv .1 .1 .0) (made .pair .ensures) (open-turn (opening w) (loop .e) (longer here) (next .result) (next .ensures .0) (query s) (loop .inv .0 .1 .1 (here .loop-test .taken))))
-      (omega (arith, here .loop-test .taken)) (c .if3 .taken)
+      let passed = loop .inv .1 .1 .1 .0 in
+      let turn = open-turn (opening w) (loop .e) (longer here) (next .result) (next .ensures .0) (query s) (loop .inv .1 .0 .1 .1 (here .loop-test .taken)) in (
+        ⊎-elim
+            (λ e. inl (turns-stop (put-keeps (s .args .capacity)) (s .args .h .entries) (turns-more _ passed e refl) (omega (arith, here .loop-test .taken)) (c .if3 .taken)))
+            (λ g. inr (gave-turn (s .args .h .entries) passed (here .loop-test .taken) g))
+            (offered-same turn (loop .inv .0 .0) (made .pair .ensures .0)),
+        made .pair .ensures .1,
+      )
 
   pub add-next-entry : OfEach t lts.Need-add-next-entry
   add-next-entry c = let here = turn (c .before .before) in omega (arith, entry-few (opening (head here)) (here .before .loop .e) (here .loop-test .taken))
 
   pub next-entry-requires-2 : OfEach t lts.Need-next-entry-requires-2
-  next-entry-requires-2 c κs = let here = turn (c .before .before) in (omega (arith, here .before .loop .inv .0 .0), omega (arith, here .loop-test .taken))
+  next-entry-requires-2 c κs = let here = turn (c .before .before) in (omega (arith, here .before .loop .inv .1 .0 .0), omega (arith, here .loop-test .taken))
 
   pub loop-less : OfEach t lts.Need-loop-less
   loop-less c =
@@ -222,27 +234,34 @@ module _ (t : ℕ) where
       let loop = here .before .loop in
       let letter = joined .before .before .first-letter in
       let next = c .next-entry2 .ensures _ (ways (w .before)) in
+      let known : List ℕ → Type 0 = Tabled (s .args .image .now) (query s) (s .args .table .now) in
       let passed =
       ⊎-elim
-      (λ v. turns-is (turns-more _ (loop .inv .1 .1 .0) (v .3 .ensures) (open-turn o (loop .e) (longer here) (v .1 .result) (v .1 .ensures .0) (query s) (loop .inv .0 .1 .1 (here .loop-test .taken)))) (v .7) (v .8))
-      (λ v. turns-is (turns-skip (loop .inv .1 .1 .0) (looked joined .barren (letter .result .0) (v .0 .left) (loop .e) (sym (letter .ensures .0)))) (v .1) (v .2))
+      (λ v. turns-is (turns-more _ (loop .inv .1 .1 .1 .0) (offered-all (omega (arith, v .9 .left)) (v .4 .ensures .0)) (open-turn o (loop .e) (longer here) (v .1 .result) (v .1 .ensures .0) (query s) (loop .inv .1 .0 .1 .1 (here .loop-test .taken)))) (v .10) (v .12))
+      (λ v. turns-is (turns-skip (loop .inv .1 .1 .1 .0) (looked joined .barren (letter .result .0) (v .0 .left) (loop .e) (sym (letter .ensures .0)))) (v .1) (v .3))
       (done .if2 .came) in (
-        (omega (arith, next .onward, loop .inv .0 .0), (next .in-bound, next .passes)),
+        ⊎-elim (λ v. subst known (sym (v .11)) (v .4 .kept .1 .1 .1 .1 .1 .1 .1 .1 .1 .1 .1 .1 .1 .1 .0 ∙ loop .inv .0 .0, v .4 .ensures .1)) (λ v. subst known (sym (v .2)) (loop .inv .0)) (done .if2 .came),
         (
+          (omega (arith, next .onward, loop .inv .1 .0 .0), (next .in-bound, next .passes)),
           (
-            ⊎-elim (λ v. ap length (v .7) ∙ v .3 .kept .1 .1 .1 .1 .1 .1 .1 .1 .1 .1 .1 .0 ∙ loop .inv .1 .0 .0) (λ v. ap length (v .1) ∙ loop .inv .1 .0 .0) (done .if2 .came),
-            ⊎-elim (λ v. omega (arith, v .8, v .6 .left)) (λ v. omega (arith, v .2, loop .inv .1 .0 .1)) (done .if2 .came),
+            (
+              ⊎-elim (λ v. ap length (v .10) ∙ v .4 .kept .1 .1 .1 .1 .1 .1 .1 .1 .1 .1 .1 .0 ∙ loop .inv .1 .1 .0 .0) (λ v. ap length (v .1) ∙ loop .inv .1 .1 .0 .0) (done .if2 .came),
+              ⊎-elim (λ v. omega (arith, v .12, v .9 .left)) (λ v. omega (arith, v .3, loop .inv .1 .1 .0 .1)) (done .if2 .came),
+            ),
+            (turns-far (c .next-entry2 .result) passed (next .onward) (λ e i k. entry-none o (query s) e (next .passed e i k)), looked joined),
           ),
-          (turns-far (c .next-entry2 .result) passed (next .onward) (λ e i k. entry-none o (query s) e (next .passed e i k)), looked joined),
         ),
       )
 
-  pub same-length-2 : OfEach t lts.Need-same-length-2
-  same-length-2 c = c .before .loop .inv .1 .0 .0
+  pub same-length-3 : OfEach t lts.Need-same-length-3
+  same-length-3 c = c .before .loop .inv .1 .1 .0 .0
+
+  pub same-length-4 : OfEach t lts.Need-same-length-4
+  same-length-4 c = c .before .loop .inv .0 .0
 
   pub returns-2 : OfEach t lts.Need-returns-2
   returns-2 c =
       let at = c .before in
       let w = at .before in
       let s = start w in
-      turns-all (s .args .h .entries) (at .loop .inv .1 .1 .0) (omega (arith, c .loop-test .left, at .loop .inv .0 .1 .0))
+      (inl (turns-all (s .args .h .entries) (at .loop .inv .1 .1 .1 .0) (omega (arith, c .loop-test .left, at .loop .inv .1 .0 .1 .0))), at .loop .inv .0 .1)

@@ -3,6 +3,7 @@ use Prim.Native.Nat.{ℕ, _+_, _<_, _≤_}
 use native.Mathlib.Omega.{arith}
 use borrow.Author.Needs.{needs}
 use mathlib.Core.Bool.{true}
+use mathlib.Core.Logic.{inl, inr, ⊎-elim}
 use mathlib.Core.Path.{_≡_, refl, sym, ap, _∙_, subst}
 use mathlib.Core.List.{List}
 use lib.ListN.{length, getD, take, set}
@@ -19,8 +20,10 @@ use Rattle.rows.proofs.Longer.{longer-entry}
 use Rattle.rows.proofs.Fill.{put-keeps}
 use Rattle.listing.specs.Asked.{queryBy}
 use Rattle.listing.specs.Opening.{mayEnter}
-use Rattle.listing.specs.Search.{entryOne}
-use Rattle.search.proofs.Turns.{Turns, turns-none, turns-more, turns-stop, turns-all}
+use Rattle.listing.specs.Search.{foundAt, entryOne}
+use Rattle.search.specs.Offered.{Offered}
+use Rattle.search.proofs.Turns.{turns-none, turns-more, turns-stop, turns-all}
+use Rattle.search.proofs.Giving.{gave-same, gave-turn, offered-same, offered-all}
 use Rattle.search.proofs.Heads.{Opening, entry-few, open-underway, open-less, open-turn}
 use Rattle.search.proofs.+open+open_each+open_listed+pair+pair_each.Lts-open_listed as lts
 use Rattle.search.proofs.+open+open_each+open_listed+pair+pair_each.Proof.Shared.{OfListed}
@@ -34,7 +37,7 @@ module _ (t : ℕ) where
   Entered = OfListed t lts.After-enter
 
   abbrev start : Turn → OfListed t lts.Start
-  start c = c .before .before .before .before .before .before .before .before .before .before .before
+  start c = c .before .before .before .before .before .before .before .before .before .before .before .before
 
   abbrev turn : Entered → Turn
   turn c = c .before .before
@@ -65,43 +68,45 @@ module _ (t : ℕ) where
       (omega (arith, m .0, n, ap (λ (g : Header). g .entries) (s .pre .1 .0 .accepted .laid .header-is)), ap (mayEnter (a .image .now) (query s .entries) (a .place .last) (a .trail .entries)) (sym n) ∙ m .1)
 
   -- what all entries find is what those of the list do
-  whole : (s : OfListed t lts.Start) {state : List ℕ × ℕ} → let a = s .args in
-      state ≡ offerAll (put (a .capacity)) (a .out .now, a .found) (flatMap (λ i. entryOne (a .image .now) (query s) (a .place) (a .trail) (getD (take (a .many) (a .list .now)) i 0)) (below (a .many)))
-      → state ≡ offerAll (put (a .capacity)) (a .out .now, a .found) (flatMap (entryOne (a .image .now) (query s) (a .place) (a .trail)) (below (a .h .entries)))
-  whole s e =
+  all-are : (s : OfListed t lts.Start) → let a = s .args in
+      flatMap (λ i. entryOne (a .image .now) (query s) (a .place) (a .trail) (getD (take (a .many) (a .list .now)) i 0)) (below (a .many)) ≡ flatMap (entryOne (a .image .now) (query s) (a .place) (a .trail)) (below (a .h .entries))
+  all-are s =
       let a = s .args in
       let f = entryOne (a .image .now) (query s) (a .place) (a .trail) in
       let g : ℕ → List Reading = λ i. f (getD (take (a .many) (a .list .now)) i 0) in
-      e
-      ∙ ap (offerAll (put (a .capacity)) (a .out .now, a .found))
-      (ap (λ (m : ℕ). flatMap g (below m)) (sym (many-are s)) ∙ sym (s .pre .1 .1 .1 .1 .0 .1 .all) ∙ ap (λ (h : Header). flatMap f (below (h .entries))) (sym (s .pre .1 .0 .accepted .laid .header-is)))
+      ap (λ (m : ℕ). flatMap g (below m)) (sym (many-are s)) ∙ sym (s .pre .1 .1 .1 .1 .0 .1 .all) ∙ ap (λ (h : Header). flatMap f (below (h .entries))) (sym (s .pre .1 .0 .accepted .laid .header-is))
+
+  whole : (s : OfListed t lts.Start) {state : List ℕ × ℕ} → let a = s .args in
+      state ≡ offerAll (put (a .capacity)) (a .out .now, a .found) (flatMap (λ i. entryOne (a .image .now) (query s) (a .place) (a .trail) (getD (take (a .many) (a .list .now)) i 0)) (below (a .many)))
+      → state ≡ offerAll (put (a .capacity)) (a .out .now, a .found) (flatMap (entryOne (a .image .now) (query s) (a .place) (a .trail)) (below (a .h .entries)))
+  whole s e = let a = s .args in e ∙ ap (offerAll (put (a .capacity)) (a .out .now, a .found)) (all-are s)
 
   pub loop-holds : OfListed t lts.Need-loop-holds
-  loop-holds c = let s = c .before .before .before .before .before .before .before .before .before in (omega arith, ((refl, s .pre .1 .1 .1 .1 .1 .1), turns-none))
+  loop-holds c = let s = c .before .before .before .before .before .before .before .before .before .before in ((refl, s .pre .1 .1 .1 .1 .1 .1 .1), (omega arith, ((refl, s .pre .1 .1 .1 .1 .1 .0 .1), turns-none)))
 
   pub mul-e : OfListed t lts.Need-mul-e
   mul-e c = record { fits = omega (arith, c .loop-test .taken, start c .pre .1 .1 .1 .1 .0 .0 .0) }
 
   pub shared-slice-read-e : OfListed t lts.Need-shared-slice-read-e
-  shared-slice-read-e c = omega (arith, c .before .loop-test .taken, c .before .before .before .before .before .before .before .before .before .before .before .before .pre .1 .1 .1 .1 .0 .0 .1)
+  shared-slice-read-e c = omega (arith, c .before .loop-test .taken, c .before .before .before .before .before .before .before .before .before .before .before .before .before .pre .1 .1 .1 .1 .0 .0 .1)
 
   pub cast-e : OfListed t lts.Need-cast-e
-  cast-e c = record { fits = omega (arith, entry-few (opening (c .before .before .before .before .before .before .before .before .before .before .before .before)) (number (c .before)) (may (c .before) .0)) }
+  cast-e c = record { fits = omega (arith, entry-few (opening (c .before .before .before .before .before .before .before .before .before .before .before .before .before)) (number (c .before)) (may (c .before) .0)) }
 
   pub enter-requires : OfListed t lts.Need-enter-requires
-  enter-requires c κs = let underway = c .before .before .before .before .before .before .before .before .before .before .before .before .pre .1 .0 in (underway .accepted, (underway .stands, may (c .before) .0))
+  enter-requires c κs = let underway = c .before .before .before .before .before .before .before .before .before .before .before .before .before .pre .1 .0 in (underway .accepted, (underway .stands, may (c .before) .0))
 
   pub cast-longer : OfListed t lts.Need-cast-longer
-  cast-longer c = record { fits = omega (arith, entry-few (opening (c .before .before .before .before .before .before .before .before .before .before .before .before .before)) (number (turn c)) (may (turn c) .0)) }
+  cast-longer c = record { fits = omega (arith, entry-few (opening (c .before .before .before .before .before .before .before .before .before .before .before .before .before .before)) (number (turn c)) (may (turn c) .0)) }
 
   pub mul-longer : OfListed t lts.Need-mul-longer
-  mul-longer c = record { fits = omega (arith, opening (c .before .before .before .before .before .before .before .before .before .before .before .before .before) .spare) }
+  mul-longer c = record { fits = omega (arith, opening (c .before .before .before .before .before .before .before .before .before .before .before .before .before .before) .spare) }
 
   pub element-write-longer : OfListed t lts.Need-element-write-longer
-  element-write-longer c = opening (c .before .before .before .before .before .before .before .before .before .before .before .before .before) .spare
+  element-write-longer c = opening (c .before .before .before .before .before .before .before .before .before .before .before .before .before .before) .spare
 
   pub add-longer : OfListed t lts.Need-add-longer
-  add-longer c = record { fits = omega (arith, opening (c .before .before .before .before .before .before .before .before .before .before .before .before .before) .spare) }
+  add-longer c = record { fits = omega (arith, opening (c .before .before .before .before .before .before .before .before .before .before .before .before .before .before) .spare) }
 
   -- the trail with it
   longer : (c : Turn) → let a = start c .args in let e = number c in
@@ -117,7 +122,7 @@ module _ (t : ℕ) where
 
   pub pair-requires : OfListed t lts.Need-pair-requires
   pair-requires c κs =
-      let at = c .before in
+      let at = c .before .before in
       let here = turn at in
       let s = start here in
       let o = opening s in
@@ -125,42 +130,75 @@ module _ (t : ℕ) where
       let next = at .enter in
       let holds = longer here in
       let less = open-less o (number here) holds (next .result) (next .ensures .0) (query s) in
-      (omega (arith, s .pre .0, less), (open-underway o (number here) holds (next .result) (next .ensures .0) (next .ensures .1), (s .pre .1 .1 .0, (rw (loop .inv .1 .0 .0) (s .pre .1 .1 .1 .1 .1 .0), loop .inv .1 .0 .1))))
+      (omega (arith, s .pre .0, less), (open-underway o (number here) holds (next .result) (next .ensures .0) (next .ensures .1), (s .pre .1 .1 .0, ((rw (loop .inv .1 .1 .0 .0) (s .pre .1 .1 .1 .1 .1 .0 .0), loop .inv .1 .1 .0 .1), (omega (arith, s .pre .1 .1 .1 .1 .1 .1 .0, loop .inv .0 .0), loop .inv .0 .1)))))
 
-  -- the rows are full
-  pub same-length : OfListed t lts.Need-same-length
-  same-length c = c .before .before .before .pair .kept .1 .1 .1 .1 .1 .1 .1 .1 .1 .1 .1 .0 ∙ c .before .before .before .before .before .before .before .before .loop .inv .1 .0 .0
+  -- where the entry has offered what it finds, or gave up
+  abbrev Made : Type 0
+  Made = OfListed t lts.After-pair
 
-  found : (made : OfListed t lts.After-pair) → let here = turn (made .before .before) in let a = start here .args in
-      Turns (put (a .capacity)) (λ i. entryOne (a .image .now) (query (start here)) (a .place) (a .trail) (getD (take (a .many) (a .list .now)) i 0)) (a .out .now, a .found) (made .pair .last .1 .1 .1 .1 .1 .1 .1 .1 .1 .1 .1 .0, made .pair .result) (here .before .loop .k + 1)
-  found made =
-      let at = made .before .before in
+  abbrev made-at : Made → Turn
+  made-at m = turn (m .before .before .before)
+
+  abbrev f : Made → ℕ → List Reading
+  f m = let a = start (made-at m) .args in λ i. entryOne (a .image .now) (query (start (made-at m))) (a .place) (a .trail) (getD (take (a .many) (a .list .now)) i 0)
+
+  turned : (m : Made) → let a = start (made-at m) .args in foundAt (a .image .now) (query (start (made-at m))) (m .before .before .before .enter .result) (record { path = set (a .trail .path) (a .trail .entries) (number (made-at m)); entries = a .trail .entries + 1; pairing = a .trail .pairing; pairs = a .trail .pairs }) ≡ f m (made-at m .before .loop .k)
+  turned m =
+      let at = m .before .before .before in
       let here = turn at in
       let s = start here in
       let a = s .args in
-      turns-more _ (here .before .loop .inv .1 .1) (made .pair .ensures)
-      (open-turn (opening s) (number here) (longer here) (at .enter .result) (at .enter .ensures .0) (query s) (may here .1) ∙ ap (entryOne (a .image .now) (query s) (a .place) (a .trail)) (sym (named here)))
+      open-turn (opening s) (number here) (longer here) (at .enter .result) (at .enter .ensures .0) (query s) (may here .1) ∙ ap (entryOne (a .image .now) (query s) (a .place) (a .trail)) (sym (named here))
+
+  done : (m : Made) → let a = start (made-at m) .args in
+      Offered (a .capacity) (made-at m .before .loop .out, made-at m .before .loop .n) (f m (made-at m .before .loop .k)) (m .pair .last .1 .1 .1 .1 .1 .1 .1 .1 .1 .1 .1 .0, m .pair .result) (length (a .table .now))
+  done m = offered-same (turned m) (made-at m .before .loop .inv .0 .0) (m .pair .ensures .0)
+
+  -- the rows are full, or it gave up
+  pub same-length : OfListed t lts.Need-same-length
+  same-length c = let m = c .before .before .before .before .before in m .pair .kept .1 .1 .1 .1 .1 .1 .1 .1 .1 .1 .1 .0 ∙ made-at m .before .loop .inv .1 .1 .0 .0
+
+  pub same-length-2 : OfListed t lts.Need-same-length-2
+  same-length-2 c = let m = c .before .before .before .before .before in m .pair .kept .1 .1 .1 .1 .1 .1 .1 .1 .1 .1 .1 .1 .1 .1 .0 ∙ made-at m .before .loop .inv .0 .0
 
   pub returns : OfListed t lts.Need-returns
   returns c =
-      let made = c .before .before .before in
-      let here = turn (made .before .before) in
+      let m = c .before .before .before .before .before in
+      let here = made-at m in
       let s = start here in
-      whole s (turns-stop (put-keeps (s .args .capacity)) (s .args .many) (found made) (omega (arith, here .loop-test .taken)) (c .if1 .taken))
+      let passed = here .before .loop .inv .1 .1 .1 in (
+        ⊎-elim
+            (λ e. inl (whole s (turns-stop (put-keeps (s .args .capacity)) (s .args .many) (turns-more _ passed e refl) (omega (arith, here .loop-test .taken)) (c .if1 .taken))))
+            (λ g. inr (gave-same (all-are s) (gave-turn (s .args .many) passed (here .loop-test .taken) g)))
+            (done m),
+        m .pair .ensures .1,
+      )
 
   pub add-k : OfListed t lts.Need-add-k
-  add-k c = record { fits = omega (arith, c .before .before .before .before .before .before .before .loop-test .taken, c .before .before .before .before .before .before .before .before .before .before .before .before .before .before .before .before .before .before .pre .1 .1 .1 .1 .0 .0 .0) }
+  add-k c = let m = c .before .before .before .before .before in record { fits = omega (arith, made-at m .loop-test .taken, start (made-at m) .pre .1 .1 .1 .1 .0 .0 .0) }
 
   pub loop-less : OfListed t lts.Need-loop-less
-  loop-less c = omega (arith, c .before .before .before .before .before .before .before .loop-test .taken)
+  loop-less c = omega (arith, made-at (c .before .before .before .before .before) .loop-test .taken)
 
   pub loop-again : OfListed t lts.Need-loop-again
   loop-again c =
-      let made = c .before .before .before in
-      (omega (arith, c .before .before .before .before .before .before .before .loop-test .taken), ((made .pair .kept .1 .1 .1 .1 .1 .1 .1 .1 .1 .1 .1 .0 ∙ c .before .before .before .before .before .before .before .before .loop .inv .1 .0 .0, c .if1 .left), found made))
+      let m = c .before .before .before .before .before in
+      let loop = made-at m .before .loop in (
+        (m .pair .kept .1 .1 .1 .1 .1 .1 .1 .1 .1 .1 .1 .1 .1 .1 .0 ∙ loop .inv .0 .0, m .pair .ensures .1),
+        (
+          omega (arith, made-at m .loop-test .taken),
+          ((m .pair .kept .1 .1 .1 .1 .1 .1 .1 .1 .1 .1 .1 .0 ∙ loop .inv .1 .1 .0 .0, c .if1 .left), turns-more _ (loop .inv .1 .1 .1) (offered-all (omega (arith, c .if1 .left)) (done m)) refl),
+        ),
+      )
 
-  pub same-length-2 : OfListed t lts.Need-same-length-2
-  same-length-2 c = c .before .loop .inv .1 .0 .0
+  pub same-length-3 : OfListed t lts.Need-same-length-3
+  same-length-3 c = c .before .loop .inv .1 .1 .0 .0
+
+  pub same-length-4 : OfListed t lts.Need-same-length-4
+  same-length-4 c = c .before .loop .inv .0 .0
 
   pub returns-2 : OfListed t lts.Need-returns-2
-  returns-2 c = let s = c .before .before .before .before .before .before .before .before .before .before .before in whole s (turns-all (s .args .many) (c .before .loop .inv .1 .1) (omega (arith, c .loop-test .left, c .before .loop .inv .0)))
+  returns-2 c =
+      let s = c .before .before .before .before .before .before .before .before .before .before .before .before in
+      let loop = c .before .loop in
+      (inl (whole s (turns-all (s .args .many) (loop .inv .1 .1 .1) (omega (arith, c .loop-test .left, loop .inv .1 .0)))), loop .inv .0 .1)

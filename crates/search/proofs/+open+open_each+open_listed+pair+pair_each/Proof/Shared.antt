@@ -2,10 +2,15 @@
 use Prim.Native.Nat.{ℕ, _<_, _≤_, _+_, _*_, _-_}
 use mathlib.Core.Bool.{true}
 use mathlib.Core.Path.{_≡_}
+use mathlib.Core.List.{List}
 use lib.ListN.{length, getD, take}
 use borrow.Fn.Kinds.{In, Out}
 use borrow.Fn.PlainCycle.{Measures, is, falls, and}
+use Rattle.model.specs.Query.{Query}
 use Rattle.rows.specs.Fill.{put}
+use Rattle.dead.specs.Dead.{Remembered}
+use Rattle.dead.proofs.meet.Reads as meet-reads
+use Rattle.dead.proofs.remember.Reads as remember-reads
 use Rattle.filter.proofs.choose.Reads as choose-reads
 use Rattle.listing.specs.Asked.{queryBy}
 use Rattle.listing.specs.Places.{withLast}
@@ -45,50 +50,50 @@ use Rattle.search.proofs.here.put_ended.Reads as put-ended-reads
 use Rattle.search.proofs.starts.first_letter.Reads as first-letter-reads
 use Rattle.search.proofs.starts.look.Reads as look-reads
 
-abbrev pub μ-open : Measures 8 open-kinds.ps ℕ
+abbrev pub μ-open : Measures 9 open-kinds.ps ℕ
 μ-open κs a = 4 * stepsAfter (a .1 .1 .1 .1 .1 .1 .1 .1 .1 .0) (a .1 .1 .1 .1 .1 .1 .1 .1 .1 .1 .0) + 1
 
-abbrev pub μ-open-each : Measures 8 open-each-kinds.ps ℕ
+abbrev pub μ-open-each : Measures 9 open-each-kinds.ps ℕ
 μ-open-each κs a = 4 * stepsAfter (a .1 .1 .1 .1 .1 .1 .1 .1 .1 .0) (a .1 .1 .1 .1 .1 .1 .1 .1 .1 .1 .0)
 
-abbrev pub μ-open-listed : Measures 9 open-listed-kinds.ps ℕ
+abbrev pub μ-open-listed : Measures 10 open-listed-kinds.ps ℕ
 μ-open-listed κs a = 4 * stepsAfter (a .1 .1 .1 .1 .1 .1 .1 .1 .1 .0) (a .1 .1 .1 .1 .1 .1 .1 .1 .1 .1 .0)
 
-abbrev pub μ-pair : Measures 8 pair-kinds.ps ℕ
+abbrev pub μ-pair : Measures 9 pair-kinds.ps ℕ
 μ-pair κs a = 4 * stepsAfter (a .1 .1 .1 .1 .1 .1 .1 .1 .1 .0) (a .1 .1 .1 .1 .1 .1 .1 .1 .1 .1 .0) + 3
 
-abbrev pub μ-pair-each : Measures 8 pair-each-kinds.ps ℕ
+abbrev pub μ-pair-each : Measures 9 pair-each-kinds.ps ℕ
 μ-pair-each κs a = 4 * stepsAfter (a .1 .1 .1 .1 .1 .1 .1 .1 .1 .0) (a .1 .1 .1 .1 .1 .1 .1 .1 .1 .1 .0) + 2
 
-abbrev pub open-at : ℕ → In 8 open-kinds.ps
-open-at t = and 8 open-kinds.ps (is 8 open-kinds.ps μ-open t) open.Pre
+abbrev pub open-at : ℕ → In 9 open-kinds.ps
+open-at t = and 9 open-kinds.ps (is 9 open-kinds.ps μ-open t) open.Pre
 
-abbrev pub open-below : ℕ → In 8 open-kinds.ps
-open-below t = and 8 open-kinds.ps (falls 8 open-kinds.ps _<_ μ-open t) open.Pre
+abbrev pub open-below : ℕ → In 9 open-kinds.ps
+open-below t = and 9 open-kinds.ps (falls 9 open-kinds.ps _<_ μ-open t) open.Pre
 
-abbrev pub open-each-at : ℕ → In 8 open-each-kinds.ps
-open-each-at t = and 8 open-each-kinds.ps (is 8 open-each-kinds.ps μ-open-each t) open-each.Pre
+abbrev pub open-each-at : ℕ → In 9 open-each-kinds.ps
+open-each-at t = and 9 open-each-kinds.ps (is 9 open-each-kinds.ps μ-open-each t) open-each.Pre
 
-abbrev pub open-each-below : ℕ → In 8 open-each-kinds.ps
-open-each-below t = and 8 open-each-kinds.ps (falls 8 open-each-kinds.ps _<_ μ-open-each t) open-each.Pre
+abbrev pub open-each-below : ℕ → In 9 open-each-kinds.ps
+open-each-below t = and 9 open-each-kinds.ps (falls 9 open-each-kinds.ps _<_ μ-open-each t) open-each.Pre
 
-abbrev pub open-listed-at : ℕ → In 9 open-listed-kinds.ps
-open-listed-at t = and 9 open-listed-kinds.ps (is 9 open-listed-kinds.ps μ-open-listed t) open-listed.Pre
+abbrev pub open-listed-at : ℕ → In 10 open-listed-kinds.ps
+open-listed-at t = and 10 open-listed-kinds.ps (is 10 open-listed-kinds.ps μ-open-listed t) open-listed.Pre
 
-abbrev pub open-listed-below : ℕ → In 9 open-listed-kinds.ps
-open-listed-below t = and 9 open-listed-kinds.ps (falls 9 open-listed-kinds.ps _<_ μ-open-listed t) open-listed.Pre
+abbrev pub open-listed-below : ℕ → In 10 open-listed-kinds.ps
+open-listed-below t = and 10 open-listed-kinds.ps (falls 10 open-listed-kinds.ps _<_ μ-open-listed t) open-listed.Pre
 
-abbrev pub pair-at : ℕ → In 8 pair-kinds.ps
-pair-at t = and 8 pair-kinds.ps (is 8 pair-kinds.ps μ-pair t) pair.Pre
+abbrev pub pair-at : ℕ → In 9 pair-kinds.ps
+pair-at t = and 9 pair-kinds.ps (is 9 pair-kinds.ps μ-pair t) pair.Pre
 
-abbrev pub pair-below : ℕ → In 8 pair-kinds.ps
-pair-below t = and 8 pair-kinds.ps (falls 8 pair-kinds.ps _<_ μ-pair t) pair.Pre
+abbrev pub pair-below : ℕ → In 9 pair-kinds.ps
+pair-below t = and 9 pair-kinds.ps (falls 9 pair-kinds.ps _<_ μ-pair t) pair.Pre
 
-abbrev pub pair-each-at : ℕ → In 8 pair-each-kinds.ps
-pair-each-at t = and 8 pair-each-kinds.ps (is 8 pair-each-kinds.ps μ-pair-each t) pair-each.Pre
+abbrev pub pair-each-at : ℕ → In 9 pair-each-kinds.ps
+pair-each-at t = and 9 pair-each-kinds.ps (is 9 pair-each-kinds.ps μ-pair-each t) pair-each.Pre
 
-abbrev pub pair-each-below : ℕ → In 8 pair-each-kinds.ps
-pair-each-below t = and 8 pair-each-kinds.ps (falls 8 pair-each-kinds.ps _<_ μ-pair-each t) pair-each.Pre
+abbrev pub pair-each-below : ℕ → In 9 pair-each-kinds.ps
+pair-each-below t = and 9 pair-each-kinds.ps (falls 9 pair-each-kinds.ps _<_ μ-pair-each t) pair-each.Pre
 
 abbrev pub open-claims : ℕ → open-lts.Claims
 open-claims t = (may-stop-reads.Asked, may-stop-reads.Learnt, stop-reads.Asked, stop-reads.Learnt, pair-below t, pair.Post, choose-reads.Asked, choose-reads.Learnt, open-each-below t, open-each.Post, open-listed-below t, open-listed.Post)
@@ -100,48 +105,57 @@ abbrev pub open-listed-claims : ℕ → open-listed-lts.Claims
 open-listed-claims t = (enter-reads.Asked, enter-reads.Learnt, pair-below t, pair.Post)
 
 abbrev pub pair-claims : ℕ → pair-lts.Claims
-pair-claims t = (lead-reads.Asked, lead-reads.Learnt, pair-each-below t, pair-each.Post)
+pair-claims t = (meet-reads.Asked, meet-reads.Learnt, lead-reads.Asked, lead-reads.Learnt, pair-each-below t, pair-each.Post, remember-reads.Asked, remember-reads.Learnt)
 
 abbrev pub pair-each-claims : ℕ → pair-each-lts.Claims
 pair-each-claims t = (goes-on-reads.Asked, goes-on-reads.Learnt, open-below t, open.Post, put-ended-reads.Asked, put-ended-reads.Learnt, next-letter-reads.Asked, next-letter-reads.Learnt, candidate-count-reads.Asked, candidate-count-reads.Learnt, candidate-reads.Asked, candidate-reads.Learnt, take-reads.Asked, take-reads.Learnt, pair-below t, pair.Post)
 
+-- the table keeps its length, and what it remembers
+abbrev pub Tabled : List ℕ → Query → List ℕ → List ℕ → Type 0
+Tabled image q before table = (length table ≡ length before) × Remembered image q table
+
 -- entry e is the next that may open, and those before it have offered what they find
 abbrev pub open-each-Inv-loop : open-each-lts.InvT-loop
-open-each-Inv-loop image index h asked path word forms masks reach place trail out₀ capacity found word-asked ways entries n₀ known₀ e₀ out n known e =
+open-each-Inv-loop image index h asked path word forms masks reach place trail out₀ capacity found table₀ word-asked ways entries n₀ known₀ e₀ out table n known e =
     let q = queryBy asked path word in
-    ((ways .low ≤ e) × ((e ≤ h .entries) × (e < h .entries → mayEnter image (q .entries) (place .last) (trail .entries) e ≡ true)))
-    × (((length out ≡ length out₀) × (n ≤ capacity)) × (Turns (put capacity) (entryOne image q place trail) (out₀, found) (out, n) e × Known image q place trail known))
+    Tabled image q table₀ table
+    × (((ways .low ≤ e) × ((e ≤ h .entries) × (e < h .entries → mayEnter image (q .entries) (place .last) (trail .entries) e ≡ true)))
+    × (((length out ≡ length out₀) × (n ≤ capacity)) × (Turns (put capacity) (entryOne image q place trail) (out₀, found) (out, n) e × Known image q place trail known)))
 
 abbrev pub open-each-μ-loop : open-each-lts.MeasureT-loop
-open-each-μ-loop image index h asked path word forms masks reach place trail out₀ capacity found word-asked ways entries n₀ known₀ e₀ out n known e = entries - e
+open-each-μ-loop image index h asked path word forms masks reach place trail out₀ capacity found table₀ word-asked ways entries n₀ known₀ e₀ out table n known e = entries - e
 
 -- the first k of the list have offered what they find
 abbrev pub open-listed-Inv-loop : open-listed-lts.InvT-loop
-open-listed-Inv-loop image index h asked path word forms masks reach place trail list many out₀ capacity found n₀ k₀ out n k =
-    (k ≤ many) × (((length out ≡ length out₀) × (n ≤ capacity)) × Turns (put capacity) (λ i. entryOne image (queryBy asked path word) place trail (getD (take many list) i 0)) (out₀, found) (out, n) k)
+open-listed-Inv-loop image index h asked path word forms masks reach place trail list many out₀ capacity found table₀ n₀ k₀ out table n k =
+    let q = queryBy asked path word in
+    Tabled image q table₀ table
+    × ((k ≤ many) × (((length out ≡ length out₀) × (n ≤ capacity)) × Turns (put capacity) (λ i. entryOne image q place trail (getD (take many list) i 0)) (out₀, found) (out, n) k))
 
 abbrev pub open-listed-μ-loop : open-listed-lts.MeasureT-loop
-open-listed-μ-loop image index h asked path word forms masks reach place trail list many out₀ capacity found n₀ k₀ out n k = many - k
+open-listed-μ-loop image index h asked path word forms masks reach place trail list many out₀ capacity found table₀ n₀ k₀ out table n k = many - k
 
 abbrev pub pair-each-Inv-loop : pair-each-lts.InvT-loop
-pair-each-Inv-loop image index h asked path word forms masks reach place trail out₀ capacity found last n₀ letter asks many k₀ out n k =
-    (k ≤ many) × (((length out ≡ length out₀) × (n ≤ capacity)) × Turns (put capacity) (candidateOne image (queryBy asked path word) (withLast place last) trail (letter .0)) (out₀, n₀) (out, n) k)
+pair-each-Inv-loop image index h asked path word forms masks reach place trail out₀ capacity found table₀ last n₀ letter asks many k₀ out table n k =
+    let q = queryBy asked path word in
+    Tabled image q table₀ table
+    × ((k ≤ many) × (((length out ≡ length out₀) × (n ≤ capacity)) × Turns (put capacity) (candidateOne image q (withLast place last) trail (letter .0)) (out₀, n₀) (out, n) k))
 
 abbrev pub pair-each-μ-loop : pair-each-lts.MeasureT-loop
-pair-each-μ-loop image index h asked path word forms masks reach place trail out₀ capacity found last n₀ letter asks many k₀ out n k = many - k
+pair-each-μ-loop image index h asked path word forms masks reach place trail out₀ capacity found table₀ last n₀ letter asks many k₀ out table n k = many - k
 
 -- a need of one of them, or a place of its code, at the measure t. Where a need takes `.kept .1 .1 .. .0` of a call, that is: the buffer keeps its length
-abbrev pub OfOpen : ℕ → (open-lts.Claims → In 8 open-kinds.ps → Out 8 open-kinds.ps open-kinds.r → Type 0) → Type 0
+abbrev pub OfOpen : ℕ → (open-lts.Claims → In 9 open-kinds.ps → Out 9 open-kinds.ps open-kinds.r → Type 0) → Type 0
 OfOpen t f = f (open-claims t) (open-at t) open.Post
 
-abbrev pub OfEach : ℕ → (open-each-lts.Claims → In 8 open-each-kinds.ps → Out 8 open-each-kinds.ps open-each-kinds.r → open-each-lts.InvT-loop → open-each-lts.MeasureT-loop → Type 0) → Type 0
+abbrev pub OfEach : ℕ → (open-each-lts.Claims → In 9 open-each-kinds.ps → Out 9 open-each-kinds.ps open-each-kinds.r → open-each-lts.InvT-loop → open-each-lts.MeasureT-loop → Type 0) → Type 0
 OfEach t f = f (open-each-claims t) (open-each-at t) open-each.Post open-each-Inv-loop open-each-μ-loop
 
-abbrev pub OfListed : ℕ → (open-listed-lts.Claims → In 9 open-listed-kinds.ps → Out 9 open-listed-kinds.ps open-listed-kinds.r → open-listed-lts.InvT-loop → open-listed-lts.MeasureT-loop → Type 0) → Type 0
+abbrev pub OfListed : ℕ → (open-listed-lts.Claims → In 10 open-listed-kinds.ps → Out 10 open-listed-kinds.ps open-listed-kinds.r → open-listed-lts.InvT-loop → open-listed-lts.MeasureT-loop → Type 0) → Type 0
 OfListed t f = f (open-listed-claims t) (open-listed-at t) open-listed.Post open-listed-Inv-loop open-listed-μ-loop
 
-abbrev pub OfPair : ℕ → (pair-lts.Claims → In 8 pair-kinds.ps → Out 8 pair-kinds.ps pair-kinds.r → Type 0) → Type 0
+abbrev pub OfPair : ℕ → (pair-lts.Claims → In 9 pair-kinds.ps → Out 9 pair-kinds.ps pair-kinds.r → Type 0) → Type 0
 OfPair t f = f (pair-claims t) (pair-at t) pair.Post
 
-abbrev pub OfPairEach : ℕ → (pair-each-lts.Claims → In 8 pair-each-kinds.ps → Out 8 pair-each-kinds.ps pair-each-kinds.r → pair-each-lts.InvT-loop → pair-each-lts.MeasureT-loop → Type 0) → Type 0
+abbrev pub OfPairEach : ℕ → (pair-each-lts.Claims → In 9 pair-each-kinds.ps → Out 9 pair-each-kinds.ps pair-each-kinds.r → pair-each-lts.InvT-loop → pair-each-lts.MeasureT-loop → Type 0) → Type 0
 OfPairEach t f = f (pair-each-claims t) (pair-each-at t) pair-each.Post pair-each-Inv-loop pair-each-μ-loop
