@@ -9,6 +9,7 @@ ghost use Rattle.image.specs.Header.{headerOf};
 ghost use Rattle.rows.specs.Fill.{replyOf};
 ghost use Rattle.analyser.specs.Request.{requestOf};
 ghost use Rattle.analyser.specs.Indexed.{Indexed};
+ghost use Rattle.analyser.specs.Tried.{TriedOf};
 use crate::request::Direction;
 use grammar::Verdict;
 use image::Header;
@@ -22,6 +23,22 @@ pub fn analyse(image: &[u8], index: &[u8], h: Header, word: &[u8], out: &mut [u8
     ensures bytes { λ r. ⌜ now (out .exit) ≡ afterListing (now (image .entry)) (analysis (now (word .entry))) (now (out .entry)) ⌝ }
 {
     list(image, index, h, Direction::Analysis, word, out)
+}
+
+// What a search that may give up comes to.
+pub enum Tried {
+    Given(Reply),
+    Long,
+}
+
+// The same as `analyse`, or nothing: a search that turns out long is given up, and then the buffer's rows are of no use.
+pub fn try_analyse(image: &[u8], index: &[u8], h: Header, word: &[u8], out: &mut [u8]) -> Tried
+    requires { ⌜ imageVerdict (now image) ≡ accepted ⌝ }
+    requires { ⌜ headerOf h ≡ header (now image) ⌝ }
+    requires { ⌜ Indexed (now image) (now index) ⌝ }
+    ensures { λ r. ⌜ TriedOf (now (image .entry)) (now (word .entry)) (now (out .entry)) (now (out .exit)) r ⌝ }
+{
+    Tried::Given(analyse(image, index, h, word, out))
 }
 
 pub fn generate(image: &[u8], index: &[u8], h: Header, path: &[u8], out: &mut [u8]) -> Reply
