@@ -20,6 +20,9 @@ use Rattle.model.proofs.Tests.{tests-refused}
 use Rattle.print.specs.Text.{Put}
 use Rattle.print.proofs.Text.{put-none, put-same, put-then}
 use Rattle.parse.specs.Fields.{Begun, lineAfter}
+use Rattle.answers.specs.declared.line.Answered.{Answered}
+use Rattle.answers.specs.declared.line.Answered.the-variants as answered
+use Rattle.answers.specs.Answered.{WordAnswered, LineAnswered}
 use Rattle.answers.specs.Input.{begunAfter, bufferAfter, Grown, textAfter, lastText}
 
 pub refused-not : (k : ℕ) → refused k ≡ accepted → ⊥
@@ -46,6 +49,12 @@ module _ (first l : List ℕ) (same : first ≡ take 256 l) where
 pub refused-line : (image word : List ℕ) (k : ℕ) → imageVerdict image ≡ refused k → printedReply (Reply.refused k) ≡ printedLine image (lines.letters word)
 unfolding printedLine listingReply listingRows requestVerdict requestTests imageVerdict
 refused-line image word k e = rw (tests-refused (imageTests image) (ownTests image (analysis word)) k e) (sym (append-nil (printedReply (Reply.refused k))))
+
+-- the answer to a word is that to its line
+pub word-line : (image before after : List ℕ) (at : ℕ) (word first : List ℕ) → ((l : List ℕ) → first ≡ take 256 l → lines.letters word ≡ lineOf l)
+    → (r : Answered) → WordAnswered image before after at word r → LineAnswered image before after at first r
+word-line image before after at word first same (answered.Put end) h = (λ l e. put-same (ap (printedLine image) (same l e)) (h .0), h .1)
+word-line image before after at word first same answered.Waits h = h
 
 pub begun-nothing : (buffer : List ℕ) → Begun buffer 0 []
 begun-nothing buffer = record { many = refl; bytes = refl }
@@ -191,9 +200,14 @@ module _ (image chunk line₀ out₀ : List ℕ) (at kept₀ end₀ : ℕ) where
                   ∙ sym (ap (bufferAfter line₀ l) more-bytes ∙ buffer-parts line₀ l xs (getD chunk i 0 ∷ []));
             }
 
--- where there was room at first and is none now, something was read
-pub moved : (image chunk line₀ out₀ : List ℕ) (at kept₀ end₀ : ℕ) (line out : List ℕ) (i kept end most : ℕ) → Progress image chunk line₀ out₀ at kept₀ end₀ line out i kept end → end₀ ≤ most → most < end → at < i
-moved image chunk line₀ out₀ at kept₀ end₀ line out i kept end most done h k = go (ℕ-discrete i at)
+-- nothing is changed
+pub progress-same : {image chunk line₀ out₀ : List ℕ} {at kept₀ end₀ : ℕ} {line out line′ out′ : List ℕ} {i kept end : ℕ} → Progress image chunk line₀ out₀ at kept₀ end₀ line out i kept end → line′ ≡ line → out′ ≡ out
+    → Progress image chunk line₀ out₀ at kept₀ end₀ line′ out′ i kept end
+progress-same done e f = rw (e, f) done
+
+-- text that was not there at first is the text of what was read
+pub moved : (image chunk line₀ out₀ : List ℕ) (at kept₀ end₀ : ℕ) (line out : List ℕ) (i kept end : ℕ) → Progress image chunk line₀ out₀ at kept₀ end₀ line out i kept end → end₀ ≡ 0 → 0 < end → at < i
+moved image chunk line₀ out₀ at kept₀ end₀ line out i kept end done h k = go (ℕ-discrete i at)
   where
     go : Dec (i ≡ at) → at < i
     go (yes e) = absurd (omega (arith, done .start e))

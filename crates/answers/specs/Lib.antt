@@ -1,2 +1,3 @@
 pub mod OnceARun
+pub mod Answered
 pub mod Input

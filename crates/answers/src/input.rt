@@ -8,13 +8,20 @@ ghost use Rattle.grammar.specs.Answers.{verdictOf};
 ghost use Rattle.print.specs.Text.{Put};
 ghost use Rattle.parse.specs.Fields.{Begun};
 ghost use Rattle.answers.specs.OnceARun.{OnceARun};
-ghost use Rattle.answers.specs.Input.{Grown, textAfter, lastText};
+ghost use Rattle.answers.specs.Input.{Grown, ByteRead, textAfter, lastText};
+use crate::line::Answered;
 use crate::run::Prepared;
 
 // How far the input is read: bytes of the line begun that are kept, and where the text ends.
 pub struct Reached {
     pub kept: usize,
     pub end: usize,
+}
+
+// After a byte: how far the input is read, or that the byte ends a line that waits, and is not read.
+pub enum Onward {
+    To(Reached),
+    Waits,
 }
 
 // One byte of the input: the line's end, or a byte more of the line.
@@ -28,34 +35,36 @@ fn read_byte(
     rows: &mut [u8],
     out: &mut [u8],
     from: Reached,
-) -> Reached
+) -> Onward
     requires { ⌜ OnceARun (now image) (now index) (headerOf (run .h)) (verdictOf (run .verdict)) ⌝ }
     requires { ⌜ (length (now line) ≡ 256) × (from .kept ≤ 256) ⌝ }
     requires { ⌜ (length (now word) ≡ 128) × (length (now rows) ≡ 7424) ⌝ }
     requires { ⌜ from .end + 22032 ≤ length (now out) ⌝ }
-    ensures line { λ r. ⌜ ((l : List ℕ) → Begun (now (line .entry)) (from .kept) l → Grown (now (line .entry)) (now (line .exit)) (r .kept) l (b ∷ [])) × (r .kept ≤ 256) ⌝ }
-    ensures text { λ r. ⌜ ((l : List ℕ) → Begun (now (line .entry)) (from .kept) l → Put (now (out .entry)) (now (out .exit)) (from .end) (r .end) (textAfter (now (image .entry)) l (b ∷ []))) × (r .end ≤ from .end + 22032) ⌝ }
+    ensures { λ r. ⌜ ByteRead (now (image .entry)) (now (line .entry)) (now (line .exit)) (now (out .entry)) (now (out .exit)) from b r ⌝ }
 {
-    if b == 10 {
-        let n = from.kept;
-        let h = run.h;
-        let verdict = run.verdict;
-        let end = crate::line::answer(
-            image,
-            index,
-            h,
-            verdict,
-            &line[..n],
-            word,
-            rows,
-            out,
-            from.end,
-        );
-        return Reached { kept: 0, end: end };
+    if b != 10 {
+        return Onward::To(Reached {
+            kept: parse::add_byte(line, from.kept, b),
+            end: from.end,
+        });
     }
-    Reached {
-        kept: parse::add_byte(line, from.kept, b),
-        end: from.end,
+    let n = from.kept;
+    let h = run.h;
+    let verdict = run.verdict;
+    let answer = crate::line::answer(
+        image,
+        index,
+        h,
+        verdict,
+        &line[..n],
+        word,
+        rows,
+        out,
+        from.end,
+    );
+    match answer {
+        Answered::Waits => Onward::Waits,
+        Answered::Put(end) => Onward::To(Reached { kept: 0, end: end }),
     }
 }
 
@@ -65,7 +74,8 @@ pub struct Read {
     pub reached: Reached,
 }
 
-// The bytes of a chunk from `at` on: all of them, or as many as leave no room in `out` for one more answer. `word` and `rows` are room to work in.
+// The bytes of a chunk from `at` on: all of them, or as many as leave no room in `out` for one more answer, or those before the end of a line that waits.
+// `word` and `rows` are room to work in.
 fn read_bytes(
     image: &[u8],
     index: &[u8],
@@ -85,7 +95,7 @@ fn read_bytes(
     requires { ⌜ (22032 ≤ length (now out)) × (from .end ≤ length (now out)) ⌝ }
     ensures line { λ r. ⌜ ((l : List ℕ) → Begun (now (line .entry)) (from .kept) l → Grown (now (line .entry)) (now (line .exit)) (r .reached .kept) l (take (r .at - at) (drop at (now (chunk .entry))))) × (r .reached .kept ≤ 256) ⌝ }
     ensures text { λ r. ⌜ ((l : List ℕ) → Begun (now (line .entry)) (from .kept) l → Put (now (out .entry)) (now (out .exit)) (from .end) (r .reached .end) (textAfter (now (image .entry)) l (take (r .at - at) (drop at (now (chunk .entry)))))) × (r .reached .end ≤ length (now (out .entry))) ⌝ }
-    ensures onward { λ r. ⌜ (at ≤ r .at) × ((r .at ≤ length (now (chunk .entry))) × (from .end + 22032 ≤ length (now (out .entry)) → at < length (now (chunk .entry)) → at < r .at)) ⌝ }
+    ensures onward { λ r. ⌜ (at ≤ r .at) × ((r .at ≤ length (now (chunk .entry))) × (from .end ≡ 0 → at < length (now (chunk .entry)) → at < r .at)) ⌝ }
 {
     let n = chunk.len();
     let most = out.len() - 22032;
@@ -107,8 +117,18 @@ fn read_bytes(
             end: end,
         };
         let next = read_byte(image, index, run, chunk[i], line, word, rows, out, here);
-        kept = next.kept;
-        end = next.end;
+        match next {
+            Onward::Waits => {
+                return Read {
+                    at: i,
+                    reached: here,
+                };
+            }
+            Onward::To(reached) => {
+                kept = reached.kept;
+                end = reached.end;
+            }
+        }
         i += 1;
     }
     Read {
@@ -137,7 +157,7 @@ pub fn read_chunk(
     requires { ⌜ (22032 ≤ length (now out)) × (from .end ≤ length (now out)) ⌝ }
     ensures line { λ r. ⌜ ((l : List ℕ) → Begun (now (line .entry)) (from .kept) l → Grown (now (line .entry)) (now (line .exit)) (r .reached .kept) l (take (r .at - at) (drop at (now (chunk .entry))))) × (r .reached .kept ≤ 256) ⌝ }
     ensures text { λ r. ⌜ ((l : List ℕ) → Begun (now (line .entry)) (from .kept) l → Put (now (out .entry)) (now (out .exit)) (from .end) (r .reached .end) (textAfter (now (image .entry)) l (take (r .at - at) (drop at (now (chunk .entry)))))) × (r .reached .end ≤ length (now (out .entry))) ⌝ }
-    ensures onward { λ r. ⌜ (at ≤ r .at) × ((r .at ≤ length (now (chunk .entry))) × (from .end + 22032 ≤ length (now (out .entry)) → at < length (now (chunk .entry)) → at < r .at)) ⌝ }
+    ensures onward { λ r. ⌜ (at ≤ r .at) × ((r .at ≤ length (now (chunk .entry))) × (from .end ≡ 0 → at < length (now (chunk .entry)) → at < r .at)) ⌝ }
 {
     let mut word = [0u8; 128];
     let mut rows = [0u8; 7424];
@@ -155,37 +175,40 @@ pub fn read_chunk(
     )
 }
 
-// The last line, where it lacks its line end.
+// The last line, where it lacks its line end: put first into `out`, so that it never waits.
 pub fn read_end(
     image: &[u8],
     index: &[u8],
     run: Prepared,
     line: &[u8],
     out: &mut [u8],
-    from: Reached,
+    kept: usize,
 ) -> usize
     requires { ⌜ OnceARun (now image) (now index) (headerOf (run .h)) (verdictOf (run .verdict)) ⌝ }
-    requires { ⌜ (length (now line) ≡ 256) × (from .kept ≤ 256) ⌝ }
-    requires { ⌜ from .end + 22032 ≤ length (now out) ⌝ }
-    ensures { λ r. ⌜ ((l : List ℕ) → Begun (now (line .entry)) (from .kept) l → Put (now (out .entry)) (now (out .exit)) (from .end) r (lastText (now (image .entry)) l)) × (r ≤ from .end + 22032) ⌝ }
+    requires { ⌜ (length (now line) ≡ 256) × (kept ≤ 256) ⌝ }
+    requires { ⌜ 22032 ≤ length (now out) ⌝ }
+    ensures { λ r. ⌜ ((l : List ℕ) → Begun (now (line .entry)) kept l → Put (now (out .entry)) (now (out .exit)) 0 r (lastText (now (image .entry)) l)) × (r ≤ 22032) ⌝ }
 {
-    let n = from.kept;
-    if n == 0 {
-        return from.end;
+    if kept == 0 {
+        return 0;
     }
     let h = run.h;
     let verdict = run.verdict;
     let mut word = [0u8; 128];
     let mut rows = [0u8; 7424];
-    crate::line::answer(
+    let answer = crate::line::answer(
         image,
         index,
         h,
         verdict,
-        &line[..n],
+        &line[..kept],
         &mut word,
         &mut rows,
         out,
-        from.end,
-    )
+        0,
+    );
+    match answer {
+        Answered::Waits => 0,
+        Answered::Put(end) => end,
+    }
 }

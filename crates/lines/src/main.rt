@@ -30,7 +30,7 @@ pub enum Step {
     Stopped,
 }
 
-// Answers bytes of the chunk that wait, as many as `out` has room for, and hands the answers over.
+// Answers bytes of the chunk that wait, as many as `out` has room for and up to a line that is long to search, and hands the answers over.
 fn answer_part(
     image: &[u8],
     index: &[u8],
@@ -83,11 +83,7 @@ fn answer_last(
     requires { ⌜ Within s × (s .at ≡ s .n) ⌝ }
     ensures { λ r. ⌜ ((chunk chunk′ : List ℕ) → Stepped (now (image .entry)) chunk chunk′ (now (line .entry)) (now (line .entry)) (now (out .exit)) s r) ⌝ }
 {
-    let from = Reached {
-        kept: s.kept,
-        end: 0,
-    };
-    let end = answers::input::read_end(image, index, run, line, out, from);
+    let end = answers::input::read_end(image, index, run, line, out, s.kept);
     let handed = s.handed;
     let gone = moving::give(&out[..end], handed);
     match gone {

@@ -1,10 +1,11 @@
--- `read_bytes` meets its contract: byte after byte, while there is room for an answer.
+-- `read_bytes` meets its contract: byte after byte, while there is room for an answer and no line waits.
 use borrow.Author.Needs.{needs}
 use native.Mathlib.Omega.{arith}
-use mathlib.Core.Path.{_≡_, sym, _∙_}
+use mathlib.Core.Path.{_≡_, sym, _∙_, subst}
 use Prim.Native.Nat.{_-_, _≤_, _<_}
 use lib.ListN.{length}
-use Rattle.answers.proofs.Reading.{Progress, progress-none, progress-more, moved}
+use Rattle.answers.specs.Input.{ByteRead}
+use Rattle.answers.proofs.Reading.{Progress, progress-none, progress-more, progress-same, moved}
 use Rattle.answers.proofs.input.read_bytes.Statement.{statement}
 use Rattle.answers.proofs.input.read_bytes.Tie as tie
 
@@ -25,6 +26,10 @@ head c = c .before .before .before .before .before .before .before .before
 -- the line keeps its length up to the head of the loop, as the invariant says of the rest
 line-kept : (c : tie.At-loop Inv-loop μ-loop) → length (c .loop .line) ≡ length (entry c .args .line .now)
 line-kept c = c .loop .inv .1 .1 .line-long ∙ sym (entry c .pre .1 .1 .0 .0)
+
+-- where nothing stood in `out` at first and something does now, a byte was read
+onward : (c : tie.At-loop Inv-loop μ-loop) → entry c .args .from .end ≡ 0 → 0 < c .loop .end → entry c .args .at < c .loop .i
+onward c = let a = entry c .args in moved (a .image .now) (a .chunk .now) (a .line .now) (a .out .now) (a .at) (a .from .kept) (a .from .end) _ _ (c .loop .i) (c .loop .kept) (c .loop .end) (c .loop .inv .1 .1)
 
 -- a byte was to be read, and there was room for its answer
 inside : (c : tie.After-read-byte Inv-loop μ-loop) → head c .loop .i < length (entry (head c) .args .chunk .now)
@@ -59,10 +64,8 @@ same-length-4 c = c .before .before .loop .inv .1 .1 .out-same
 returns : tie.Need-returns Inv-loop μ-loop
 returns c =
     let at = c .before .before in
-    let a = entry at .args in
     let p = at .loop .inv .1 .1 in
-    let onward = moved (a .image .now) (a .chunk .now) (a .line .now) (a .out .now) (a .at) (a .from .kept) (a .from .end) _ _ (at .loop .i) (at .loop .kept) (at .loop .end) (length (a .out .now) - 22032) p in
-    ((p .grown, p .kept-few), ((p .text, p .end-in), (p .in-order, (p .inside, λ room more. onward (omega (arith, room)) (c .if1 .taken)))))
+    ((p .grown, p .kept-few), ((p .text, p .end-in), (p .in-order, (p .inside, λ none more. onward at none (omega (arith, c .if1 .taken))))))
 
 shared-slice-read-read-byte : tie.Need-shared-slice-read-read-byte Inv-loop μ-loop
 shared-slice-read-read-byte c = c .before .before .loop-test .taken
@@ -76,40 +79,77 @@ read-byte-requires c κs =
     let lent = pre .1 .1 .1 in
     (pre .0, ((p .line-long, p .kept-few), ((inv .0 ∙ lent .0 .0, inv .1 .0 ∙ lent .0 .1), omega (arith, c .before .before .before .before .before .if1 .left, p .out-same, lent .1 .0))))
 
+enum-told : tie.Need-enum-told Inv-loop μ-loop
+enum-told c = search needs
+
+-- the byte that ends a line that waits; what is lent keeps its length
+abbrev ended : tie.After-enum-told Inv-loop μ-loop → tie.After-read-byte Inv-loop μ-loop
+ended c = c .before .before .before .before .before .before .before .before .before .before
+
+same-length-5 : tie.Need-same-length-5 Inv-loop μ-loop
+same-length-5 c = let byte = ended c in byte .read-byte .kept .1 .1 .1 .1 .0 ∙ line-kept (head byte)
+
+same-length-6 : tie.Need-same-length-6 Inv-loop μ-loop
+same-length-6 c = let byte = ended c in byte .read-byte .kept .1 .1 .1 .1 .1 .0 ∙ head byte .loop .inv .0
+
+same-length-7 : tie.Need-same-length-7 Inv-loop μ-loop
+same-length-7 c = let byte = ended c in byte .read-byte .kept .1 .1 .1 .1 .1 .1 .0 ∙ head byte .loop .inv .1 .0
+
+same-length-8 : tie.Need-same-length-8 Inv-loop μ-loop
+same-length-8 c = let byte = ended c in byte .read-byte .kept .1 .1 .1 .1 .1 .1 .1 .0 ∙ head byte .loop .inv .1 .1 .out-same
+
+-- where a line waits
+returns-2 : tie.Need-returns-2 Inv-loop μ-loop
+returns-2 c =
+    let byte = ended c in
+    let at = head byte in
+    let waits = subst (ByteRead _ _ _ _ _ _ _) (c .enum-told .given .1) (byte .read-byte .ensures) in
+    let p = progress-same (at .loop .inv .1 .1) (waits .0) (waits .1 .same) in
+    ((p .grown, p .kept-few), ((p .text, p .end-in), (p .in-order, (p .inside, λ none more. onward at none (waits .1 .some)))))
+
+enum-known-next : tie.Need-enum-known-next Inv-loop μ-loop
+enum-known-next c = search needs
+
+-- one that is read
+abbrev passed : tie.After-known-told Inv-loop μ-loop → tie.After-read-byte Inv-loop μ-loop
+passed c = c .before .before .before .before .before .before .before .before .before .before .before
+
 add-i : tie.Need-add-i Inv-loop μ-loop
-add-i c = let call = c .before .before .before .before .before .before .before .before in omega (arith, inside call, entry (head call) .good .1 .1 .1 .0 .0)
+add-i c = let byte = passed c in omega (arith, inside byte, entry (head byte) .good .1 .1 .1 .0 .0)
 
 loop-less : tie.Need-loop-less Inv-loop μ-loop
-loop-less c = omega (arith, inside (c .before .before .before .before .before .before .before .before))
+loop-less c = omega (arith, inside (passed c))
 
 -- a byte more
 loop-again : tie.Need-loop-again Inv-loop μ-loop
 loop-again c =
-    let byte = c .before .before .before .before .before .before .before .before in
+    let byte = passed c in
     let call = byte .read-byte in
     let at = head byte in
     let a = entry at .args in
     let inv = at .loop .inv in
     let kept = call .kept .1 .1 .1 .1 in
-    let few : call .result .end ≤ length (a .out .now) = omega (arith, call .ensures .1 .1, room-left byte, entry at .pre .1 .1 .1 .1 .0) in
+    let to = c .before .next .given .0 .0 in
+    let read = subst (ByteRead _ _ _ _ _ _ _) (c .before .next .given .1) (call .ensures) in
+    let few : to .end ≤ length (a .out .now) = omega (arith, read .end-near, room-left byte, entry at .pre .1 .1 .1 .1 .0) in
     let more = progress-more (a .image .now) (a .chunk .now) (a .line .now) (a .out .now) (a .at) (a .from .kept) (a .from .end) (at .loop .line) (at .loop .out) (at .loop .i) (at .loop .kept) (at .loop .end) (inv .1 .1) (inside byte) in
-    (kept .1 .0 ∙ inv .0, (kept .1 .1 .0 ∙ inv .1 .0, more _ _ (call .result .kept) (call .result .end) (kept .0) (call .ensures .0 .1) (kept .1 .1 .1 .0) few (call .ensures .0 .0) (call .ensures .1 .0)))
+    (kept .1 .0 ∙ inv .0, (kept .1 .1 .0 ∙ inv .1 .0, more _ _ (to .kept) (to .end) (kept .0) (read .kept-few) (kept .1 .1 .1 .0) few (read .grown) (read .text)))
 
-same-length-5 : tie.Need-same-length-5 Inv-loop μ-loop
-same-length-5 c = line-kept (c .before)
+same-length-9 : tie.Need-same-length-9 Inv-loop μ-loop
+same-length-9 c = line-kept (c .before)
 
-same-length-6 : tie.Need-same-length-6 Inv-loop μ-loop
-same-length-6 c = c .before .loop .inv .0
+same-length-10 : tie.Need-same-length-10 Inv-loop μ-loop
+same-length-10 c = c .before .loop .inv .0
 
-same-length-7 : tie.Need-same-length-7 Inv-loop μ-loop
-same-length-7 c = c .before .loop .inv .1 .0
+same-length-11 : tie.Need-same-length-11 Inv-loop μ-loop
+same-length-11 c = c .before .loop .inv .1 .0
 
-same-length-8 : tie.Need-same-length-8 Inv-loop μ-loop
-same-length-8 c = c .before .loop .inv .1 .1 .out-same
+same-length-12 : tie.Need-same-length-12 Inv-loop μ-loop
+same-length-12 c = c .before .loop .inv .1 .1 .out-same
 
 -- where the chunk ends
-returns-2 : tie.Need-returns-2 Inv-loop μ-loop
-returns-2 c =
+returns-3 : tie.Need-returns-3 Inv-loop μ-loop
+returns-3 c =
     let p = c .before .loop .inv .1 .1 in
     ((p .grown, p .kept-few), ((p .text, p .end-in), (p .in-order, (p .inside, λ room more. omega (arith, more, c .loop-test .left)))))
 
@@ -128,11 +168,18 @@ read-bytes-spec =
     returns
     shared-slice-read-read-byte
     read-byte-requires
-    add-i
-    loop-less
-    loop-again
+    enum-told
     same-length-5
     same-length-6
     same-length-7
     same-length-8
-    returns-2)
+    returns-2
+    enum-known-next
+    add-i
+    loop-less
+    loop-again
+    same-length-9
+    same-length-10
+    same-length-11
+    same-length-12
+    returns-3)

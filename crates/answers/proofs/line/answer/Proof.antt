@@ -1,4 +1,4 @@
--- `answer` meets its contract: unread, the refusal, or the word's reply and rows.
+-- `answer` meets its contract: unread, the refusal, or the word's answer.
 use borrow.Author.Needs.{needs}
 use native.Mathlib.Omega.{arith}
 use mathlib.Core.Path.{_≡_, sym, ap, _∙_}
@@ -9,7 +9,7 @@ use Rattle.model.specs.Lines.{lineOf, printedLine}
 use Rattle.grammar.specs.Answers.{verdictOf}
 use Rattle.print.proofs.Text.{put-same}
 use Rattle.parse.specs.Fields.{lineWith, letterCount}
-use Rattle.answers.proofs.Reading.{first-long, first-whole, refused-line}
+use Rattle.answers.proofs.Reading.{first-long, first-whole, refused-line, word-line}
 use Rattle.answers.proofs.line.answer.Statement.{statement}
 use Rattle.answers.proofs.line.answer.Tie as tie
 
@@ -113,9 +113,9 @@ returns-4 c =
     let got = read .before .before .before .before .read-line in
     let short = read .before .before .before .before .before .before in
     let a = short .before .before .before .before .before .before .before .args in
-    let answer = c .before .before .before .before .answer-word .ensures in
+    let answer = c .before .before .before .before .answer-word in
     let word : lines.letters (take (read .read .given .0 .0) _) ≡ lineOf (a .line .now) = sym (ap (lineWith _) (read .read .given .1)) ∙ got .ensures .0 in
-    (λ l e. put-same (ap (printedLine (a .image .now)) (word ∙ ap lineOf (first-whole (a .line .now) l e (short .if1 .left)))) (answer .0), answer .1)
+    word-line (a .image .now) (a .out .now) _ (a .at) _ (a .line .now) (λ l e. word ∙ ap lineOf (first-whole (a .line .now) l e (short .if1 .left))) (answer .result) (answer .ensures)
 
 pub answer-spec : {M : Type 1} → statement M
 answer-spec =
