@@ -1,10 +1,10 @@
 -- A listing's reply and bytes by its verdict: a refusal's number and the buffer as it was, or what the search leaves.
-use Prim.Native.Nat.{ℕ, _<_, _≤_}
+use Prim.Native.Nat.{ℕ, _-_, _<_, _≤_}
 use native.Mathlib.Omega.{arith}
 use mathlib.Core.Bool.{true, false}
 use mathlib.Core.Path.{_≡_, refl, sym, _∙_, subst}
 use mathlib.Core.List.{List, []}
-use lib.ListN.{length, take, drop}
+use lib.ListN.{length, take, drop, length-drop}
 use lib.Seq.{take-all}
 use borrow.Author.Tests.{lt-leb, le-leb}
 use Rattle.model.specs.Lists.{every, within}
@@ -16,6 +16,8 @@ use Rattle.model.specs.Calls.{replyAfter, rowsAfter, requestVerdict, allReading
 use Rattle.image.specs.Accepted.{Accepted}
 use Rattle.model.proofs.Tests.{tests-refused, tests-accepted}
 use Rattle.grammar.proofs.Verdicts.{accepted-image}
+use Rattle.filter.specs.Sieve.{MayBe}
+use Rattle.analyser.specs.Indexed.{Indexed}
 use Rattle.rows.specs.Offering.{offerAll}
 use Rattle.rows.specs.Fill.{put, replyFor}
 use Rattle.rows.proofs.Fill.{listed}
@@ -23,6 +25,10 @@ use Rattle.rows.proofs.Fill.{listed}
 -- what the code that reads an accepted image asks
 pub accepted-by : (image : List ℕ) (h : Header) → imageVerdict image ≡ accepted → h ≡ header image → Accepted image h
 accepted-by image h a e = subst (Accepted image) (sym e) (accepted-image image a)
+
+-- and the index of forms, where there is one
+pub rest-forms : {image index : List ℕ} → Indexed image index → MayBe image (take (length index - 39424) (drop 39424 index))
+rest-forms {image} {index} i = rw (take-all (length index - 39424) (drop 39424 index) (omega (arith, length-drop 39424 index))) (i .forms-are)
 
 -- a word's tests
 module _ (image word : List ℕ) where

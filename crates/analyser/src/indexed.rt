@@ -38,7 +38,25 @@ pub fn try_analyse(image: &[u8], index: &[u8], h: Header, word: &[u8], out: &mut
     requires { ⌜ Indexed (now image) (now index) ⌝ }
     ensures { λ r. ⌜ TriedOf (now (image .entry)) (now (word .entry)) (now (out .entry)) (now (out .exit)) r ⌝ }
 {
-    Tried::Given(analyse(image, index, h, word, out))
+    let verdict = crate::own::own_verdict(image, h, Direction::Analysis, word);
+    match verdict {
+        Verdict::Refused(k) => Tried::Given(Reply::Refused(k)),
+        Verdict::Accepted => {
+            let capacity = out.len() / 116;
+            let found = crate::request::try_word(
+                image,
+                &index[..39424],
+                h,
+                word,
+                &index[39424..],
+                out,
+            );
+            if found < capacity + 2 {
+                return Tried::Given(rows::reply_for(found, capacity));
+            }
+            Tried::Long
+        }
+    }
 }
 
 pub fn generate(image: &[u8], index: &[u8], h: Header, path: &[u8], out: &mut [u8]) -> Reply

@@ -9,6 +9,8 @@ ghost use Rattle.image.specs.Index.{indexOf};
 ghost use Rattle.rows.specs.Offering.{offerAll};
 ghost use Rattle.rows.specs.Fill.{put};
 ghost use Rattle.filter.specs.Sieve.{MayBe};
+ghost use Rattle.search.specs.Offered.{Offered};
+ghost use Rattle.model.specs.Query.{analysis};
 ghost use Rattle.analyser.specs.Request.{requestOf};
 use image::Header;
 use listing::asked::Asked;
@@ -52,4 +54,26 @@ pub fn search_for(
             search::search(image, index, h, path, asked, &asked[..0], forms, out)
         }
     }
+}
+
+// The search for a word that may give up.
+pub fn try_word(
+    image: &[u8],
+    index: &[u8],
+    h: Header,
+    word: &[u8],
+    forms: &[u8],
+    out: &mut [u8],
+) -> usize
+    requires { ⌜ Accepted (now image) (headerOf h) ⌝ }
+    requires { ⌜ now index ≡ indexOf (now image) ⌝ }
+    requires { ⌜ MayBe (now image) (now forms) ⌝ }
+    requires { ⌜ firstFailing (ownTests (now image) (analysis (now word))) ≡ accepted ⌝ }
+    ensures { λ r. ⌜ Offered (rowCount (now (out .entry))) (now (out .entry), 0) (allReadings (now (image .entry)) (analysis (now (word .entry)))) (now (out .exit), r) 1 ⌝ }
+{
+    let asked = Asked {
+        path: PathAsked::Anything,
+        word: WordAsked::Exactly,
+    };
+    search::try_search(image, index, h, asked, &word[..0], word, forms, out)
 }

@@ -1,27 +1,18 @@
 -- `list` meets its contract: the call's own tests, and then the search.
-use Prim.Native.Nat.{ℕ, _-_}
-use native.Mathlib.Omega.{arith}
 use borrow.Author.Needs.{needs}
 use mathlib.Core.Path.{_≡_, sym, ap, _∙_}
-use mathlib.Core.List.{List}
-use lib.ListN.{length, take, drop, length-drop}
-use lib.Seq.{take-all, length-take-le}
+use lib.Seq.{length-take-le}
 use Rattle.model.specs.Refusals.{accepted, firstFailing, ownTests}
 use Rattle.image.specs.Header.{headerOf}
 use Rattle.grammar.specs.Answers.{verdictOf}
-use Rattle.filter.specs.Sieve.{MayBe}
 use Rattle.analyser.specs.Request.{requestOf}
-use Rattle.analyser.specs.Indexed.{Indexed}
-use Rattle.analyser.proofs.Replies.{accepted-by, own-refused, own-accepted}
+use Rattle.analyser.proofs.Replies.{accepted-by, own-refused, own-accepted, rest-forms}
 use Rattle.analyser.proofs.indexed.list.Statement.{statement}
 use Rattle.analyser.proofs.indexed.list.Tie as tie
 
 -- in the arm of a request that passes its own tests
 passed : (c : tie.After-enum-told) → let a = c .before .before .before .before .before .before .before .args in firstFailing (ownTests (a .image .now) (requestOf (a .d) (a .asked .now))) ≡ accepted
 passed c = sym (c .before .before .own-verdict .ensures) ∙ ap verdictOf (c .enum-told .given .1)
-
-rest-forms : {image index : List ℕ} → Indexed image index → MayBe image (take (length index - 39424) (drop 39424 index))
-rest-forms {image} {index} i = rw (take-all (length index - 39424) (drop 39424 index) (omega (arith, length-drop 39424 index))) (i .forms-are)
 
 own-verdict-requires : tie.Need-own-verdict-requires
 own-verdict-requires c κs = let s = c .before .before .before .before in accepted-by (s .args .image .now) (headerOf (s .args .h)) (s .pre .0) (s .pre .1 .0)
