@@ -1,0 +1,64 @@
+/* The C entry on grammars that leave a search much to try and little to find: hostile FOLDER, with the images that tests/hostile.sh puts there. A call
+ * that does not end is ended by a signal. */
+#define _DEFAULT_SOURCE
+#include "calls.h"
+
+enum { SECONDS = 10, LONGEST = 128 * 512, ROW = HEADWORDS_ROW_BYTES };
+
+static uint8_t image_bytes[LONGEST];
+
+static struct bytes image_of(const char *folder, const char *name)
+{
+    char path[4096];
+    snprintf(path, sizeof path, "%s/%s.img", folder, name);
+    FILE *file = fopen(path, "rb");
+    if (!file) {
+        perror(path);
+        exit(2);
+    }
+    struct bytes image = {image_bytes, fread(image_bytes, 1, LONGEST, file)};
+    fclose(file);
+    return image;
+}
+
+/* Neither the word of so many letters a nor the path of entry 0 so many times and then the entry that ends has a reading. */
+static void none(const char *folder, const char *name, size_t letters, size_t entries, uint8_t last)
+{
+    struct bytes image = image_of(folder, name);
+    uint8_t word[32], path[32] = {0};
+    memset(word, 2, sizeof word);
+    path[2 * entries] = last;
+    alarm(SECONDS);
+    list(headwords_analyse, name, image, (struct bytes){word, letters}, 3 * ROW, 0, nothing);
+    list(headwords_generate, name, image, (struct bytes){path, 2 * entries + 2}, 3 * ROW, 0, nothing);
+    alarm(0);
+    printf("%s: no reading of the word, and none of a path\n", name);
+}
+
+/* Two readings, with much between them that leads nowhere: what is written before the search is found to be long is written again. */
+static void between(const char *folder, const char *name)
+{
+    struct bytes image = image_of(folder, name);
+    uint8_t rows[2 * ROW];
+    put_row(rows, BYTES(0, 0), BYTES(0));
+    put_row(rows + ROW, BYTES(2, 0, 8, 0), BYTES(0));
+    alarm(SECONDS);
+    for (size_t room = 0; room <= 3; room++)
+        list(headwords_analyse, name, image, BYTES(2), room * ROW, room < 2 ? 4 * room + 2 : 4 * 2 + 1, (struct bytes){rows, (room < 2 ? room : 2) * ROW});
+    alarm(0);
+    printf("%s: both readings, in buffers of 0 to 3 rows\n", name);
+}
+
+int main(int argc, char **argv)
+{
+    if (argc != 2)
+        return 2;
+    const char *folder = argv[1];
+    none(folder, "circle-4-refused", 1, 15, 4);
+    none(folder, "circle-10-refused", 1, 15, 10);
+    none(folder, "form-refused", 32, 1, 1);
+    none(folder, "letter-refused", 32, 15, 1);
+    none(folder, "equal-refused", 16, 15, 100);
+    between(folder, "between");
+    return 0;
+}

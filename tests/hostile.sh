@@ -1,0 +1,60 @@
+#!/usr/bin/env bash
+# Grammars that leave a search much to try and nothing to find: it ends, by the line program and from C, where dead ends are worth remembering. Where
+# they are not, an answer that stands before the word is handed over all the same.
+set -eu
+cd "$(dirname "$0")/.."
+root=$PWD
+export CARGO_TARGET_DIR=$root/target/cargo
+(cd assemble && cargo build --offline --locked --quiet --release)
+tools/prove lines
+tools/library
+work=$(mktemp -d)
+trap 'rm -rf "$work"' EXIT
+assembler=$CARGO_TARGET_DIR/release/assemble
+cc -std=c99 -O1 -Wall -Wextra -Werror -Iinclude -o "$work/hostile" tests/hostile.c target/staticlib/libheadwords.a
+cd "$work"
+
+# lay_out NAME: NAME.img, grammar.img and the word
+lay_out() {
+    "$root/bench/hostile_text" "$1" >grammar.txt
+    "$assembler" grammar.txt grammar.img 2>/dev/null
+    "$root/bench/hostile_text" "$1" word | "$assembler" --words grammar.txt >word
+    cp grammar.img "$1.img"
+}
+
+for name in $("$root/bench/hostile_text" | grep -vx mindful); do
+    lay_out "$name"
+    [ "$(timeout 10 "$root/target/bin/lines" <word)" = "none 0" ] || { echo "$name: not answered with none 0 within 10 seconds"; exit 1; }
+done
+echo "words without a reading: none, by the line program"
+
+# two readings, and between them five empty entries in a circle from which no path ends
+cat >between.txt <<'TEXT'
+BOUNDARY #
+NULL 0
+ANY @
+ALPHABET a
+PAIRS a:a
+LEXICON Start
+a #
+0 Circle
+a Last
+LEXICON Circle
+0 Circle
+0 Circle
+0 Circle
+0 Circle
+0 Circle
+LEXICON Last
+0 #
+END
+TEXT
+"$assembler" between.txt between.img 2>/dev/null
+./hostile .
+
+# not held back: the first line is answered while the second is searched
+lay_out mindful
+{ echo 1; cat word; } >two
+timeout 2 "$root/target/bin/lines" <two >printed && { echo "mindful: the word was answered"; exit 1; }
+[ "$(cat printed)" = "refused 10" ]
+echo "an answered line: handed over before a long search"
