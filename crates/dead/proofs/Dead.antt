@@ -1,10 +1,11 @@
--- A blank table remembers nothing; where nothing is found after one trail nothing is found after another as long; a node's numbers tell the node.
+-- A blank table remembers nothing; where nothing is found after one trail nothing is found after another as long.
 use Prim.Native.Nat.{ℕ, _+_, _*_}
 use native.Mathlib.Omega.{arith}
-use mathlib.Core.Path.{_≡_, refl, sym, ap, _∙_, subst}
+use mathlib.Core.Path.{_≡_, refl, sym, ap, _∙_}
 use mathlib.Core.List.{List, [], _∷_, map}
 use lib.ListN.{getD, drop, replicate, length-replicate, getD-replicate}
 use lib.Seq.{getD-take, getD-drop}
+use Rattle.model.specs.Lists.{part}
 use Rattle.model.specs.Grammar.{Grammar}
 use Rattle.model.specs.Readings.{Reading}
 use Rattle.model.specs.Query.{Query}
@@ -18,7 +19,7 @@ use Rattle.listing.specs.Gather.{gather, stepsFrom}
 use Rattle.listing.specs.Places.{nodeOf}
 use Rattle.listing.specs.Search.{foundAt}
 use Rattle.listing.proofs.Gather.{gather-walk}
-use Rattle.dead.specs.Dead.{DeadAt, keyOf, slotAt, Remembered}
+use Rattle.dead.specs.Dead.{DeadAt, widthOf, Remembered}
 
 map-none : {A B : Type 0} (f : A → B) (l : List A) → map f l ≡ [] → l ≡ []
 map-none f [] e = refl
@@ -41,21 +42,9 @@ module _ (image : List ℕ) (q : Query) where
   -- the first number of a blank slot is 0
   pub none-remembered : (n : ℕ) → Remembered image q (replicate n 0)
   unfolding Remembered
-  none-remembered n k inside place entries pairs e =
+  none-remembered n _ k inside place entries pairs e =
+      let w = widthOf image in
       let blank = replicate {A = ℕ} n 0 in
-      let first : getD (slotAt blank k) 0 0 ≡ pairs + 1 = ap (λ (l : List ℕ). getD l 0 0) e in
-      let zero : getD (slotAt blank k) 0 0 ≡ 0 = getD-take 40 (drop (40 * k) blank) 0 0 (omega arith) ∙ getD-drop (40 * k) blank 0 0 ∙ getD-replicate n (40 * k + 0) 0 0 (omega (arith, length-replicate {A = ℕ} n 0)) in
+      let first : getD (part w blank k) 0 0 ≡ pairs + 1 = ap (λ (l : List ℕ). getD l 0 0) e in
+      let zero : getD (part w blank k) 0 0 ≡ 0 = getD-take w (drop (w * k) blank) 0 0 (omega arith) ∙ getD-drop (w * k) blank 0 0 ∙ getD-replicate n (w * k + 0) 0 0 (omega (arith, length-replicate {A = ℕ} n 0)) in
       absurd (omega arith)
-
--- the place whose numbers these are
-placeOf : List ℕ → Place
-placeOf key = record { from = getD key 2 0; to = getD key 3 0; last = getD key 4 0; nulls = getD key 5 0; surface = record { letters = getD key 6 0; nulls = getD key 7 0 }; states = drop 8 key }
-
--- nodes of the same numbers are the same, so from both nothing is found
-pub dead-same : (image : List ℕ) (q : Query) (p r : Place) (entries entries′ pairs pairs′ : ℕ) → keyOf p entries pairs ≡ keyOf r entries′ pairs′ → DeadAt image q p entries pairs → DeadAt image q r entries′ pairs′
-unfolding placeOf
-dead-same image q p r entries entries′ pairs pairs′ e dead trail es ps =
-    let same-entries : entries ≡ entries′ = ap (λ (l : List ℕ). getD l 1 0) e in
-    let same-pairs : pairs + 1 ≡ pairs′ + 1 = ap (λ (l : List ℕ). getD l 0 0) e in
-    let same-place : p ≡ r = ap placeOf e in
-    subst (λ (x : Place). foundAt image q x trail ≡ []) same-place (dead trail (es ∙ sym same-entries) (omega arith))

@@ -1,5 +1,5 @@
--- Laws that the proofs of functions cite; `Dead` and `Answers` are for the callers too.
+-- Laws that the proofs of functions cite; `Dead` is for the callers too.
 pub mod Dead
+pub mod Keys
 pub mod Agreeing
 pub mod Slots
-pub mod Answers

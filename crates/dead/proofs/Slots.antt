@@ -1,79 +1,117 @@
 -- What a table remembers after a slot is stored: the other slots are as they were.
-use Prim.Native.Nat.{ℕ, _+_, _*_, _-_, _<_, _≤_}
+use Prim.Native.Nat.{ℕ, suc, _+_, _*_, _-_, _<_, _≤_}
+use native.Mathlib.Nat.{le-refl, mul-suc, mul-le-mul}
 use native.Mathlib.Decide.{decLt, ℕ-discrete}
 use native.Mathlib.Omega.{arith}
 use mathlib.Core.Path.{_≡_, sym, ap, _∙_}
 use mathlib.Core.List.{List, _++_, append-assoc}
 use lib.ListN.{length, take, drop, length-append, length-take, length-drop, take-append-drop}
-use lib.Seq.{take-at, drop-at, take-append-le, drop-append-le, drop-append-add, drop-drop}
+use lib.Seq.{length-take-le, take-at, drop-at, take-append-le, drop-append-le, drop-append-add}
+use Rattle.model.specs.Lists.{part}
 use Rattle.model.specs.Query.{Query}
 use Rattle.listing.specs.declared.place.Place.{Place}
-use Rattle.dead.specs.Dead.{DeadAt, keyOf, slotAt, Remembered}
-use Rattle.dead.proofs.Dead.{dead-same}
+use Rattle.dead.specs.Dead.{DeadAt, widthOf, keyOf, Remembered}
+use Rattle.dead.proofs.Keys.{same-node, dead-same}
 
 -- a table with another slot j
-abbrev stored : List ℕ → ℕ → List ℕ → List ℕ
-stored table j key = take (40 * j) table ++ (key ++ drop 40 (drop (40 * j) table))
+abbrev pub stored : ℕ → List ℕ → ℕ → List ℕ → List ℕ
+stored w table j key = take (w * j) table ++ (key ++ drop w (drop (w * j) table))
 
--- a slot is in the front, or in what comes after it
-in-front : (p l : List ℕ) (k : ℕ) → 40 * k + 40 ≤ length p → slotAt (p ++ l) k ≡ slotAt p k
-in-front p l k h =
-    ap (take 40) (drop-append-le (40 * k) p l (omega arith))
-    ∙ take-append-le 40 (drop (40 * k) p) l (omega (arith, length-drop (40 * k) p))
+-- a part of a table from here on, as the code takes it
+pub room-long : (table : List ℕ) (w at : ℕ) → at + w ≤ length table → length (take ((at + w) - at) (drop at table)) ≡ w
+room-long table w at h = simp (length-take, length-drop) (omega arith)
 
-past : (p l : List ℕ) (j k : ℕ) → length p ≡ 40 * j → j ≤ k → slotAt (p ++ l) k ≡ slotAt l (k - j)
-past p l j k long h =
-    let e : 40 * k ≡ length p + 40 * (k - j) = omega arith in
-    ap (λ (n : ℕ). take 40 (drop n (p ++ l))) e ∙ ap (take 40) (drop-append-add p l (40 * (k - j)))
+module _ (w : ℕ) where
+  -- slots lie one after the other
+  apart : (j k : ℕ) → j < k → w * j + w ≤ w * k
+  apart j k h = omega (arith, mul-suc w j, mul-le-mul {n₁ = w} {m₁ = suc j} {n₂ = w} {m₂ = k} (le-refl w) h)
 
-module _ (table key : List ℕ) (j : ℕ) (inside : 40 * j + 40 ≤ length table) (long : length key ≡ 40) where
-  front-long : length (take (40 * j) table) ≡ 40 * j
-  front-long = omega (arith, length-take (40 * j) table)
+  -- a slot that lies in the front, and one that lies past a front of this length
+  in-front : (p l : List ℕ) (k : ℕ) → w * k + w ≤ length p → part w (p ++ l) k ≡ part w p k
+  in-front p l k h =
+      ap (take w) (drop-append-le (w * k) p l (omega arith))
+      ∙ take-append-le w (drop (w * k) p) l (omega (arith, length-drop (w * k) p))
 
-  length-stored : length (stored table j key) ≡ length table
-  length-stored = simp (length-append, length-take, length-drop) (omega arith)
+  past : (p r l : List ℕ) (k : ℕ) → length p ≡ length r → length p ≤ w * k → part w (p ++ l) k ≡ part w (r ++ l) k
+  past p r l k same h =
+      let e : w * k ≡ length p + (w * k - length p) = omega arith in
+      let f : w * k ≡ length r + (w * k - length p) = omega arith in
+      let n = w * k - length p in
+      ap (λ (m : ℕ). take w (drop m (p ++ l))) e
+      ∙ ap (take w) (drop-append-add p l n ∙ sym (drop-append-add r l n))
+      ∙ ap (λ (m : ℕ). take w (drop m (r ++ l))) (sym f)
 
-  slot-stored : slotAt (stored table j key) j ≡ key
-  slot-stored =
-      ap (take 40) (drop-at (take (40 * j) table) (key ++ drop 40 (drop (40 * j) table)) (40 * j) front-long)
-      ∙ take-at key (drop 40 (drop (40 * j) table)) 40 long
+  module _ (table key : List ℕ) (j : ℕ) (inside : w * j + w ≤ length table) (long : length key ≡ w) where
+    front-long : length (take (w * j) table) ≡ w * j
+    front-long = omega (arith, length-take (w * j) table)
 
-  slot-before : (k : ℕ) → k < j → slotAt (stored table j key) k ≡ slotAt table k
-  slot-before k h =
-      let p = take (40 * j) table in
-      let fits : 40 * k + 40 ≤ length p = omega (arith, front-long) in
-      in-front p _ k fits ∙ sym (in-front p (drop (40 * j) table) k fits) ∙ ap (λ (l : List ℕ). slotAt l k) (take-append-drop (40 * j) table)
+    length-stored : length (stored w table j key) ≡ length table
+    length-stored = simp (length-append, length-take, length-drop) (omega arith)
 
-  slot-after : (k : ℕ) → j < k → slotAt (stored table j key) k ≡ slotAt table k
-  slot-after k h =
-      let p = take (40 * j) table in
-      let l = drop 40 (drop (40 * j) table) in
-      let e : length (p ++ key) ≡ 40 * (j + 1) = omega (arith, length-append p key, front-long) in
-      let n : (40 * j + 40) + 40 * (k - (j + 1)) ≡ 40 * k = omega arith in
-      ap (λ (m : List ℕ). slotAt m k) (sym (append-assoc p key l))
-      ∙ past (p ++ key) l (j + 1) k e (omega arith)
-      ∙ ap (take 40) (ap (drop (40 * (k - (j + 1)))) (drop-drop 40 (40 * j) table) ∙ drop-drop (40 * (k - (j + 1))) (40 * j + 40) table ∙ ap (λ (m : ℕ). drop m table) n)
+    slot-stored : part w (stored w table j key) j ≡ key
+    slot-stored =
+        ap (take w) (drop-at (take (w * j) table) (key ++ drop w (drop (w * j) table)) (w * j) front-long)
+        ∙ take-at key (drop w (drop (w * j) table)) w long
+
+    slot-before : (k : ℕ) → k < j → part w (stored w table j key) k ≡ part w table k
+    slot-before k h =
+        let p = take (w * j) table in
+        let fits : w * k + w ≤ length p = omega (arith, front-long, apart k j h) in
+        in-front p _ k fits ∙ sym (in-front p (drop (w * j) table) k fits) ∙ ap (λ (l : List ℕ). part w l k) (take-append-drop (w * j) table)
+
+    slot-after : (k : ℕ) → j < k → part w (stored w table j key) k ≡ part w table k
+    slot-after k h =
+        let p = take (w * j) table in
+        let old = take w (drop (w * j) table) in
+        let l = drop w (drop (w * j) table) in
+        let a : length (p ++ key) ≡ w * j + w = omega (arith, length-append p key, front-long) in
+        let b : length (p ++ old) ≡ w * j + w = simp (length-append, length-take, length-drop) (omega arith) in
+        let whole : (p ++ old) ++ l ≡ table = append-assoc p old l ∙ ap (λ (m : List ℕ). p ++ m) (take-append-drop w (drop (w * j) table)) ∙ take-append-drop (w * j) table in
+        ap (λ (m : List ℕ). part w m k) (sym (append-assoc p key l))
+        ∙ past (p ++ key) (p ++ old) l k (a ∙ sym b) (omega (arith, apart j k h))
+        ∙ ap (λ (m : List ℕ). part w m k) whole
 
 module _ (image : List ℕ) (q : Query) where
+  abbrev w : ℕ
+  w = widthOf image
+
   -- a table without a slot remembers nothing
   pub no-slot : (table : List ℕ) → length table < 40 → Remembered image q table
   unfolding Remembered
-  no-slot table h k inside = absurd (omega arith)
+  no-slot table h large = absurd (omega arith)
 
-  -- what a slot has is remembered
-  pub recalled : (table : List ℕ) (k : ℕ) (place : Place) (entries pairs : ℕ) → 40 * k + 40 ≤ length table → slotAt table k ≡ keyOf place entries pairs → Remembered image q table → DeadAt image q place entries pairs
-  unfolding Remembered
-  recalled table k place entries pairs inside e known = known k inside place entries pairs e
+  -- slot k is looked at for a node, whose numbers the key begins with
+  module _ (table : List ℕ) (k : ℕ) (large : 40 ≤ length table) (inside : w * k + w ≤ length table)
+      (place : Place) (entries pairs : ℕ) (key : List ℕ) (is : take w key ≡ keyOf image place entries pairs) where
+    slot-long : length (part w table k) ≡ w
+    slot-long = simp (length-take, length-drop) (omega arith)
 
-  -- a dead node's numbers may be stored in any slot
-  pub remembers : (table key : List ℕ) (j : ℕ) (place : Place) (entries pairs : ℕ) → 40 * j + 40 ≤ length table → length key ≡ 40 → key ≡ keyOf place entries pairs → Remembered image q table → DeadAt image q place entries pairs → Remembered image q (stored table j key)
-  unfolding Remembered
-  remembers table key j place entries pairs inside long is known dead k fits other es ps e = go (ℕ-discrete k j) (decLt k j)
-    where
-      fits′ : 40 * k + 40 ≤ length table
-      fits′ = omega (arith, length-stored table key j inside long)
+    -- as much of the key as the slot has room for: the node's numbers
+    abbrev new : List ℕ
+    new = take (length (part w table k)) key
 
-      go : Dec (k ≡ j) → Dec (k < j) → DeadAt image q other es ps
-      go (yes at) h = dead-same image q place other entries es pairs ps (sym is ∙ sym (slot-stored table key j inside long) ∙ ap (slotAt (stored table j key)) (sym at) ∙ e) dead
-      go (no at) (yes h) = known k fits′ other es ps (sym (slot-before table key j inside long k h) ∙ e)
-      go (no at) (no h) = known k fits′ other es ps (sym (slot-after table key j inside long k (omega arith)) ∙ e)
+    as-key : new ≡ keyOf image place entries pairs
+    as-key = ap (λ (n : ℕ). take n key) slot-long ∙ is
+
+    -- what a slot has is remembered
+    pub recalled : part w table k ≡ new → Remembered image q table → DeadAt image q place entries pairs
+    unfolding Remembered
+    recalled e known = known large k inside place entries pairs (e ∙ as-key)
+
+    -- a dead node's numbers may be stored in any slot
+    pub remembers : w ≤ length key → Remembered image q table → DeadAt image q place entries pairs → Remembered image q (stored w table k new)
+    unfolding Remembered
+    remembers enough known dead _ i fits other es ps e = go (ℕ-discrete i k) (decLt i k)
+      where
+        long : length new ≡ w
+        long = length-take-le (length (part w table k)) key (omega (arith, slot-long)) ∙ slot-long
+
+        fits′ : w * i + w ≤ length table
+        fits′ = omega (arith, length-stored w table new k inside long)
+
+        go : Dec (i ≡ k) → Dec (i < k) → DeadAt image q other es ps
+        go (yes at) h =
+            let same = sym as-key ∙ sym (slot-stored w table new k inside long) ∙ ap (part w (stored w table k new)) (sym at) ∙ e in
+            dead-same image place other entries es pairs ps q (same-node image place other entries es pairs ps same) dead
+        go (no at) (yes h) = known large i fits′ other es ps (sym (slot-before w table new k inside long i h) ∙ e)
+        go (no at) (no h) = known large i fits′ other es ps (sym (slot-after w table new k inside long i (omega arith)) ∙ e)

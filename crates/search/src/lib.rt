@@ -24,7 +24,6 @@ ghost use Rattle.dead.specs.Dead.{Remembered};
 ghost use Rattle.search.specs.Listed.{Listed};
 ghost use Rattle.search.specs.Offered.{Offered};
 ghost use Rattle.search.specs.Here.{opensAt, Underway};
-use dead::Met;
 use image::Header;
 use listing::asked::Asked;
 use listing::level::Level;
@@ -285,7 +284,8 @@ pub fn open_listed(
     n
 }
 
-// Where a letter is left or the path has ended: the pairs that are forced are taken, and then each that may come next.
+// Where a letter is left or the path has ended: the pairs that are forced are taken, and then each that may come next, unless that is known to find
+// nothing; where it found nothing, that is remembered. With a table that only counts, the search gives up where it has met too many nodes.
 pub fn pair(
     image: &[u8],
     index: &[u8],
@@ -310,17 +310,8 @@ pub fn pair(
     ensures rows { λ r. ⌜ Offered capacity (now (out .entry), found) (foundAt (now (image .entry)) (queryBy asked (now (path .entry)) (now (word .entry))) place trail) (now (out .exit), r) (length (now (table .entry))) ⌝ }
     ensures table { λ r. ⌜ Remembered (now (image .entry)) (queryBy asked (now (path .entry)) (now (word .entry))) (now (table .exit)) ⌝ }
 {
-    let entries = trail.entries;
-    let pairs = trail.pairs;
-    let met = dead::meet(table, place, entries, pairs);
-    match met {
-        Met::Dead => {
-            return found;
-        }
-        Met::GaveUp => {
-            return capacity + 2;
-        }
-        Met::On => {}
+    if !dead::count(table) {
+        return capacity + 2;
     }
     let word_asked = asked.word;
     let led = crate::forced::lead(image, index, h, word_asked, word, place, trail);
@@ -330,6 +321,11 @@ pub fn pair(
     }
     let next = led.place;
     let longer = led.trail;
+    let entries = longer.entries;
+    let pairs = longer.pairs;
+    if dead::is_dead(image, h, table, next, entries, pairs) {
+        return found;
+    }
     let n = pair_each(
         image,
         index,
@@ -348,7 +344,7 @@ pub fn pair(
         table,
     );
     if n == found {
-        dead::remember(table, place, entries, pairs);
+        dead::remember(image, h, table, next, entries, pairs);
     }
     n
 }
@@ -555,7 +551,7 @@ pub fn search_long(
     requires { ⌜ MayBe (now image) (now forms) × Writable (now word) ⌝ }
     ensures { λ r. ⌜ (now (out .exit), r) ≡ offerAll (put (rowCount (now (out .entry)))) (now (out .entry), 0) (readings (grammarOf (now (image .entry))) (queryBy asked (now (path .entry)) (now (word .entry)))) ⌝ }
 {
-    let mut table = [0u16; 40960];
+    let mut table = [0u16; 20480];
     from_start(image, index, h, asked, path, word, forms, out, &mut table)
 }
 

@@ -5,10 +5,10 @@ use Rattle.dead.proofs.hash_of.Statement.{statement}
 use Rattle.dead.proofs.hash_of.Tie as tie
 
 abbrev Inv-loop : tie.InvT-loop
-Inv-loop key x₀ n₀ x n = (n ≤ 40) × (x < 4294967296)
+Inv-loop key width x₀ n₀ x n = (n ≤ width) × (x < 4294967296)
 
 abbrev μ-loop : tie.MeasureT-loop
-μ-loop key x₀ n₀ x n = 40 - n
+μ-loop key width x₀ n₀ x n = width - n
 
 loop-holds : tie.Need-loop-holds Inv-loop μ-loop
 loop-holds c = search needs

@@ -11,10 +11,10 @@ use Rattle.dead.proofs.is_narrow.Statement.{statement}
 use Rattle.dead.proofs.is_narrow.Tie as tie
 
 abbrev Inv-loop : tie.InvT-loop
-Inv-loop key j₀ j = (j ≤ 40) × ((k : ℕ) → k < j → getD key k 0 < 65536)
+Inv-loop key width j₀ j = (j ≤ width) × ((k : ℕ) → k < j → getD key k 0 < 65536)
 
 abbrev μ-loop : tie.MeasureT-loop
-μ-loop key j₀ j = 40 - j
+μ-loop key width j₀ j = width - j
 
 loop-holds : tie.Need-loop-holds Inv-loop μ-loop
 loop-holds c = search needs

@@ -1,20 +1,45 @@
 -- `key_of` meets its contract: at the loop's head the first eight numbers and i states are in their places.
 use borrow.Author.Needs.{needs}
 use native.Mathlib.Omega.{arith}
-use mathlib.Core.Path.{_≡_, ap, _∙_}
-use Prim.Native.Nat.{ℕ, _+_, _-_, _≤_}
+use mathlib.Core.Path.{_≡_, sym, ap, _∙_, subst}
+use mathlib.Core.List.{List, [], _∷_, _++_}
+use Prim.Native.Nat.{ℕ, _+_, _-_, _<_, _≤_}
 use lib.ListN.{length, getD, take, replicate}
-use lib.Seq.{getD-drop}
-use Rattle.dead.specs.Dead.{keyOf}
+use lib.Seq.{getD-take, getD-drop, length-take-le}
+use mir.Syntax.{w64}
+use mir.Val.{Fits}
+use Rattle.model.specs.Blocks.{Header, header}
+use Rattle.listing.specs.declared.place.Place.{Place}
+use Rattle.dead.specs.declared.Left.{Left}
+use Rattle.dead.specs.Dead.{leftOf, widthOf, keyOf}
 use Rattle.dead.proofs.Agreeing.{Agree, agree-front, agree-set, agree-all}
 use Rattle.dead.proofs.key_of.Statement.{statement}
 use Rattle.dead.proofs.key_of.Tie as tie
 
+abbrev eight : Left → Place → ℕ → ℕ → List ℕ
+eight left place entries pairs = (pairs + 1) ∷ entries ∷ left .from ∷ left .to ∷ left .last ∷ place .nulls ∷ place .surface .letters ∷ place .surface .nulls ∷ []
+
 abbrev Inv-loop : tie.InvT-loop
-Inv-loop entries pairs place key₀ i₀ key i = (i ≤ 32) × ((length key ≡ 40) × Agree key (keyOf place entries pairs) (i + 8))
+Inv-loop image entries pairs place rules key₀ i₀ key i = (i ≤ rules) × ((length key ≡ 40) × Agree key (keyOf image place entries pairs) (i + 8))
 
 abbrev μ-loop : tie.MeasureT-loop
-μ-loop entries pairs place key₀ i₀ key i = 32 - i
+μ-loop image entries pairs place rules key₀ i₀ key i = rules - i
+
+-- there are 32 states, each a byte
+states-long : (start : tie.Start Inv-loop μ-loop) → length (start .args .t3 .states) ≡ 32
+states-long start = search needs
+
+state-fits : (start : tie.Start Inv-loop μ-loop) (i : ℕ) → Fits w64 (getD (start .args .t3 .states) i 0)
+state-fits start i = search needs
+
+-- the first eight numbers, by what is left
+eight-in : (image : List ℕ) (place : Place) (entries pairs : ℕ) (left : Left) → left ≡ leftOf image place → Agree (eight left place entries pairs ++ replicate 32 0) (keyOf image place entries pairs) 8
+eight-in image place entries pairs left e =
+    subst (λ (l : Left). Agree (eight l place entries pairs ++ replicate 32 0) (keyOf image place entries pairs) 8) (sym e)
+    (agree-front (eight (leftOf image place) place entries pairs) (replicate 32 0) (take (header image .rules) (place .states)))
+
+left-of-requires : tie.Need-left-of-requires Inv-loop μ-loop
+left-of-requires c κs = search needs
 
 add-key : tie.Need-add-key Inv-loop μ-loop
 add-key c = search needs
@@ -45,14 +70,14 @@ array-write-key-8 c = search needs
 
 loop-holds : tie.Need-loop-holds Inv-loop μ-loop
 loop-holds c =
-    let a = c .before .args in
-    (search needs, (search needs, agree-front (take 8 (keyOf (a .t1) (a .entries) (a .pairs))) (replicate 32 0) (a .t1 .states)))
+    let a = c .before .before .before .args in
+    (search needs, (search needs, eight-in (a .image .now) (a .t3) (a .entries) (a .pairs) (c .before .left-of .result) (c .before .left-of .ensures)))
 
 element-copy-out-state : tie.Need-element-copy-out-state Inv-loop μ-loop
 element-copy-out-state c = search needs
 
 cast-key : tie.Need-cast-key Inv-loop μ-loop
-cast-key c = search needs
+cast-key c = let at = c .before .before in state-fits (at .before .before .before .before) (at .loop .i)
 
 add-key-2 : tie.Need-add-key-2 Inv-loop μ-loop
 add-key-2 c = search needs
@@ -72,20 +97,26 @@ loop-less c = search needs
 loop-again : tie.Need-loop-again Inv-loop μ-loop
 loop-again c =
     let at = c .before .before in
-    let a = at .before .before .args in
+    let start = at .before .before .before .before in
+    let a = start .args in
     let i = at .loop .i in
-    let key = keyOf (a .t1) (a .entries) (a .pairs) in
+    let key = keyOf (a .image .now) (a .t3) (a .entries) (a .pairs) in
+    let few = ap (λ (g : Header). g .rules) (start .pre .0 .laid .header-is) in
+    let inside : i < header (a .image .now) .rules = omega (arith, c .before .loop-test .taken) in
     let f : 8 + i ≡ i + 8 = omega arith in
-    let state : getD (a .t1 .states) i 0 ≡ getD key (i + 8) 0 = getD-drop 8 key i 0 ∙ ap (λ (k : ℕ). getD key k 0) f in
+    let state : getD (a .t3 .states) i 0 ≡ getD key (i + 8) 0 = sym (getD-take (header (a .image .now) .rules) (a .t3 .states) i 0 inside) ∙ getD-drop 8 key i 0 ∙ ap (λ (k : ℕ). getD key k 0) f in
     let e : (i + 8) + 1 ≡ (i + 1) + 8 = omega arith in
-    (search needs, (search needs, rw e at (agree-set (at .loop .key) key (i + 8) (getD (a .t1 .states) i 0) (omega arith) state (at .loop .inv .1 .1))))
+    (search needs, (search needs, rw e at (agree-set (at .loop .key) key (i + 8) (getD (a .t3 .states) i 0) (omega arith) state (at .loop .inv .1 .1))))
 
 returns : tie.Need-returns Inv-loop μ-loop
 returns c =
     let at = c .before in
-    let a = at .before .before .args in
-    let l : length (a .t1 .states) ≡ 32 = search needs in
-    agree-all (at .loop .key) (keyOf (a .t1) (a .entries) (a .pairs)) 40 (at .loop .inv .1 .0) (omega arith) (λ k h. at .loop .inv .1 .1 k (omega (arith, c .loop-test .left)))
+    let start = at .before .before .before .before in
+    let a = start .args in
+    let w = widthOf (a .image .now) in
+    let few = ap (λ (g : Header). g .rules) (start .pre .0 .laid .header-is) in
+    let long = length-take-le (header (a .image .now) .rules) (a .t3 .states) (omega (arith, states-long start, start .pre .0 .laid .limits .rules-most)) in
+    sym (agree-all (keyOf (a .image .now) (a .t3) (a .entries) (a .pairs)) (at .loop .key) w (omega arith) (omega arith) (λ k h. sym (at .loop .inv .1 .1 k (omega (arith, c .loop-test .left)))))
 
 pub key-of-spec : {M : Type 1} → statement M
 key-of-spec =
@@ -93,6 +124,7 @@ key-of-spec =
     (tie.spec
     Inv-loop
     μ-loop
+    left-of-requires
     add-key
     array-write-key
     array-write-key-2

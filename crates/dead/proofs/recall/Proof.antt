@@ -1,14 +1,19 @@
 -- `recall` meets its contract: the slot that is compared has the node's numbers.
 use borrow.Author.Needs.{needs}
 use native.Mathlib.Omega.{arith}
-use mathlib.Core.Path.{_≡_, _∙_}
+use mathlib.Core.Path.{_≡_, ap}
 use Prim.Native.Nat.{_+_, _*_, _-_}
+use Rattle.model.specs.Blocks.{Header}
+use Rattle.dead.specs.Dead.{widthOf}
 use Rattle.dead.proofs.Slots.{recalled}
 use Rattle.dead.proofs.recall.Statement.{statement}
 use Rattle.dead.proofs.recall.Tie as tie
 
 key-of-requires : tie.Need-key-of-requires
 key-of-requires c κs = search needs
+
+add-width : tie.Need-add-width
+add-width c = search needs
 
 slot-of-requires : tie.Need-slot-of-requires
 slot-of-requires c κs = search needs
@@ -37,17 +42,22 @@ same-requires c κs = search needs
 returns : tie.Need-returns
 returns c =
     let slot = c .before .before .before in
-    let key = slot .before .before in
-    let a = key .before .before .args in
+    let key = slot .before .before .before in
+    let start = key .before .before .before in
+    let a = start .args in
+    let image = a .image .now in
+    let table = a .table .now in
     let k = slot .slot-of .result in
-    let long : (40 * k + 40) - 40 * k ≡ 40 = omega arith in
-    λ image q known e. recalled image q (a .table .now) k (a .place) (a .entries) (a .pairs) (omega arith) ((rw long at (c .same .ensures e)) ∙ key .key-of .ensures) known
+    let wide : 8 + a .h .rules ≡ widthOf image = ap (λ (g : Header). 8 + g .rules) (start .pre .0 .laid .header-is) in
+    let long : ((8 + a .h .rules) * k + (8 + a .h .rules)) - (8 + a .h .rules) * k ≡ 8 + a .h .rules = omega arith in
+    λ q known e. recalled image q table k (start .pre .1 .1 .0) (rw wide at (slot .slot-of .ensures)) (a .place) (a .entries) (a .pairs) (key .key-of .result) (key .key-of .ensures) (rw (long, wide) at (c .same .ensures e)) known
 
 pub recall-spec : {M : Type 1} → statement M
 recall-spec =
     tie.close
     (tie.spec
     key-of-requires
+    add-width
     slot-of-requires
     mul-at
     add-to

@@ -3,17 +3,18 @@ use borrow.Author.Needs.{needs}
 use borrow.Author.Count.{below-more}
 use native.Mathlib.Omega.{arith}
 use mathlib.Core.Bool.{true≢false}
-use mathlib.Core.Path.{sym, _∙_}
+use mathlib.Core.Path.{refl, sym, _∙_}
 use Prim.Native.Nat.{_-_, _≤_}
+use lib.ListN.{length}
 use Rattle.dead.proofs.Agreeing.{Agree, agree-all}
 use Rattle.dead.proofs.same.Statement.{statement}
 use Rattle.dead.proofs.same.Tie as tie
 
 abbrev Inv-loop : tie.InvT-loop
-Inv-loop slot key k₀ k = (k ≤ 40) × Agree slot key k
+Inv-loop slot key k₀ k = (k ≤ length slot) × Agree slot key k
 
 abbrev μ-loop : tie.MeasureT-loop
-μ-loop slot key k₀ k = 40 - k
+μ-loop slot key k₀ k = length slot - k
 
 loop-holds : tie.Need-loop-holds Inv-loop μ-loop
 loop-holds c = search needs
@@ -51,8 +52,7 @@ returns-2 : tie.Need-returns-2 Inv-loop μ-loop
 returns-2 c =
     let at = c .before in
     let a = at .before .before .args in
-    let pre = at .before .before .pre in
-    λ e. agree-all (a .slot .now) (a .key .now) 40 (pre .0) (pre .1) (λ i h. at .loop .inv .1 i (omega (arith, c .loop-test .left)))
+    λ e. agree-all (a .slot .now) (a .key .now) (length (a .slot .now)) refl (omega arith) (λ i h. at .loop .inv .1 i (omega (arith, c .loop-test .left)))
 
 pub same-spec : {M : Type 1} → statement M
 same-spec =

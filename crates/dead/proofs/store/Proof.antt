@@ -10,10 +10,10 @@ use Rattle.dead.proofs.store.Statement.{statement}
 use Rattle.dead.proofs.store.Tie as tie
 
 abbrev Inv-loop : tie.InvT-loop
-Inv-loop slot₀ key at₀ slot at = (at ≤ 40) × ((length slot ≡ 40) × Agree slot key at)
+Inv-loop slot₀ key at₀ slot at = (at ≤ length slot₀) × ((length slot ≡ length slot₀) × Agree slot key at)
 
 abbrev μ-loop : tie.MeasureT-loop
-μ-loop slot₀ key at₀ slot at = 40 - at
+μ-loop slot₀ key at₀ slot at = length slot₀ - at
 
 loop-holds : tie.Need-loop-holds Inv-loop μ-loop
 loop-holds c = search needs
@@ -53,8 +53,8 @@ same-length c = search needs
 returns : tie.Need-returns Inv-loop μ-loop
 returns c =
     let at = c .before in
-    let key = at .before .args .key .now in
-    agree-all (at .loop .slot) key 40 (at .loop .inv .1 .0) (at .before .pre .1 .0) (λ k h. at .loop .inv .1 .1 k (omega (arith, c .loop-test .left)))
+    let a = at .before .args in
+    agree-all (at .loop .slot) (a .key .now) (length (a .slot .now)) (at .loop .inv .1 .0) (omega arith) (λ k h. at .loop .inv .1 .1 k (omega (arith, c .loop-test .left)))
 
 pub store-spec : {M : Type 1} → statement M
 store-spec =

@@ -12,13 +12,13 @@ slice-aggregate-from-start : tie.Need-slice-aggregate-from-start
 slice-aggregate-from-start c = search needs
 
 from-start-requires : tie.Need-from-start-requires
-from-start-requires c κs = let s = c .before .before .before .before .before .before .before .before in (s .pre .0, (s .pre .1 .0, (s .pre .1 .1, (40960, (omega arith, refl)))))
+from-start-requires c κs = let s = c .before .before .before .before .before .before .before .before in (s .pre .0, (s .pre .1 .0, (s .pre .1 .1, (20480, (omega arith, refl)))))
 
 same-length : tie.Need-same-length
 same-length c = search needs
 
 returns : tie.Need-returns
-returns c = ⊎-elim (λ e. e) (λ g. absurd (omega (arith, g .few, length-replicate {A = ℕ} 40960 0))) (c .before .before .before .from-start .ensures)
+returns c = ⊎-elim (λ e. e) (λ g. absurd (omega (arith, g .few, length-replicate {A = ℕ} 20480 0))) (c .before .before .before .from-start .ensures)
 
 pub search-long-spec : {M : Type 1} → statement M
 search-long-spec = tie.close (tie.spec slice-aggregate-from-start from-start-requires same-length returns)

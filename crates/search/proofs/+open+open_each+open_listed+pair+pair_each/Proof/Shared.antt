@@ -9,7 +9,8 @@ use borrow.Fn.PlainCycle.{Measures, is, falls, and}
 use Rattle.model.specs.Query.{Query}
 use Rattle.rows.specs.Fill.{put}
 use Rattle.dead.specs.Dead.{Remembered}
-use Rattle.dead.proofs.meet.Reads as meet-reads
+use Rattle.dead.proofs.count.Reads as count-reads
+use Rattle.dead.proofs.is_dead.Reads as is-dead-reads
 use Rattle.dead.proofs.remember.Reads as remember-reads
 use Rattle.filter.proofs.choose.Reads as choose-reads
 use Rattle.listing.specs.Asked.{queryBy}
@@ -105,7 +106,7 @@ abbrev pub open-listed-claims : ℕ → open-listed-lts.Claims
 open-listed-claims t = (enter-reads.Asked, enter-reads.Learnt, pair-below t, pair.Post)
 
 abbrev pub pair-claims : ℕ → pair-lts.Claims
-pair-claims t = (meet-reads.Asked, meet-reads.Learnt, lead-reads.Asked, lead-reads.Learnt, pair-each-below t, pair-each.Post, remember-reads.Asked, remember-reads.Learnt)
+pair-claims t = (count-reads.Asked, count-reads.Learnt, lead-reads.Asked, lead-reads.Learnt, is-dead-reads.Asked, is-dead-reads.Learnt, pair-each-below t, pair-each.Post, remember-reads.Asked, remember-reads.Learnt)
 
 abbrev pub pair-each-claims : ℕ → pair-each-lts.Claims
 pair-each-claims t = (goes-on-reads.Asked, goes-on-reads.Learnt, open-below t, open.Post, put-ended-reads.Asked, put-ended-reads.Learnt, next-letter-reads.Asked, next-letter-reads.Learnt, candidate-count-reads.Asked, candidate-count-reads.Learnt, candidate-reads.Asked, candidate-reads.Learnt, take-reads.Asked, take-reads.Learnt, pair-below t, pair.Post)
