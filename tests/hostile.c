@@ -54,11 +54,14 @@ int main(int argc, char **argv)
     if (argc != 2)
         return 2;
     const char *folder = argv[1];
+    make_room(IMAGE, LONGEST);
+    make_room(GIVEN, 32);
+    make_room(OUT, 3 * ROW);
     none(folder, "circle-4-refused", 1, 15, 4);
     none(folder, "circle-10-refused", 1, 15, 10);
     none(folder, "form-refused", 32, 1, 1);
     none(folder, "letter-refused", 32, 15, 1);
     none(folder, "equal-refused", 16, 15, 100);
     between(folder, "between");
-    return 0;
+    return failures > 0;
 }
