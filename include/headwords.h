@@ -16,7 +16,7 @@
  *   - each pointer is to at least as many bytes as the length after it says, and is not NULL, even where the length is 0;
  *   - the ranges lent to one call do not overlap, save that two ranges that are only read may;
  *   - no other thread writes to a lent range during the call, and none reads one that the call may write;
- *   - 128 kilobytes of stack are free.
+ *   - 256 kilobytes of stack are free.
  *
  * Every reply is one number r. r % 4 == 3 is a refusal, numbered r / 4. The tests, in the order in which they are made:
  *    1  image length 0, over 65,536, or no multiple of 512
@@ -35,6 +35,13 @@
  *   13  pairing length 0 or over 40, or no such pair
  * A call makes those that its declaration below names, each over the whole image before the next; the first that fails
  * is the one told. A refused call writes nothing.
+ *
+ * What a call can cost at worst: every call ends, and all but the two listings within a few milliseconds. A listing goes
+ * through the ways in which entries and pairs may follow each other. Where that turns out long, it remembers the dead ends
+ * that it has met, so that empty entries in a circle or letters that may come, go or stand take milliseconds too. But
+ * where rules remember what was read, no two ways come to the same end: ten entries of one letter in a circle, spelled
+ * alike, leave 10 to the 16th ways to try, and no call can be interrupted. A program that takes images from people it does
+ * not trust makes its calls where they can be ended from outside, say in a process with a limit of time.
  */
 #ifndef HEADWORDS_H
 #define HEADWORDS_H
