@@ -67,9 +67,8 @@ fn left_of(image: &[u8], h: Header, place: Place) -> Left
     }
 }
 
-// A node's numbers in a row, all that decides what is found from it: eight, and the state of each rule. The rest is 0, and there for its size: what has
-// over a kilobyte of room, the compiler leaves a call, and does not copy into the search, which needs it rarely.
-fn key_of(image: &[u8], h: Header, place: Place, entries: usize, pairs: usize) -> [usize; 136]
+// A node's numbers in a row, all that decides what is found from it: eight, and the state of each rule. The rest is 0.
+fn key_of(image: &[u8], h: Header, place: Place, entries: usize, pairs: usize) -> [usize; 40]
     requires { ⌜ Accepted (now image) (headerOf h) ⌝ }
     requires { ⌜ Standing (now image) place ⌝ }
     requires { ⌜ pairs ≤ 40 ⌝ }
@@ -78,7 +77,7 @@ fn key_of(image: &[u8], h: Header, place: Place, entries: usize, pairs: usize) -
     let left = left_of(image, h, place);
     let surface = place.surface;
     let rules = h.rules;
-    let mut key = [0usize; 136];
+    let mut key = [0usize; 40];
     key[0] = pairs + 1;
     key[1] = entries;
     key[2] = left.from;
@@ -104,7 +103,7 @@ fn mix(x: usize, y: usize) -> usize
     (x + y % 65536) * 2654435769 / 65536 % 4294967296
 }
 
-fn hash_of(key: &[usize; 136], width: usize) -> usize
+fn hash_of(key: &[usize; 40], width: usize) -> usize
     requires { ⌜ width ≤ 40 ⌝ }
 {
     let mut x = 0;
@@ -117,7 +116,7 @@ fn hash_of(key: &[usize; 136], width: usize) -> usize
 }
 
 // Which slot of a table of this size is the node's.
-fn slot_of(size: usize, width: usize, key: &[usize; 136]) -> usize
+fn slot_of(size: usize, width: usize, key: &[usize; 40]) -> usize
     requires { ⌜ (1 ≤ width) × ((width ≤ 40) × (width ≤ size)) ⌝ }
     ensures { λ r. ⌜ width * r + width ≤ size ⌝ }
 {
@@ -131,8 +130,8 @@ fn wide(x: u16) -> usize
 }
 
 // Whether the slot has the node's numbers, each of them.
-fn same(slot: &[u16], key: &[usize; 136]) -> bool
-    requires { ⌜ (length (now slot) ≤ 40) × (length (now key) ≡ 136) ⌝ }
+fn same(slot: &[u16], key: &[usize; 40]) -> bool
+    requires { ⌜ (length (now slot) ≤ 40) × (length (now key) ≡ 40) ⌝ }
     ensures { λ r. ⌜ (r ≡ true → now (slot .entry) ≡ take (length (now (slot .entry))) (now (key .entry))) ⌝ }
 {
     let mut k = 0;
@@ -187,7 +186,7 @@ pub fn is_dead(
 }
 
 // Whether the table has room for each of the numbers.
-fn is_narrow(key: &[usize; 136], width: usize) -> bool
+fn is_narrow(key: &[usize; 40], width: usize) -> bool
     requires { ⌜ width ≤ 40 ⌝ }
     ensures { λ r. ⌜ (r ≡ true → Narrow width (now (key .entry))) ⌝ }
 {
@@ -201,8 +200,8 @@ fn is_narrow(key: &[usize; 136], width: usize) -> bool
     true
 }
 
-fn store(slot: &mut [u16], key: &[usize; 136])
-    requires { ⌜ (length (now slot) ≤ 40) × ((length (now key) ≡ 136) × Narrow (length (now slot)) (now key)) ⌝ }
+fn store(slot: &mut [u16], key: &[usize; 40])
+    requires { ⌜ (length (now slot) ≤ 40) × ((length (now key) ≡ 40) × Narrow (length (now slot)) (now key)) ⌝ }
     ensures { λ _. ⌜ now (slot .exit) ≡ take (length (now (slot .entry))) (now (key .entry)) ⌝ }
 {
     let mut at = 0;

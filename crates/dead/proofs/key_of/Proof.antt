@@ -20,7 +20,7 @@ abbrev eight : Left → Place → ℕ → ℕ → List ℕ
 eight left place entries pairs = (pairs + 1) ∷ entries ∷ left .from ∷ left .to ∷ left .last ∷ place .nulls ∷ place .surface .letters ∷ place .surface .nulls ∷ []
 
 abbrev Inv-loop : tie.InvT-loop
-Inv-loop image entries pairs place rules key₀ i₀ key i = (i ≤ rules) × ((length key ≡ 136) × Agree key (keyOf image place entries pairs) (i + 8))
+Inv-loop image entries pairs place rules key₀ i₀ key i = (i ≤ rules) × ((length key ≡ 40) × Agree key (keyOf image place entries pairs) (i + 8))
 
 abbrev μ-loop : tie.MeasureT-loop
 μ-loop image entries pairs place rules key₀ i₀ key i = rules - i
@@ -33,10 +33,10 @@ state-fits : (start : tie.Start Inv-loop μ-loop) (i : ℕ) → Fits w64 (getD (
 state-fits start i = search needs
 
 -- the first eight numbers, by what is left
-eight-in : (image : List ℕ) (place : Place) (entries pairs : ℕ) (left : Left) → left ≡ leftOf image place → Agree (eight left place entries pairs ++ replicate 128 0) (keyOf image place entries pairs) 8
+eight-in : (image : List ℕ) (place : Place) (entries pairs : ℕ) (left : Left) → left ≡ leftOf image place → Agree (eight left place entries pairs ++ replicate 32 0) (keyOf image place entries pairs) 8
 eight-in image place entries pairs left e =
-    subst (λ (l : Left). Agree (eight l place entries pairs ++ replicate 128 0) (keyOf image place entries pairs) 8) (sym e)
-    (agree-front (eight (leftOf image place) place entries pairs) (replicate 128 0) (take (header image .rules) (place .states)))
+    subst (λ (l : Left). Agree (eight l place entries pairs ++ replicate 32 0) (keyOf image place entries pairs) 8) (sym e)
+    (agree-front (eight (leftOf image place) place entries pairs) (replicate 32 0) (take (header image .rules) (place .states)))
 
 left-of-requires : tie.Need-left-of-requires Inv-loop μ-loop
 left-of-requires c κs = search needs
