@@ -1,4 +1,4 @@
--- Sets kept for each lexicon leave nothing out: all positions do not, and they still do not after one lexicon's set is replaced.
+-- Sets kept for each lexicon leave nothing out, and they still do not after one lexicon's set is replaced.
 use Prim.Native.Nat.{ℕ, zero, suc, _≤_, _<_}
 use native.Mathlib.Omega.{arith}
 use native.Mathlib.Decide.{ℕ-discrete}
@@ -38,9 +38,9 @@ module _ (f : Feasible) (n : ℕ) where
 module _ (image : List ℕ) (q : Query) (f : Feasible) where
   -- an entry goes on with a lexicon, or ends
   abbrev pub Continues : Type 0
-  Continues = (e : ℕ) → e < header image .entries → (continuation (entry image e) < 64) ⊎ (continuation (entry image e) ≡ 255)
+  Continues = (e : ℕ) → e < header image .entries → (continuation (entry image e) < header image .lexicons) ⊎ (continuation (entry image e) ≡ 255)
 
-  lexicon-of : {x : ℕ} → (x < 64) ⊎ (x ≡ 255) → (x ≡ 255 → ⊥) → x < 64
+  lexicon-of : {x : ℕ} → (x < header image .lexicons) ⊎ (x ≡ 255) → (x ≡ 255 → ⊥) → x < header image .lexicons
   lexicon-of (inl l) h = l
   lexicon-of (inr e) h = absurd (h e)
 
@@ -56,17 +56,6 @@ module _ (image : List ℕ) (q : Query) (f : Feasible) where
       let u = and-out (not (eqb (continuation (entry image e)) 255)) (inLexicon image (continuation (entry image e)) (s .0)) (s .1 .1 .0) in
       r .onward (continuation (entry image e)) (lexicon-of (r .continues e (inside-is inside)) (eqb-false (continuation (entry image e)) 255 (not-out (eqb (continuation (entry image e)) 255) (u .0)))) (s .0) (s .1 .0) (u .1) i (s .1 .1 .1)
 
-  -- all positions up to where a word may end
-  pub all-reach : Continues → (n : ℕ) → ((k : ℕ) → T (q .letters .mayEnd k) → k ≤ n) → Reaches image q f (λ x i. leb i n)
-  all-reach c n ends = record {
-    continues = c;
-    at-end = λ i s. le→leb i n (inserted-within f n 8 (λ k. T (q .letters .mayEnd k)) ends i s);
-    onward = λ x other e inside has i s. le→leb i n (leads-within f n (formOf (entry image e)) (λ k. T (leb k n)) (λ k t. leb→le k n t) i s);
-  }
-
-  pub everywhere-reach : Continues → Reaches image q f (λ x i. true)
-  everywhere-reach c = record { continues = c; at-end = λ i s. tt; onward = λ x other e inside has i s. tt }
-
   module _ (reach : ℕ → ℕ → Bool) (r : Reaches image q f reach) (y : ℕ) (m : ℕ → Bool) where
     replaced-same : (i : ℕ) → replaced reach y m y i ≡ m i
     unfolding replaced
@@ -77,7 +66,7 @@ module _ (image : List ℕ) (q : Query) (f : Feasible) where
     replaced-other x i h = rw (ne-eqb x y h) refl
 
     -- replaced by a part of itself that holds what its entries lead on to
-    module _ (lexicon : y < 64) (part : (i : ℕ) → T (m i) → T (reach y i))
+    module _ (place : y < 64) (part : (i : ℕ) → T (m i) → T (reach y i))
         (holds : (e : ℕ) → e < header image .entries → T (inLexicon image y e) → (i : ℕ) → Leads f (formOf (entry image e)) (λ k. T (afterIn image q f reach e k)) i → T (m i)) where
       less : (x i : ℕ) → T (replaced reach y m x i) → T (reach x i)
       less x i t = go (ℕ-discrete x y)
@@ -93,19 +82,8 @@ module _ (image : List ℕ) (q : Query) (f : Feasible) where
         onward = λ x other e inside has i s. go x other e inside has i (leads-map f (formOf (entry image e)) (λ k. T (afterIn image q f (replaced reach y m) e k)) (λ k. T (afterIn image q f reach e k)) (λ k. less (continuation (entry image e)) k) i s) (ℕ-discrete x y);
       }
         where
-          go : (x : ℕ) → x < 64 → (e : ℕ) → e < header image .entries → T (inLexicon image x e) → (i : ℕ) → Leads f (formOf (entry image e)) (λ k. T (afterIn image q f reach e k)) i → Dec (x ≡ y) → T (replaced reach y m x i)
+          go : (x : ℕ) → x < header image .lexicons → (e : ℕ) → e < header image .entries → T (inLexicon image x e) → (i : ℕ) → Leads f (formOf (entry image e)) (λ k. T (afterIn image q f reach e k)) i → Dec (x ≡ y) → T (replaced reach y m x i)
           go x other e inside has i s (yes h) =
               subst (λ (z : ℕ). T (replaced reach y m z i)) (sym h)
               (subst (λ (b : Bool). T b) (sym (replaced-same i)) (holds e inside (subst (λ (z : ℕ). T (inLexicon image z e)) h has) i s))
           go x other e inside has i s (no h) = subst (λ (b : Bool). T b) (sym (replaced-other x i h)) (r .onward x other e inside has i s)
-
-    -- by the union of the sets run backwards over its entries, which is a part of it
-    abbrev pub Union : Type 0
-    Union = (i : ℕ) → (T (m i) → (e : ℕ) × ((e < header image .entries) × (T (inLexicon image y e) × T (back f (formOf (entry image e)) (afterIn image q f reach e) i))))
-        × ((e : ℕ) → e < header image .entries → T (inLexicon image y e) → T (back f (formOf (entry image e)) (afterIn image q f reach e) i) → T (m i))
-
-    pub union-reach : y < 64 → Union → Reaches image q f (replaced reach y m)
-    union-reach lexicon u =
-        replaced-reach lexicon
-        (λ i t. let w = u i .0 t in r .onward y lexicon (w .0) (w .1 .0) (w .1 .1 .0) i (back-leads f (formOf (entry image (w .0))) (afterIn image q f reach (w .0)) i (w .1 .1 .1)))
-        (λ e inside has i s. u i .1 e inside has (leads-back f (formOf (entry image e)) (afterIn image q f reach e) i s))

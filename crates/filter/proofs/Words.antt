@@ -99,12 +99,15 @@ one-has zero = tt
 one-has (suc j) = let e : 2 ^ suc j / 2 ≡ 2 ^ j = ap (λ (x : ℕ). x / 2) (pow-suc 2 j) ∙ omega arith in subst (λ (x : ℕ). T (bit x j)) (sym e) (one-has j)
 
 -- to begin with: every position up to the word's end for each lexicon, and the end spread backwards
-module _ (image word masks flags reach : List ℕ) (path : Pattern) where
+module _ (image word masks flags reach : List ℕ) (path : Pattern) (most : header image .lexicons ≤ 64) where
   abbrev f : Feasible
   f = feasibleOf masks flags
 
-  module _ (begins : Begins masks (2 ^ length word) reach) where
-    lexicons : (x : ℕ) → x < 64 → getD reach x 0 ≡ 2 ^ suc (length word) - 1
+  abbrev Begun : Type 0
+  Begun = Begins masks (2 ^ length word) (header image .lexicons) reach
+
+  module _ (begins : Begun) where
+    lexicons : (x : ℕ) → x < header image .lexicons → getD reach x 0 ≡ 2 ^ suc (length word) - 1
     lexicons x l = begins .lexicons x l ∙ ap (λ (m : ℕ). m - 1) (omega (arith, pow-suc 2 (length word)))
 
   ends-at : Means (setOf masks flags) (deletesOf masks flags) (2 ^ length word) (λ k. T (eqb k (length word)))
@@ -114,7 +117,7 @@ module _ (image word masks flags reach : List ℕ) (path : Pattern) where
   end-means = spread-means (setOf masks flags) (deletesOf masks flags) 8 (2 ^ length word) (λ k. T (eqb k (length word))) ends-at
 
   -- whatever is kept stands within the word
-  kept-within : Begins masks (2 ^ length word) reach → (x : ℕ) → (x < 64) ⊎ (x ≡ 255) → (k : ℕ) → T (reachOf reach x k) → k ≤ length word
+  kept-within : Begun → (x : ℕ) → (x < header image .lexicons) ⊎ (x ≡ 255) → (k : ℕ) → T (reachOf reach x k) → k ≤ length word
   kept-within b x (inl l) k t =
       let end : x ≡ 255 → ⊥ = λ z. omega arith in
       ones-only (length word) k (subst (λ (m : ℕ). T (bit m k)) (lexicons b x l) (subst (λ (c : Bool). T (bit (getD reach (cond c 64 x) 0) k)) (ne-eqb x 255 end) t))
@@ -122,14 +125,14 @@ module _ (image word masks flags reach : List ℕ) (path : Pattern) where
       inserted-within f (length word) 8 (λ k. T (eqb k (length word))) (λ k z. omega (arith, eqb→eq k (length word) z)) k
       (end-means .only k (subst (λ (m : ℕ). T (bit m k)) (b .ends) (subst (λ (y : ℕ). T (reachOf reach y k)) e t)))
 
-  pub word-reaches : Begins masks (2 ^ length word) reach → Continues image (asksWord word path) f → Reaches image (asksWord word path) f (reachOf reach)
+  pub word-reaches : Begun → Continues image (asksWord word path) f → Reaches image (asksWord word path) f (reachOf reach)
   word-reaches b c = record {
     continues = c;
     at-end = λ i s. subst (λ (m : ℕ). T (bit m i)) (sym (b .ends)) (end-means .all i s);
     onward = λ x l e inside has i s. place x l i (leads-within f (length word) (formOf (entry image e)) (λ k. T (afterIn image (asksWord word path) f (reachOf reach) e k)) (λ k t. kept-within b (continuation (entry image e)) (c e inside) k t) i s);
   }
     where
-      place : (x : ℕ) → x < 64 → (i : ℕ) → i ≤ length word → T (reachOf reach x i)
+      place : (x : ℕ) → x < header image .lexicons → (i : ℕ) → i ≤ length word → T (reachOf reach x i)
       place x l i h =
           let end : x ≡ 255 → ⊥ = λ z. omega arith in
           subst (λ (c : Bool). T (bit (getD reach (cond c 64 x) 0) i)) (sym (ne-eqb x 255 end)) (subst (λ (m : ℕ). T (bit m i)) (sym (lexicons b x l)) (ones-has (length word) i h))

@@ -35,11 +35,17 @@ filled : {image forms word masks : List ℕ} {n : ℕ} → FormsOf image forms �
 filled {image} {forms} f w = record { long = w .long; flags-long = part-long forms 30976 128 (omega (arith, f .long)); letters-in = w .few }
 
 -- an entry goes on with a lexicon, or ends
-continues : {image : List ℕ} {h : Header} → Accepted image h → (e : ℕ) → e < header image .entries → (continuation (entry image e) < 64) ⊎ (continuation (entry image e) ≡ 255)
+continues : {image : List ℕ} {h : Header} → Accepted image h → (e : ℕ) → e < header image .entries → (continuation (entry image e) < header image .lexicons) ⊎ (continuation (entry image e) ≡ 255)
 continues {image} {h} a e inside =
     let l = a .laid in
-    ⊎-elim (λ k. inl (omega (arith, k, l .limits .lexicons-most))) inr
+    ⊎-elim (λ k. inl (omega (arith, k, ap (λ (g : Header). g .lexicons) (l .header-is)))) inr
     (continuation-right image h l (of-true (rightEntries image) (a .entries-right)) e (omega (arith, inside, ap (λ (g : Header). g .entries) (l .header-is))))
+
+lexicons-few : {image : List ℕ} {h : Header} → Accepted image h → header image .lexicons ≤ 64
+lexicons-few a = omega (arith, a .laid .limits .lexicons-most, ap (λ (g : Header). g .lexicons) (a .laid .header-is))
+
+lexicons-are : {image masks reach : List ℕ} {h : Header} {end : ℕ} → Accepted image h → Begins masks end (h .lexicons) reach → Begins masks end (header image .lexicons) reach
+lexicons-are {image} {masks} {reach} {h} {end} a = subst (λ (n : ℕ). Begins masks end n reach) (ap (λ (g : Header). g .lexicons) (a .laid .header-is))
 
 sub-fill : tie.Need-sub-fill
 sub-fill c = search needs
@@ -60,7 +66,7 @@ begin-requires : tie.Need-begin-requires
 begin-requires c κs =
     let s = c .before .before .before .before .before .before .before .before .before .before .before .before .before in
     let w = c .before .before .before .before .fill .ensures in
-    ((w .1 .long, s .pre .1 .1 .1 .1 .1), (w .1 .few 0, (omega (arith, w .0, pow-pos (length (s .args .word .now))), omega (arith, w .0, pow-mono {i = length (s .args .word .now)} {j = 32} (s .pre .1 .1 .1 .0 .0)))))
+    ((w .1 .long, s .pre .1 .1 .1 .1 .1), ((omega (arith, w .0, pow-pos (length (s .args .word .now))), omega (arith, w .0, pow-mono {i = length (s .args .word .now)} {j = 32} (s .pre .1 .1 .1 .0 .0))), s .pre .0 .laid .limits .lexicons-most))
 
 narrow-requires : tie.Need-narrow-requires
 narrow-requires c κs =
@@ -86,13 +92,13 @@ returns c = λ path.
     let word = s .args .word .now in
     let masks = w .last .1 .1 .0 in
     let flags = flagsIn (s .args .forms .now) in
-    let reach = b .last .1 .1 .0 in
+    let reach = b .last .1 .1 .1 .0 in
     record {
       forms-of = forms;
       filled = filled forms (w .ensures .1);
       reached = done .reached;
       covers = word-covers image (s .args .forms .now) word masks path forms (w .ensures .1);
-      reaches = done .reaches (asksWord word path) (word-reaches image word masks flags reach path (subst (λ (n : ℕ). Begins masks n reach) (w .ensures .0) (b .ensures .0)) (continues (s .pre .0)));
+      reaches = done .reaches (asksWord word path) (word-reaches image word masks flags reach path (lexicons-few (s .pre .0)) (lexicons-are (s .pre .0) (subst (λ (n : ℕ). Begins masks n (s .args .h .lexicons) reach) (w .ensures .0) (b .ensures .0))) (continues (s .pre .0)));
     }
 
 pub prepare-spec : {M : Type 1} → statement M

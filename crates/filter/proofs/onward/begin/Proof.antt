@@ -1,11 +1,11 @@
 -- `filter::onward::begin` meets its contract.
-use Prim.Native.Nat.{ℕ, _+_, _*_, _-_, _<_, _≤_, _^_}
+use Prim.Native.Nat.{ℕ, _+_, _*_, _-_, _<_, _≤_}
 use native.Mathlib.Omega.{arith}
-use native.Mathlib.Decide.{decLt, ℕ-discrete}
+use native.Mathlib.Decide.{ℕ-discrete}
 use borrow.Author.Needs.{needs}
 use mathlib.Core.Path.{_≡_, refl, sym, ap, _∙_, subst}
 use mathlib.Core.List.{List}
-use lib.ListN.{length, getD, set, length-set, List·getD-eq-default}
+use lib.ListN.{length, getD, set, length-set}
 use lib.Seq.{getD-set-same, getD-set-other}
 use Rattle.filter.specs.Masks.{backSpreadMask}
 use Rattle.filter.specs.Stack.{Reached, Begins}
@@ -18,10 +18,10 @@ pub record Set (reach : List ℕ) (all x : ℕ) : Type 0 where
   pub sets : (k : ℕ) → k < x → getD reach k 0 ≡ all
 
 abbrev Inv-loop : tie.InvT-loop
-Inv-loop masks end reach₀ all x₀ reach x = (x ≤ 64) × Set reach all x
+Inv-loop masks end lexicons reach₀ all x₀ reach x = (x ≤ lexicons) × Set reach all x
 
 abbrev μ-loop : tie.MeasureT-loop
-μ-loop masks end reach₀ all x₀ reach x = 64 - x
+μ-loop masks end lexicons reach₀ all x₀ reach x = lexicons - x
 
 set-more : (reach : List ℕ) (all x : ℕ) → x < 64 → Set reach all x → Set (set reach x all) all (x + 1)
 set-more reach all x h s = record { long = length-set reach x all ∙ s .long; sets = λ k l. go k l (ℕ-discrete k x) }
@@ -30,28 +30,20 @@ set-more reach all x h s = record { long = length-set reach x all ∙ s .long; s
     go k l (yes e) = ap (λ (i : ℕ). getD (set reach x all) i 0) e ∙ getD-set-same reach x all 0 (omega (arith, s .long))
     go k l (no e) = getD-set-other reach x k all 0 e ∙ s .sets k (omega arith)
 
-set-end : (masks reach : List ℕ) (end m : ℕ) → Set reach (2 * end - 1) 64 → end ≤ 2 ^ 32 → m ≡ backSpreadMask 8 (getD masks 0 0) end → m < 2 ^ 33 → Begins masks end (set reach 64 m) × Reached (set reach 64 m)
-set-end masks reach end m s h e l = (
-  record { lexicons = lexicons; ends = same ∙ e },
-  record { long = length-set reach 64 m ∙ s .long; few = λ x. few x (decLt x 64) (ℕ-discrete x 64) },
+set-end : (masks reach : List ℕ) (end many m : ℕ) → Set reach (2 * end - 1) many → many ≤ 64 → m ≡ backSpreadMask 8 (getD masks 0 0) end → Begins masks end many (set reach 64 m) × Reached (set reach 64 m)
+set-end masks reach end many m s most e = (
+  record {
+    lexicons = λ x k. getD-set-other reach 64 x m 0 (λ f. omega arith) ∙ s .sets x k;
+    ends = getD-set-same reach 64 m 0 (omega (arith, s .long)) ∙ e;
+  },
+  length-set reach 64 m ∙ s .long,
 )
-  where
-    same : getD (set reach 64 m) 64 0 ≡ m
-    same = getD-set-same reach 64 m 0 (omega (arith, s .long))
-
-    lexicons : (x : ℕ) → x < 64 → getD (set reach 64 m) x 0 ≡ 2 * end - 1
-    lexicons x k = getD-set-other reach 64 x m 0 (λ f. omega arith) ∙ s .sets x k
-
-    few : (x : ℕ) → Dec (x < 64) → Dec (x ≡ 64) → getD (set reach 64 m) x 0 < 2 ^ 33
-    few x (yes k) d = omega (arith, lexicons x k)
-    few x (no k) (yes d) = subst (λ (n : ℕ). n < 2 ^ 33) (sym (ap (λ (i : ℕ). getD (set reach 64 m) i 0) d ∙ same)) l
-    few x (no k) (no d) = subst (λ (n : ℕ). n < 2 ^ 33) (sym (List·getD-eq-default (set reach 64 m) 0 (omega (arith, length-set reach 64 m, s .long)))) (omega arith)
 
 mul-all : tie.Need-mul-all Inv-loop μ-loop
-mul-all c = record { fits = omega (arith, c .before .before .pre .1 .1 .1) }
+mul-all c = record { fits = omega (arith, c .before .before .pre .1 .0 .1) }
 
 sub-all : tie.Need-sub-all Inv-loop μ-loop
-sub-all c = omega (arith, c .before .before .pre .1 .1 .0)
+sub-all c = omega (arith, c .before .before .pre .1 .0 .0)
 
 loop-holds : tie.Need-loop-holds Inv-loop μ-loop
 loop-holds c = (omega arith, record { long = c .before .before .pre .0 .1; sets = λ k h. absurd (omega arith) })
@@ -60,7 +52,7 @@ mul-reach : tie.Need-mul-reach Inv-loop μ-loop
 mul-reach c = search needs
 
 slice-write-reach : tie.Need-slice-write-reach Inv-loop μ-loop
-slice-write-reach c = omega (arith, c .loop-test .taken, c .before .loop .inv .1 .long)
+slice-write-reach c = omega (arith, c .loop-test .taken, c .before .loop .inv .1 .long, c .before .before .before .before .pre .1 .1)
 
 add-x : tie.Need-add-x Inv-loop μ-loop
 add-x c = search needs
@@ -69,13 +61,13 @@ loop-less : tie.Need-loop-less Inv-loop μ-loop
 loop-less c = search needs
 
 loop-again : tie.Need-loop-again Inv-loop μ-loop
-loop-again c = (omega (arith, c .loop-test .taken), set-more (c .before .loop .reach) (2 * c .before .before .before .before .args .end - 1) (c .before .loop .x) (c .loop-test .taken) (c .before .loop .inv .1))
+loop-again c = (omega (arith, c .loop-test .taken), set-more (c .before .loop .reach) (2 * c .before .before .before .before .args .end - 1) (c .before .loop .x) (omega (arith, c .loop-test .taken, c .before .before .before .before .pre .1 .1)) (c .before .loop .inv .1))
 
 shared-slice-read-spread-back : tie.Need-shared-slice-read-spread-back Inv-loop μ-loop
 shared-slice-read-spread-back c = search needs
 
 spread-back-requires : tie.Need-spread-back-requires Inv-loop μ-loop
-spread-back-requires c κs = (c .before .before .before .before .before .pre .1 .0, omega (arith, c .before .before .before .before .before .pre .1 .1 .1))
+spread-back-requires c κs = tt
 
 slice-write-reach-2 : tie.Need-slice-write-reach-2 Inv-loop μ-loop
 slice-write-reach-2 c = omega (arith, c .before .before .before .loop .inv .1 .long)
@@ -87,8 +79,8 @@ returns : tie.Need-returns Inv-loop μ-loop
 returns c =
     let at = c .before .before .before in
     let s = c .before .before .before .before .before .before in
-    let all : at .loop .x ≡ 64 = omega (arith, c .before .before .loop-test .left, at .loop .inv .0) in
-    set-end (s .args .masks .now) (at .loop .reach) (s .args .end) (c .spread-back .result) (subst (Set (at .loop .reach) (2 * s .args .end - 1)) all (at .loop .inv .1)) (s .pre .1 .1 .1) (c .spread-back .ensures .0) (c .spread-back .ensures .1)
+    let all : at .loop .x ≡ s .args .lexicons = omega (arith, c .before .before .loop-test .left, at .loop .inv .0) in
+    set-end (s .args .masks .now) (at .loop .reach) (s .args .end) (s .args .lexicons) (c .spread-back .result) (subst (Set (at .loop .reach) (2 * s .args .end - 1)) all (at .loop .inv .1)) (s .pre .1 .1) (c .spread-back .ensures)
 
 pub begin-spec : {M : Type 1} → statement M
 begin-spec =

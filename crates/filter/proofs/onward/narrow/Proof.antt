@@ -67,7 +67,7 @@ loop-again : tie.Need-loop-again Inv-loop μ-loop
 loop-again c = let done = c .before .before .renew .ensures in (omega (arith, c .before .before .before .before .before .loop-test .taken), record { reached = done .reached; reaches = λ q r. done .reaches q (c .before .before .before .before .before .before .loop .inv .1 .reaches q r) })
 
 same-length : tie.Need-same-length Inv-loop μ-loop
-same-length c = c .before .loop .inv .1 .reached .long ∙ sym (c .before .before .before .before .before .before .before .before .pre .1 .1 .1 .1 .long)
+same-length c = c .before .loop .inv .1 .reached ∙ sym (c .before .before .before .before .before .before .before .before .pre .1 .1 .1 .1)
 
 returns : tie.Need-returns Inv-loop μ-loop
 returns c = c .before .loop .inv .1

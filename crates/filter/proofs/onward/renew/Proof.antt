@@ -59,7 +59,7 @@ replace-requires c κs =
     let laid = s .pre .0 .laid in
     let inside : s .args .y < header (s .args .image .now) .lexicons = omega (arith, y, ap (λ (g : Header). g .lexicons) (laid .header-is)) in
     let all = lexicon-within (s .args .image .now) (headerOf (s .args .h)) laid (of-true (rightEntries (s .args .image .now)) (s .pre .0 .entries-right)) (s .args .y) y in
-    (s .pre .1 .1 .1 .0, (s .pre .1 .1 .1 .1 .0, (slots (s .pre .1 .1 .0) (s .args .y) inside (range .0) (range .1), (omega (arith, y, laid .limits .lexicons-most), (range .0, (range .1, (omega (arith, range .0, range .1), omega (arith, range .1, all, ap (λ (g : Header). g .entries) (laid .header-is)))))))))
+    (s .pre .1 .1 .1 .0, (s .pre .1 .1 .1 .1 .0, (slots (s .pre .1 .1 .0) (s .args .y) inside (range .0) (range .1), ((omega (arith, y, laid .limits .lexicons-most), inside), (range .0, (range .1, (omega (arith, range .0, range .1), omega (arith, range .1, all, ap (λ (g : Header). g .entries) (laid .header-is)))))))))
 
 same-length : tie.Need-same-length
 same-length c = search needs
