@@ -1,13 +1,12 @@
 -- A loop over an ascending list that leaves out only what finds nothing finds all.
-use Prim.Native.Nat.{ℕ, zero, suc, _+_, _-_, _<_, _≤_}
+use Prim.Native.Nat.{ℕ, zero, suc, _+_, _<_, _≤_}
 use native.Mathlib.Omega.{arith}
 use native.Mathlib.Decide.{ℕ-discrete}
-use mathlib.Core.Logic.{_⊎_, inl, inr}
-use mathlib.Core.Path.{_≡_, refl, sym, ap, ap₂, _∙_, subst}
+use mathlib.Core.Path.{_≡_, refl, sym, ap, ap₂, _∙_}
 use mathlib.Core.List.{List, [], _∷_, _++_, List·Memᴰ, List·Memᴰ·head, List·Memᴰ·tail, List·Memᴰ·not-nil}
 use lib.ListN.{length, getD}
 use Rattle.model.specs.Lists.{below, flatMap}
-use Rattle.model.proofs.Lists.{flatMap-append, flatMap-below}
+use Rattle.model.proofs.Lists.{flatMap-below}
 use Rattle.model.proofs.Parts.{flatMap-same}
 use Rattle.filter.specs.Listed.{Rising}
 

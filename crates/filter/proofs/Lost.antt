@@ -2,21 +2,21 @@
 use Prim.Native.Nat.{ℕ, zero, suc, _-_, _<_, _≤_}
 use native.Mathlib.Omega.{arith}
 use mathlib.Core.Bool.{Bool, true, false, _&&_, not, true≢false}
-use mathlib.Core.Path.{_≡_, refl, sym, ap, ap₂, _∙_, subst}
-use mathlib.Core.Logic.{_⊎_, inl, inr}
+use mathlib.Core.Path.{_≡_, refl, sym, ap₂, _∙_, subst}
+use mathlib.Core.Logic.{inl, inr}
 use mathlib.Core.List.{List, [], _∷_, _++_, List·Memᴰ, List·Memᴰ·head, List·Memᴰ·tail}
-use lib.Dec.{T, leb, ltb, eqb, eqb→eq, leb→le}
+use lib.Dec.{T, leb, ltb, eqb→eq, leb→le}
 use Rattle.model.specs.Lists.{below, given, flatMap}
 use Rattle.model.specs.Grammar.{Grammar}
 use Rattle.model.specs.Readings.{Reading}
 use Rattle.model.specs.Query.{Query}
 use Rattle.model.specs.Tree.{Node, opens, isNil, spells, left, lettersAnd, nullsAnd, allowsSide, levelEnds, countAt, mayAt, goAt, complete}
-use Rattle.model.proofs.Booleans.{and-out, out3, out5, of-true}
+use Rattle.model.proofs.Booleans.{and-out, out3, out5}
 use Rattle.model.proofs.Lists.{below-from}
 use Rattle.listing.specs.Gather.{grow, gather}
-use Rattle.filter.specs.Positions.{Feasible, Over, Inserted, Leads}
+use Rattle.filter.specs.Positions.{Feasible, Over, Leads}
 use Rattle.filter.specs.Reach.{Covers, Onward, Hope, HopeAt, Sound}
-use Rattle.filter.proofs.Leads.{here, inserted-map, inserted-more, over-map, leads-map}
+use Rattle.filter.proofs.Leads.{here, inserted-more, leads-map}
 
 none-of : {A B : Type 0} (h : A → List B) (xs : List A) → ((x : A) → List·Memᴰ x xs → h x ≡ []) → flatMap h xs ≡ []
 none-of h [] e = refl

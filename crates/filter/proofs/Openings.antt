@@ -1,9 +1,9 @@
 -- Where an entry opens: one that the letters alone cannot lead through to the word's end finds nothing, so that the survivors find all.
-use Prim.Native.Nat.{ℕ, suc, pred, _-_, _<_, _≤_}
+use Prim.Native.Nat.{ℕ, suc, pred, _-_, _<_}
 use native.Mathlib.Omega.{arith}
 use native.Mathlib.Decide.{decLt}
 use mathlib.Core.Bool.{Bool, true, false}
-use mathlib.Core.Path.{_≡_, refl, ap, _∙_}
+use mathlib.Core.Path.{_≡_, refl, _∙_}
 use mathlib.Core.List.{List, [], List·Memᴰ}
 use lib.ListN.{length, getD}
 use lib.Dec.{T}
@@ -30,7 +30,7 @@ use Rattle.filter.specs.Lexicons.{afterIn, Reaches}
 use Rattle.filter.specs.Masks.{bit}
 use Rattle.filter.specs.Stack.{feasibleOf, reachOf}
 use Rattle.filter.specs.Survivors.{Surviving}
-use Rattle.filter.proofs.Listed.{Survive, listed, rising-within}
+use Rattle.filter.proofs.Listed.{listed, rising-within}
 use Rattle.filter.proofs.Lost.{lost, hope-entry}
 use Rattle.filter.proofs.Reach.{reaches-sound}
 

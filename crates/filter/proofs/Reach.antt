@@ -2,23 +2,21 @@
 use Prim.Native.Nat.{ℕ, zero, suc, _≤_, _<_}
 use native.Mathlib.Omega.{arith}
 use native.Mathlib.Decide.{ℕ-discrete}
-use mathlib.Core.Bool.{Bool, true, false, cond, not}
+use mathlib.Core.Bool.{Bool, not}
 use mathlib.Core.Path.{_≡_, refl, sym, ap, _∙_, subst}
 use mathlib.Core.Logic.{_⊎_, inl, inr}
 use mathlib.Core.List.{List, [], _∷_}
-use lib.Dec.{T, leb, eqb, eqb→eq, leb→le, le→leb}
+use lib.Dec.{T, eqb, eqb→eq}
 use borrow.Author.Tests.{eqb-false, eq-eqb, ne-eqb}
-use Rattle.model.specs.Lists.{any}
 use Rattle.model.specs.Blocks.{header}
 use Rattle.model.specs.Lexicon.{inLexicon, entry, formOf, continuation}
 use Rattle.model.specs.GrammarOf.{grammarOf}
 use Rattle.model.specs.Query.{Query}
 use Rattle.model.proofs.Booleans.{and-out, not-out}
-use Rattle.filter.specs.Positions.{Feasible, Over, Inserted, Leads, back}
-use Rattle.filter.specs.Reach.{Onward, Sound}
+use Rattle.filter.specs.Positions.{Feasible, Over, Inserted, Leads}
+use Rattle.filter.specs.Reach.{Sound}
 use Rattle.filter.specs.Lexicons.{afterIn, Reaches, replaced}
 use Rattle.filter.proofs.Leads.{leads-map}
-use Rattle.filter.proofs.Runs.{leads-back, back-leads}
 
 -- what leads to positions up to n stands at one of them
 module _ (f : Feasible) (n : ℕ) where

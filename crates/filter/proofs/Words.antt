@@ -1,27 +1,26 @@
 -- Analysis of a word: what its sets have to hold, and what is kept of each lexicon to begin with.
-use Prim.Native.Nat.{ℕ, zero, suc, _+_, _*_, _-_, _/_, _%_, _^_, _<_, _≤_}
+use Prim.Native.Nat.{ℕ, zero, suc, _*_, _-_, _/_, _%_, _^_, _<_, _≤_}
 use native.Mathlib.Omega.{arith}
 use native.Mathlib.Nat.{pow-suc}
-use native.Mathlib.Decide.{ℕ-discrete}
-use mathlib.Core.Bool.{Bool, true, false, _&&_, not, cond}
-use mathlib.Core.Logic.{_⊎_, inl, inr, ⊎-elim}
+use mathlib.Core.Bool.{Bool, _&&_, cond}
+use mathlib.Core.Logic.{_⊎_, inl, inr}
 use mathlib.Core.Path.{_≡_, refl, sym, ap, _∙_, subst}
-use mathlib.Core.List.{List, [], _∷_}
+use mathlib.Core.List.{List}
 use lib.ListN.{length, getD}
 use lib.Pow.{pow-pos}
-use lib.Dec.{T, leb, ltb, eqb, eqb→eq, eqb-refl, ltb→lt, leb→le, le→leb, not-T}
-use borrow.Author.Tests.{ne-eqb, eq-eqb}
+use lib.Dec.{T, ltb, eqb, eqb→eq, ltb→lt, not-T}
+use borrow.Author.Tests.{ne-eqb}
 use Rattle.model.specs.Lists.{isZero}
 use Rattle.model.specs.Blocks.{header}
-use Rattle.model.specs.Lexicon.{inLexicon, entry, formOf, continuation}
+use Rattle.model.specs.Lexicon.{entry, formOf, continuation}
 use Rattle.model.specs.GrammarOf.{grammarOf}
 use Rattle.model.specs.Query.{Pattern, Query, exactly}
-use Rattle.model.proofs.Booleans.{and-out, of-true, eq→eqb}
-use Rattle.filter.specs.Positions.{Feasible, Inserted, Leads}
+use Rattle.model.proofs.Booleans.{and-out, eq→eqb}
+use Rattle.filter.specs.Positions.{Feasible, Inserted}
 use Rattle.filter.specs.Reach.{Covers}
 use Rattle.filter.specs.Lexicons.{afterIn, Reaches}
 use Rattle.filter.specs.Masks.{bit, backSpreadMask}
-use Rattle.filter.specs.Stack.{setOf, deletesOf, feasibleOf, reachPlace, reachSet, reachOf, Begins}
+use Rattle.filter.specs.Stack.{setOf, deletesOf, feasibleOf, reachOf, Begins}
 use Rattle.forms.specs.Letters.{rowCount, rowLetter}
 use Rattle.forms.specs.Forms.{rowsIn, flagsIn, FormsOf}
 use Rattle.filter.specs.Letters.{Wrote}

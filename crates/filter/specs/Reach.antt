@@ -1,11 +1,10 @@
 -- Which positions may lead to the word's end, for a grammar and a query.
-use Prim.Native.Nat.{ℕ, zero, suc, _-_, _<_}
-use mathlib.Core.Bool.{Bool, true, false, _&&_, not}
+use Prim.Native.Nat.{ℕ, _-_, _<_}
+use mathlib.Core.Bool.{Bool, true, false}
 use mathlib.Core.Logic.{_⊎_}
 use mathlib.Core.Path.{_≡_}
 use mathlib.Core.List.{List, [], _∷_}
-use lib.Dec.{T, ltb, eqb}
-use Rattle.model.specs.Lists.{below, any, isZero}
+use lib.Dec.{T}
 use Rattle.model.specs.Grammar.{Grammar}
 use Rattle.model.specs.Query.{Query}
 use Rattle.model.specs.Tree.{Node}
@@ -16,13 +15,6 @@ module _ (g : Grammar) (q : Query) where
   pub record Covers (f : Feasible) : Type 0 where
     pub paired : (p : ℕ) → p < g .pairs → (i : ℕ) → i < 32 → (g .surface p ≡ 0 → ⊥) → T (q .letters .allows i (g .surface p)) → T (f .pairs (g .lexical p) i)
     pub deleted : (p : ℕ) → p < g .pairs → g .surface p ≡ 0 → T (f .deletes (g .lexical p))
-
-  -- the least such
-  unfoldable pub feasible : Feasible
-  feasible = record {
-    pairs = λ a i. any (λ p. eqb (g .lexical p) a && not (isZero (g .surface p)) && q .letters .allows i (g .surface p) && ltb i 32) (below (g .pairs));
-    deletes = λ a. any (λ p. eqb (g .lexical p) a && isZero (g .surface p)) (below (g .pairs));
-  }
 
   -- by what is kept after each entry: the positions from which what may come after it may lead to the end
   module _ (f : Feasible) (after : ℕ → ℕ → Bool) where

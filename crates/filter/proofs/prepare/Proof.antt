@@ -4,7 +4,7 @@ use native.Mathlib.Omega.{arith}
 use native.Mathlib.Decide.{decLt}
 use borrow.Author.Needs.{needs}
 use mathlib.Core.Logic.{_⊎_, inl, inr, ⊎-elim}
-use mathlib.Core.Path.{_≡_, refl, sym, ap, _∙_, subst}
+use mathlib.Core.Path.{_≡_, sym, ap, subst}
 use mathlib.Core.List.{List}
 use lib.ListN.{length, getD, replicate, getD-replicate, List·getD-eq-default}
 use lib.Pow.{pow-pos, pow-mono}
@@ -14,7 +14,8 @@ use Rattle.model.specs.Refusals.{rightEntries}
 use Rattle.model.proofs.Booleans.{of-true}
 use Rattle.image.specs.Accepted.{Accepted}
 use Rattle.lexicon.proofs.Laws.{continuation-right}
-use Rattle.forms.specs.Forms.{rowsIn, flagsIn, FormsOf}
+use Rattle.forms.specs.Letters.{Rowed}
+use Rattle.forms.specs.Forms.{flagsIn, FormsOf}
 use Rattle.filter.specs.Letters.{Wrote}
 use Rattle.listing.specs.Asked.{wordPattern}
 use Rattle.filter.specs.Stack.{Filled, Begins}
@@ -31,7 +32,7 @@ none e a = rw e (go (decLt a 128))
     go (yes h) = omega (arith, getD-replicate {A = ℕ} 128 a 0 0 h)
     go (no h) = omega (arith, List·getD-eq-default {A = ℕ} (replicate 128 0) 0 {n = a} (omega arith))
 
-filled : {image forms word masks : List ℕ} {n : ℕ} → FormsOf image forms → Wrote (rowsIn forms) word masks n → Filled masks (flagsIn forms)
+filled : {image forms rows word masks : List ℕ} {n : ℕ} → FormsOf image forms → Wrote rows word masks n → Filled masks (flagsIn forms)
 filled {image} {forms} f w = record { long = w .long; flags-long = part-long forms 30976 128 (omega (arith, f .long)); letters-in = w .few }
 
 -- an entry goes on with a lexicon, or ends
@@ -47,20 +48,14 @@ lexicons-few a = omega (arith, a .laid .limits .lexicons-most, ap (λ (g : Heade
 lexicons-are : {image masks reach : List ℕ} {h : Header} {end : ℕ} → Accepted image h → Begins masks end (h .lexicons) reach → Begins masks end (header image .lexicons) reach
 lexicons-are {image} {masks} {reach} {h} {end} a = subst (λ (n : ℕ). Begins masks end n reach) (ap (λ (g : Header). g .lexicons) (a .laid .header-is))
 
-sub-fill : tie.Need-sub-fill
-sub-fill c = search needs
-
-part-fill-start : tie.Need-part-fill-start
-part-fill-start c = search needs
-
-part-fill-end : tie.Need-part-fill-end
-part-fill-end c = search needs
+rows-requires : tie.Need-rows-requires
+rows-requires c κs = c .before .before .before .before .before .before .pre .1 .1 .0 .long
 
 fill-requires : tie.Need-fill-requires
 fill-requires c κs =
     let s = c .before .before .before .before .before .before .before .before in
     let word = s .pre .1 .1 .1 .0 in
-    (λ i h. s .pre .1 .1 .0 .rowed (getD (s .args .word .now) i 0) (word .1 i h), ((word .0, ap length (s .pre .1 .1 .1 .1 .0)), none (s .pre .1 .1 .1 .1 .0)))
+    (λ i h. subst (λ (l : List ℕ). Rowed l (getD (s .args .word .now) i 0)) (sym (c .before .rows .ensures)) (s .pre .1 .1 .0 .rowed (getD (s .args .word .now) i 0) (word .1 i h)), ((word .0, ap length (s .pre .1 .1 .1 .1 .0)), none (s .pre .1 .1 .1 .1 .0)))
 
 begin-requires : tie.Need-begin-requires
 begin-requires c κs =
@@ -85,6 +80,7 @@ unfolding wordPattern
 returns c = λ path.
     let s = c .before .before .before .before .before .before .before .before .before .before .before .before .before .before .before .before .before .before .before .before .before in
     let w = c .before .before .before .before .before .before .before .before .before .before .before .before .fill in
+    let rows = c .before .before .before .before .before .before .before .before .before .before .before .before .before .before .rows in
     let b = c .before .before .before .before .before .before .before .begin in
     let done = c .before .before .narrow .ensures in
     let forms = s .pre .1 .1 .0 in
@@ -97,7 +93,7 @@ returns c = λ path.
       forms-of = forms;
       filled = filled forms (w .ensures .1);
       reached = done .reached;
-      covers = word-covers image (s .args .forms .now) word masks path forms (w .ensures .1);
+      covers = word-covers image (s .args .forms .now) word masks path forms (subst (λ (l : List ℕ). Wrote l word masks (length word)) (rows .ensures) (w .ensures .1));
       reaches = done .reaches (asksWord word path) (word-reaches image word masks flags reach path (lexicons-few (s .pre .0)) (lexicons-are (s .pre .0) (subst (λ (n : ℕ). Begins masks n (s .args .h .lexicons) reach) (w .ensures .0) (b .ensures .0))) (continues (s .pre .0)));
     }
 
@@ -105,9 +101,7 @@ pub prepare-spec : {M : Type 1} → statement M
 prepare-spec =
     tie.close
     (tie.spec
-    sub-fill
-    part-fill-start
-    part-fill-end
+    rows-requires
     fill-requires
     begin-requires
     narrow-requires

@@ -47,7 +47,10 @@ loop-holds : tie.Need-loop-holds Inv-loop μ-loop
 loop-holds c = let s = c .before .before .before .before .before .before in (omega arith, record { reached = s .pre .1 .1 .1 .1; reaches = λ q r. r })
 
 add-byte-at : tie.Need-add-byte-at Inv-loop μ-loop
-add-byte-at c = record { fits = omega (arith, few c) }
+add-byte-at c = search needs
+
+add-byte-at-2 : tie.Need-add-byte-at-2 Inv-loop μ-loop
+add-byte-at-2 c = record { fits = omega (arith, few c) }
 
 byte-at-requires-2 : tie.Need-byte-at-requires-2 Inv-loop μ-loop
 byte-at-requires-2 c κs = omega (arith, few c, c .before .before .before .before .before .before .before .before .pre .1 .1 .0 .long)
@@ -81,6 +84,7 @@ narrow-spec =
     byte-at-requires
     loop-holds
     add-byte-at
+    add-byte-at-2
     byte-at-requires-2
     renew-requires
     add-k

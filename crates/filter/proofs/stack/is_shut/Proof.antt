@@ -8,8 +8,6 @@ use lib.ListN.{getD}
 use Rattle.filter.proofs.Depths.{step-shut}
 use Rattle.filter.proofs.stack.is_shut.Statement.{statement}
 use Rattle.filter.proofs.stack.is_shut.Tie as tie
-use Rattle.filter.proofs.stack.is_shut.Reads as reads
-use Rattle.filter.proofs.stack.is_shut.Lts as lts
 
 shared-slice-read-if1 : tie.Need-shared-slice-read-if1
 shared-slice-read-if1 c = search needs

@@ -6,10 +6,6 @@ use mathlib.Core.Path.{sym, subst}
 use Rattle.filter.proofs.Depths.{letter-dead}
 use Rattle.filter.proofs.stack.shut.Statement.{statement}
 use Rattle.filter.proofs.stack.shut.Tie as tie
-use Rattle.filter.proofs.stack.shut.Reads as reads
-use Rattle.filter.proofs.stack.shut.Lts as lts
-use Rattle.filter.proofs.stack.is_shut.Reads as is-shut-reads
-use Rattle.image.proofs.byte_at.Reads as byte-at-reads
 
 returns : tie.Need-returns
 returns c = λ e. absurd (true≢false (sym e))
