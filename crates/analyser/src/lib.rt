@@ -14,6 +14,7 @@ ghost use Rattle.model.specs.Rows.{rowCount};
 ghost use Rattle.model.specs.Calls.{listingReply, afterListing};
 ghost use Rattle.image.specs.Header.{headerOf};
 ghost use Rattle.image.specs.Index.{columnRow};
+ghost use Rattle.grammar.specs.Answers.{tablesVerdict};
 ghost use Rattle.rows.specs.Fill.{replyOf};
 ghost use Rattle.analyser.specs.Request.{requestOf};
 use crate::request::Direction;
@@ -37,8 +38,21 @@ pub fn generate(image: &[u8], path: &[u8], out: &mut [u8]) -> Reply
     list(image, Direction::Generation, path, out)
 }
 
-// The image check, once, which keeps the index's first rows; and then the listing over the index.
+// The image check, and then the listing over the index. An image that tests 1 to 6 refuse costs no index.
 fn list(image: &[u8], d: Direction, asked: &[u8], out: &mut [u8]) -> Reply
+    ensures reply { λ r. ⌜ replyOf r ≡ listingReply (now (image .entry)) (requestOf d (now (asked .entry))) (rowCount (now (out .entry))) ⌝ }
+    ensures bytes { λ r. ⌜ now (out .exit) ≡ afterListing (now (image .entry)) (requestOf d (now (asked .entry))) (now (out .entry)) ⌝ }
+{
+    let early = grammar::check_tables(image);
+    match early {
+        Verdict::Refused(k) => Reply::Refused(k),
+        Verdict::Accepted => list_tabled(image, d, asked, out),
+    }
+}
+
+// The image's other tests, which keep the index's first rows.
+fn list_tabled(image: &[u8], d: Direction, asked: &[u8], out: &mut [u8]) -> Reply
+    requires { ⌜ tablesVerdict (now image) ≡ accepted ⌝ }
     ensures reply { λ r. ⌜ replyOf r ≡ listingReply (now (image .entry)) (requestOf d (now (asked .entry))) (rowCount (now (out .entry))) ⌝ }
     ensures bytes { λ r. ⌜ now (out .exit) ≡ afterListing (now (image .entry)) (requestOf d (now (asked .entry))) (now (out .entry)) ⌝ }
 {

@@ -10,8 +10,9 @@ use lib.Seq.{take-all, take-suc, getD-drop}
 use lib.Dec.{eqb}
 use borrow.Author.Tests.{lt-leb, eq-eqb, ne-eqb}
 use Rattle.model.specs.Lists.{flatMap}
+use Rattle.model.specs.Blocks.{Header}
 use Rattle.model.specs.Query.{analysis}
-use Rattle.model.specs.Refusals.{accepted, refused, imageTests, imageVerdict, ownTests, requestTests}
+use Rattle.model.specs.Refusals.{Verdict, accepted, refused, imageTests, imageVerdict, ownTests, requestTests}
 use Rattle.model.specs.Rows.{Reply}
 use Rattle.model.specs.Calls.{requestVerdict, listingReply, listingRows}
 use Rattle.model.specs.Lines as lines
@@ -22,11 +23,16 @@ use Rattle.print.proofs.Text.{put-none, put-same, put-then}
 use Rattle.parse.specs.Fields.{Begun, lineAfter}
 use Rattle.answers.specs.declared.line.Answered.{Answered}
 use Rattle.answers.specs.declared.line.Answered.the-variants as answered
+use Rattle.answers.specs.OnceARun.{OnceARun}
 use Rattle.answers.specs.Answered.{WordAnswered, LineAnswered}
 use Rattle.answers.specs.Input.{begunAfter, bufferAfter, Grown, textAfter, lastText}
 
 pub refused-not : (k : ℕ) → refused k ≡ accepted → ⊥
 refused-not k e = let z : _≡_ {A = ℕ} 0 1 = cc in omega arith
+
+-- of a refused image there is the verdict alone
+pub refused-once : {image index : List ℕ} {h : Header} {v : Verdict} (k : ℕ) → v ≡ refused k → refused k ≡ imageVerdict image → OnceARun image index h v
+refused-once k e f = record { verdict-is = e ∙ f; header-is = λ a. absurd (refused-not k (sym e ∙ a)); indexed = λ a. absurd (refused-not k (sym e ∙ a)) }
 
 -- a line over 255 bytes holds no word
 long-unread : (l : List ℕ) → 255 < length l → lineOf l ≡ lines.unread

@@ -4,12 +4,12 @@ ghost use mathlib.Core.List.{_++_};
 ghost use Prim.Native.Nat.{ℕ};
 ghost use lib.ListN.{length, replicate};
 ghost use Rattle.model.specs.Lists.{below, flatMap};
-ghost use Rattle.model.specs.Refusals.{refused};
+ghost use Rattle.model.specs.Refusals.{accepted, refused};
 ghost use Rattle.image.specs.Header.{headerOf};
 ghost use Rattle.image.specs.Accepted.{Accepted};
 ghost use Rattle.image.specs.Index.{columnRow};
 ghost use Rattle.analyser.specs.Indexed.{Indexed};
-ghost use Rattle.grammar.specs.Answers.{verdictOf};
+ghost use Rattle.grammar.specs.Answers.{verdictOf, tablesVerdict};
 ghost use Rattle.answers.specs.OnceARun.{OnceARun};
 use grammar::Verdict;
 use image::Header;
@@ -41,8 +41,39 @@ fn clear(bytes: &mut [u8])
     }
 }
 
-// The image check, and of an accepted image the header and the larger index. `index` is all 0 before, and after a refusal.
+// What there is of a refused image: of a header nothing is said.
+fn refused_with(k: u8) -> Prepared
+    ensures { λ r. ⌜ verdictOf (r .verdict) ≡ refused k ⌝ }
+{
+    Prepared {
+        verdict: Verdict::Refused(k),
+        h: Header {
+            form: 0,
+            letters: 0,
+            pairs: 0,
+            rules: 0,
+            lexicons: 0,
+            entries: 0,
+        },
+    }
+}
+
+// The image check, and of an accepted image the header and the larger index. `index` is all 0 before, and after a refusal; tests 1 to 6 leave it alone.
 pub fn prepare(image: &[u8], index: &mut [u8]) -> Prepared
+    requires { ⌜ now index ≡ replicate 186112 0 ⌝ }
+    ensures had { λ r. ⌜ OnceARun (now (image .entry)) (now (index .exit)) (headerOf (r .h)) (verdictOf (r .verdict)) ⌝ }
+    ensures kept { λ r. ⌜ ((k : ℕ) → verdictOf (r .verdict) ≡ refused k → now (index .exit) ≡ now (index .entry)) ⌝ }
+{
+    let early = grammar::check_tables(image);
+    match early {
+        Verdict::Refused(k) => refused_with(k),
+        Verdict::Accepted => prepare_tabled(image, index),
+    }
+}
+
+// The image's other tests, which write to the index: after a refusal it is cleared.
+fn prepare_tabled(image: &[u8], index: &mut [u8]) -> Prepared
+    requires { ⌜ tablesVerdict (now image) ≡ accepted ⌝ }
     requires { ⌜ now index ≡ replicate 186112 0 ⌝ }
     ensures had { λ r. ⌜ OnceARun (now (image .entry)) (now (index .exit)) (headerOf (r .h)) (verdictOf (r .verdict)) ⌝ }
     ensures kept { λ r. ⌜ ((k : ℕ) → verdictOf (r .verdict) ≡ refused k → now (index .exit) ≡ now (index .entry)) ⌝ }
@@ -51,17 +82,7 @@ pub fn prepare(image: &[u8], index: &mut [u8]) -> Prepared
     match verdict {
         Verdict::Refused(k) => {
             clear(index);
-            Prepared {
-                verdict: Verdict::Refused(k),
-                h: Header {
-                    form: 0,
-                    letters: 0,
-                    pairs: 0,
-                    rules: 0,
-                    lexicons: 0,
-                    entries: 0,
-                },
-            }
+            refused_with(k)
         }
         Verdict::Accepted => {
             let h = image::read_header(image);

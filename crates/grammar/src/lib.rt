@@ -34,28 +34,8 @@ pub fn check(image: &[u8]) -> Verdict
     }
 }
 
-// The same, for callers that go on to make an index: test 7 keeps the columns that it finds as the index's first rows. `index` is all 0 before; after a
-// refusal it may have anything.
-pub fn check_columns(image: &[u8], index: &mut [u8]) -> Verdict
-    requires { ⌜ now index ≡ replicate 39424 0 ⌝ }
-    ensures verdict { λ r. ⌜ verdictOf r ≡ imageVerdict (now (image .entry)) ⌝ }
-    ensures rows { λ r. ⌜ (verdictOf r ≡ accepted → now (index .exit) ≡ flatMap (columnRow (now (image .entry))) (below 32) ++ replicate 31232 0) ⌝ }
-{
-    let early = check_tables(image);
-    match early {
-        Verdict::Refused(k) => Verdict::Refused(k),
-        Verdict::Accepted => {
-            let h = image::read_header(image);
-            if !tables::keep_columns(image, h, &mut index[0..8192]) {
-                return Verdict::Refused(7);
-            }
-            check_lexicon(image, h)
-        }
-    }
-}
-
-// Tests 1 to 6.
-fn check_tables(image: &[u8]) -> Verdict
+// Tests 1 to 6, which need no index: callers that go on to make one clear it only for an image that passes them.
+pub fn check_tables(image: &[u8]) -> Verdict
     ensures { λ r. ⌜ verdictOf r ≡ tablesVerdict (now (image .entry)) ⌝ }
 {
     if !image::seal::right_length(image.len()) {
@@ -68,6 +48,21 @@ fn check_tables(image: &[u8]) -> Verdict
         return Verdict::Refused(3);
     }
     check_records(image, image::read_header(image))
+}
+
+// The other tests, of an image that passes those: test 7 keeps the columns that it finds as the index's first rows. `index` is all 0 before; after a
+// refusal it may have anything.
+pub fn check_columns(image: &[u8], index: &mut [u8]) -> Verdict
+    requires { ⌜ tablesVerdict (now image) ≡ accepted ⌝ }
+    requires { ⌜ now index ≡ replicate 39424 0 ⌝ }
+    ensures verdict { λ r. ⌜ verdictOf r ≡ imageVerdict (now (image .entry)) ⌝ }
+    ensures rows { λ r. ⌜ (verdictOf r ≡ accepted → now (index .exit) ≡ flatMap (columnRow (now (image .entry))) (below 32) ++ replicate 31232 0) ⌝ }
+{
+    let h = image::read_header(image);
+    if !tables::keep_columns(image, h, &mut index[0..8192]) {
+        return Verdict::Refused(7);
+    }
+    check_lexicon(image, h)
 }
 
 // Tests 4 to 6, on an image whose blocks are laid out.

@@ -5,10 +5,12 @@ ghost use mathlib.Core.Path.{_≡_};
 ghost use mathlib.Core.List.{_++_};
 ghost use lib.ListN.{replicate};
 ghost use Rattle.model.specs.Lists.{below, flatMap};
+ghost use Rattle.model.specs.Refusals.{accepted};
 ghost use Rattle.model.specs.Beside.{judged};
 ghost use Rattle.image.specs.Header.{headerOf};
 ghost use Rattle.image.specs.Accepted.{Accepted};
 ghost use Rattle.image.specs.Index.{columnRow};
+ghost use Rattle.grammar.specs.Answers.{tablesVerdict};
 ghost use Rattle.judge.specs.Answers.{judgementOf, judgedAccepted};
 use grammar::Verdict;
 use image::Header;
@@ -19,8 +21,20 @@ pub enum Judgement {
     Refused(u8),
 }
 
-// The image check, which keeps the index's first rows, and then the tests of the path and the pairing.
+// The image check, and then the tests of the path and the pairing. An image that tests 1 to 6 refuse costs no index.
 pub fn judge(image: &[u8], path: &[u8], pairing: &[u8]) -> Judgement
+    ensures { λ r. ⌜ judgementOf r ≡ judged (now (image .entry)) (now (path .entry)) (now (pairing .entry)) ⌝ }
+{
+    let early = grammar::check_tables(image);
+    match early {
+        Verdict::Refused(k) => Judgement::Refused(k),
+        Verdict::Accepted => judge_tabled(image, path, pairing),
+    }
+}
+
+// The image's other tests, which keep the index's first rows.
+fn judge_tabled(image: &[u8], path: &[u8], pairing: &[u8]) -> Judgement
+    requires { ⌜ tablesVerdict (now image) ≡ accepted ⌝ }
     ensures { λ r. ⌜ judgementOf r ≡ judged (now (image .entry)) (now (path .entry)) (now (pairing .entry)) ⌝ }
 {
     let mut index = [0u8; 39424];

@@ -1,100 +1,52 @@
--- `prepare` meets its contract.
-use Prim.Native.Nat.{ℕ}
-use native.Mathlib.Omega.{arith}
+-- `prepare` meets its contract: tests 1 to 6 of the image, and then what there is of one that passes them.
 use borrow.Author.Needs.{needs}
-use borrow.Rule.Slice.PartMut.{putMid, same-len-mid}
-use mathlib.Core.Path.{_≡_, sym, ap, _∙_, subst}
-use mathlib.Core.List.{List, _++_}
-use lib.ListN.{length, replicate}
-use Rattle.model.specs.Blocks.{header}
-use Rattle.model.specs.Refusals.{accepted, imageVerdict}
-use Rattle.image.specs.Accepted.{Accepted}
+use mathlib.Core.Path.{refl, sym, ap, _∙_}
 use Rattle.grammar.specs.Answers.{verdictOf}
-use Rattle.grammar.proofs.Verdicts.{accepted-image, laid-some}
-use Rattle.index.proofs.Parts.{length-zeros, first-part, one-part}
-use Rattle.answers.proofs.Reading.{refused-not}
+use Rattle.grammar.proofs.Verdicts.{refused-early}
+use Rattle.answers.proofs.Reading.{refused-once}
 use Rattle.answers.proofs.run.prepare.Statement.{statement}
 use Rattle.answers.proofs.run.prepare.Tie as tie
 
--- the check leaves the length as it was
-same-long : (c : tie.After-check-columns) → let s = c .before .before .before .before in length (putMid 0 39424 (s .args .index .now) (c .check-columns .last .1 .0)) ≡ length (s .args .index .now)
-same-long c = same-len-mid 0 39424 (c .before .before .before .before .args .index .now) (c .check-columns .last .1 .0) (c .check-columns .kept .1 .0)
+check-tables-requires : tie.Need-check-tables-requires
+check-tables-requires c κs = search needs
 
--- in the arm of a refused image, cleared
-restored : (c : tie.After-clear) → c .clear .last .0 ≡ c .before .before .before .before .before .before .before .before .before .before .before .args .index .now
-restored c =
-    let s = c .before .before .before .before .before .before .before .before .before .before .before in
-    c .clear .ensures ∙ ap (λ (n : ℕ). replicate n 0) (same-long (c .before .before .before .before .before .before .before) ∙ length-zeros 39424 146688 (s .args .index .now) (s .pre)) ∙ sym (s .pre)
+enum-known-early : tie.Need-enum-known-early
+enum-known-early c = search needs
 
--- in the arm of an accepted image
-passed : (c : tie.After-enum-told) → imageVerdict (c .before .before .before .before .before .before .before .before .args .image .now) ≡ accepted
-passed c = sym (c .before .before .before .before .check-columns .ensures .0) ∙ ap verdictOf (c .enum-told .given .1)
-
-sub-check-columns : tie.Need-sub-check-columns
-sub-check-columns c = search needs
-
-part-check-columns-start : tie.Need-part-check-columns-start
-part-check-columns-start c = search needs
-
-part-check-columns-end : tie.Need-part-check-columns-end
-part-check-columns-end c = let s = c .before .before in omega (arith, length-zeros 39424 146688 (s .args .index .now) (s .pre))
-
-check-columns-requires : tie.Need-check-columns-requires
-check-columns-requires c κs = let s = c .before .before .before in first-part 39424 146688 (s .args .index .now) (s .pre)
-
-enum-known-verdict : tie.Need-enum-known-verdict
-enum-known-verdict c = search needs
-
-clear-requires : tie.Need-clear-requires
-clear-requires c κs = search needs
+refused-with-requires : tie.Need-refused-with-requires
+refused-with-requires c κs = search needs
 
 enum-told : tie.Need-enum-told
 enum-told c = search needs
 
-read-header-requires : tie.Need-read-header-requires
-read-header-requires c κs = let image = c .before .before .before .before .before .before .before .before .args .image .now in laid-some image (header image) (accepted-image image (passed c) .laid)
-
-fill-requires : tie.Need-fill-requires
-fill-requires c κs =
-    let read = c .before in
-    let told = read .before in
-    let checked = told .before .before .before .before in
-    let s = checked .before .before .before .before in (
-      subst (Accepted (s .args .image .now)) (sym (read .read-header .ensures)) (accepted-image (s .args .image .now) (passed told)),
-      one-part 39424 146688 (s .args .index .now) (s .pre) (checked .check-columns .last .1 .0)
-          ∙ ap (λ (l : List ℕ). l ++ replicate 146688 0) (checked .check-columns .ensures .1 (ap verdictOf (told .enum-told .given .1))),
-    )
-
-same-length : tie.Need-same-length
-same-length c = ap length (restored (c .before .before))
+prepare-tabled-requires : tie.Need-prepare-tabled-requires
+prepare-tabled-requires c κs =
+    let told = c .before in
+    let checked = told .before .before in
+    (sym (checked .check-tables .ensures) ∙ ap verdictOf (told .enum-told .given .1), checked .before .before .before .pre)
 
 returns : tie.Need-returns
 returns c =
-    let told = c .before .before .before .before .before in
-    (record { verdict-is = sym (ap verdictOf (told .verdict .given .1)) ∙ told .before .before .before .before .check-columns .ensures .0; header-is = λ e. absurd (refused-not _ e); indexed = λ e. absurd (refused-not _ e) }, λ k e. restored (c .before .before))
+    let told = c .before .before in
+    let checked = told .before .before in
+    let k = told .early .given .0 .0 in
+    (refused-once k (c .refused-with .ensures) (refused-early (checked .before .before .before .args .image .now) k (sym (checked .check-tables .ensures) ∙ ap verdictOf (told .early .given .1))), λ k e. refl)
 
-same-length-2 : tie.Need-same-length-2
-same-length-2 c = c .before .before .fill .kept .1 .1 .0 ∙ same-long (c .before .before .before .before .before .before .before .before .before)
+same-length : tie.Need-same-length
+same-length c = search needs
 
 returns-2 : tie.Need-returns-2
-returns-2 c =
-    let told = c .before .before .before .before .before in
-    (record { verdict-is = sym (passed told); header-is = λ e. c .before .before .before .before .read-header .ensures; indexed = λ e. c .before .before .fill .ensures }, λ k e. absurd (refused-not k (sym e)))
+returns-2 c = search needs
 
 pub prepare-spec : {M : Type 1} → statement M
 prepare-spec =
     tie.close
     (tie.spec
-    sub-check-columns
-    part-check-columns-start
-    part-check-columns-end
-    check-columns-requires
-    enum-known-verdict
-    clear-requires
+    check-tables-requires
+    enum-known-early
+    refused-with-requires
     enum-told
-    read-header-requires
-    fill-requires
-    same-length
+    prepare-tabled-requires
     returns
-    same-length-2
+    same-length
     returns-2)
