@@ -42,16 +42,27 @@ pub fn put_decimal(out: &mut [u8], at: usize, n: usize) -> usize
     put_byte(out, end, (48 + n % 10) as u8)
 }
 
+// The same, with no call where one digit does.
+fn put_number(out: &mut [u8], at: usize, n: usize) -> usize
+    requires { ⌜ (n < 65536) × (at + 5 ≤ length (now out)) ⌝ }
+    ensures { λ r. ⌜ Put (now (out .entry)) (now (out .exit)) at r (decimal n) × (r ≤ at + 5) ⌝ }
+{
+    if n < 10 {
+        return put_byte(out, at, (48 + n) as u8);
+    }
+    put_decimal(out, at, n)
+}
+
 // Number i of a list; a space stands before all but the first.
 fn put_spaced(out: &mut [u8], at: usize, i: usize, n: usize) -> usize
     requires { ⌜ (n < 65536) × (at + 6 ≤ length (now out)) ⌝ }
     ensures { λ r. ⌜ Put (now (out .entry)) (now (out .exit)) at r (spacedAt i n) × (r ≤ at + 6) ⌝ }
 {
     if i == 0 {
-        return put_decimal(out, at, n);
+        return put_number(out, at, n);
     }
     let end = put_byte(out, at, b' ');
-    put_decimal(out, end, n)
+    put_number(out, end, n)
 }
 
 // The n two-byte numbers of a row from this byte on.
@@ -104,7 +115,7 @@ fn put_line(out: &mut [u8], at: usize, word: &[u8], n: usize) -> usize
     ensures { λ r. ⌜ Put (now (out .entry)) (now (out .exit)) at r (now (word .entry) ++ (decimal n ++ (10 ∷ []))) × (r ≤ at + length (now (word .entry)) + 6) ⌝ }
 {
     let word_end = put_text(out, at, word);
-    let number_end = put_decimal(out, word_end, n);
+    let number_end = put_number(out, word_end, n);
     put_byte(out, number_end, b'\n')
 }
 

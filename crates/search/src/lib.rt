@@ -536,7 +536,7 @@ pub fn try_search(
 }
 
 // The same with a table that remembers dead ends: it does not give up.
-pub fn search_long(
+fn search_long(
     image: &[u8],
     index: &[u8],
     h: Header,

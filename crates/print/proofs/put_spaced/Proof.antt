@@ -9,8 +9,8 @@ use Rattle.print.proofs.Text.{put-same, put-then}
 use Rattle.print.proofs.put_spaced.Statement.{statement}
 use Rattle.print.proofs.put_spaced.Tie as tie
 
-put-decimal-requires : tie.Need-put-decimal-requires
-put-decimal-requires c κs = search needs
+put-number-requires : tie.Need-put-number-requires
+put-number-requires c κs = search needs
 
 same-length : tie.Need-same-length
 same-length c = search needs
@@ -20,13 +20,13 @@ returns c =
     let put = c .before .before in
     let first = put .before .before in
     let n = first .before .before .args .n in
-    (put-same (sym (ap (λ (i : ℕ). spacedAt i n) (first .if1 .taken))) (put .put-decimal .ensures .0), omega (arith, put .put-decimal .ensures .1))
+    (put-same (sym (ap (λ (i : ℕ). spacedAt i n) (first .if1 .taken))) (put .put-number .ensures .0), omega (arith, put .put-number .ensures .1))
 
 put-byte-requires : tie.Need-put-byte-requires
 put-byte-requires c κs = search needs
 
-put-decimal-requires-2 : tie.Need-put-decimal-requires-2
-put-decimal-requires-2 c κs = search needs
+put-number-requires-2 : tie.Need-put-number-requires-2
+put-number-requires-2 c κs = search needs
 
 same-length-2 : tie.Need-same-length-2
 same-length-2 c = search needs
@@ -38,16 +38,16 @@ returns-2 c =
     let later = space .before .before in
     let start = later .before .before in
     let one = space .put-byte .ensures in
-    (put-same (spaced-after (start .args .i) (start .args .n) (later .if1 .left)) (put-then one (put .put-decimal2 .ensures .0)), omega (arith, put .put-decimal2 .ensures .1))
+    (put-same (spaced-after (start .args .i) (start .args .n) (later .if1 .left)) (put-then one (put .put-number2 .ensures .0)), omega (arith, put .put-number2 .ensures .1))
 
 pub put-spaced-spec : {M : Type 1} → statement M
 put-spaced-spec =
     tie.close
     (tie.spec
-    put-decimal-requires
+    put-number-requires
     same-length
     returns
     put-byte-requires
-    put-decimal-requires-2
+    put-number-requires-2
     same-length-2
     returns-2)
