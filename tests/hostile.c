@@ -7,6 +7,22 @@ enum { SECONDS = 10, LONGEST = 128 * 512, ROW = HEADWORDS_ROW_BYTES };
 
 static uint8_t image_bytes[LONGEST];
 
+static void late(int signal)
+{
+    (void)signal;
+    printf("%s: not answered within %d seconds\n", called, SECONDS);
+    fflush(stdout);
+    _exit(1);
+}
+
+/* Says so where nothing has failed since. */
+static void passed(unsigned before, const char *name, const char *what)
+{
+    alarm(0);
+    if (failures == before)
+        printf("%s: %s\n", name, what);
+}
+
 static struct bytes image_of(const char *folder, const char *name)
 {
     char path[4096];
@@ -28,11 +44,11 @@ static void none(const char *folder, const char *name, size_t letters, size_t en
     uint8_t word[32], path[32] = {0};
     memset(word, 2, sizeof word);
     path[2 * entries] = last;
+    unsigned before = failures;
     alarm(SECONDS);
     list(headwords_analyse, name, image, (struct bytes){word, letters}, 3 * ROW, 0, nothing);
     list(headwords_generate, name, image, (struct bytes){path, 2 * entries + 2}, 3 * ROW, 0, nothing);
-    alarm(0);
-    printf("%s: no reading of the word, and none of a path\n", name);
+    passed(before, name, "no reading of the word, and none of a path");
 }
 
 /* Two readings, with much between them that leads nowhere: what is written before the search is found to be long is written again. */
@@ -42,11 +58,11 @@ static void between(const char *folder, const char *name)
     uint8_t rows[2 * ROW];
     put_row(rows, BYTES(0, 0), BYTES(0));
     put_row(rows + ROW, BYTES(2, 0, 8, 0), BYTES(0));
+    unsigned before = failures;
     alarm(SECONDS);
     for (size_t room = 0; room <= 3; room++)
         list(headwords_analyse, name, image, BYTES(2), room * ROW, room < 2 ? 4 * room + 2 : 4 * 2 + 1, (struct bytes){rows, (room < 2 ? room : 2) * ROW});
-    alarm(0);
-    printf("%s: both readings, in buffers of 0 to 3 rows\n", name);
+    passed(before, name, "both readings, in buffers of 0 to 3 rows");
 }
 
 int main(int argc, char **argv)
@@ -54,6 +70,7 @@ int main(int argc, char **argv)
     if (argc != 2)
         return 2;
     const char *folder = argv[1];
+    signal(SIGALRM, late);
     make_room(IMAGE, LONGEST);
     make_room(GIVEN, 32);
     make_room(OUT, 3 * ROW);

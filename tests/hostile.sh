@@ -1,5 +1,5 @@
 #!/usr/bin/env bash
-# Grammars that leave a search much to try and nothing to find: it ends, by the line program and from C, where dead ends are worth remembering. Where
+# Grammars that leave a search much to try and little or nothing to find: it ends, by the line program and from C, where dead ends are worth remembering. Where
 # they are not, an answer that stands before the word is handed over all the same.
 set -eu
 cd "$(dirname "$0")/.."
@@ -17,7 +17,7 @@ cd "$work"
 # lay_out NAME: NAME.img, grammar.img and the word
 lay_out() {
     "$root/bench/hostile_text" "$1" >grammar.txt
-    "$assembler" grammar.txt grammar.img 2>/dev/null
+    "$assembler" grammar.txt grammar.img 2>told || { cat told; exit 1; }
     "$root/bench/hostile_text" "$1" word | "$assembler" --words grammar.txt >word
     cp grammar.img "$1.img"
 }
@@ -49,12 +49,14 @@ LEXICON Last
 0 #
 END
 TEXT
-"$assembler" between.txt between.img 2>/dev/null
+"$assembler" between.txt between.img 2>told || { cat told; exit 1; }
 ./hostile .
 
 # not held back: the first line is answered while the second is searched
 lay_out mindful
 { echo 1; cat word; } >two
-timeout 2 "$root/target/bin/lines" <two >printed && { echo "mindful: the word was answered"; exit 1; }
-[ "$(cat printed)" = "refused 10" ]
+status=0
+timeout 2 "$root/target/bin/lines" <two >printed || status=$?
+[ "$status" -eq 124 ] || { echo "mindful: ended with $status, and not by the limit of time"; exit 1; }
+[ "$(cat printed)" = "refused 10" ] || { echo "mindful: the line before it is held back"; exit 1; }
 echo "an answered line: handed over before a long search"

@@ -45,8 +45,8 @@ keyOf image place entries pairs =
     let left = leftOf image place in
     (pairs + 1) ∷ entries ∷ left .from ∷ left .to ∷ left .last ∷ place .nulls ∷ place .surface .letters ∷ place .surface .nulls ∷ take (header image .rules) (place .states)
 
--- nothing is found from any node whose numbers stand in a slot of the table, which is cut into slots as wide as a node has numbers. A table of less than
--- 40 places, the most that a node has, has no slot
+-- nothing is found from any node whose numbers stand in a slot of the table, which is cut into slots as wide as a node has numbers. A table of fewer
+-- than 40 places, as many as a node has numbers at most, counts as one without slots
 unfoldable pub Remembered : List ℕ → Query → List ℕ → Type 0
 Remembered image q table =
     40 ≤ length table → (k : ℕ) → widthOf image * k + widthOf image ≤ length table

@@ -211,7 +211,7 @@ fn store(slot: &mut [u16], key: &[usize; 40])
     }
 }
 
-// The node takes the place of what its slot had. Where a number has no room, it is forgotten.
+// The node takes the place of what its slot had. Where one of its numbers has no room, it is not kept.
 fn keep(image: &[u8], h: Header, table: &mut [u16], place: Place, entries: usize, pairs: usize)
     requires { ⌜ Accepted (now image) (headerOf h) ⌝ }
     requires { ⌜ Standing (now image) place ⌝ }

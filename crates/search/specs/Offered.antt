@@ -7,7 +7,7 @@ use Rattle.model.specs.Readings.{Reading}
 use Rattle.rows.specs.Offering.{offerAll}
 use Rattle.rows.specs.Fill.{put}
 
--- it gave up, which it does only with a table of so few places that none is remembered: it tells so by a count that no offering comes to, and has
+-- it gave up, which it does only with a table of so few places that no node is remembered: it tells so by a count that no offering comes to, and has
 -- offered a beginning of the list
 pub record GaveUp (capacity : ℕ) (s : List ℕ × ℕ) (l : List Reading) (s′ : List ℕ × ℕ) (places : ℕ) : Type 0 where
   pub few : places < 40
