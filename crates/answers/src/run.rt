@@ -54,6 +54,7 @@ fn refused_with(k: u8) -> Prepared
             rules: 0,
             lexicons: 0,
             entries: 0,
+            sets: 0,
         },
     }
 }

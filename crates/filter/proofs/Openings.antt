@@ -7,7 +7,7 @@ use mathlib.Core.Path.{_≡_, refl, _∙_}
 use mathlib.Core.List.{List, [], List·Memᴰ}
 use lib.ListN.{length, getD}
 use lib.Dec.{T}
-use Rattle.model.specs.Lists.{below, given, flatMap}
+use Rattle.model.specs.Lists.{below, given, flatMap, bit}
 use Rattle.model.specs.Blocks.{header}
 use Rattle.model.specs.Lexicon.{entry, formOf, continuation}
 use Rattle.model.specs.Grammar.{Grammar}
@@ -27,7 +27,6 @@ use Rattle.listing.proofs.Loops.{flatMap-places}
 use Rattle.filter.specs.Positions.{Feasible, Leads}
 use Rattle.filter.specs.Reach.{Covers, HopeAt, Sound}
 use Rattle.filter.specs.Lexicons.{afterIn, Reaches}
-use Rattle.filter.specs.Masks.{bit}
 use Rattle.filter.specs.Stack.{feasibleOf, reachOf}
 use Rattle.filter.specs.Survivors.{Surviving}
 use Rattle.filter.proofs.Listed.{listed, rising-within}

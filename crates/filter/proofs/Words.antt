@@ -10,7 +10,7 @@ use lib.ListN.{length, getD}
 use lib.Pow.{pow-pos}
 use lib.Dec.{T, ltb, eqb, eqb→eq, ltb→lt, not-T}
 use borrow.Author.Tests.{ne-eqb}
-use Rattle.model.specs.Lists.{isZero}
+use Rattle.model.specs.Lists.{isZero, bit}
 use Rattle.model.specs.Blocks.{header}
 use Rattle.model.specs.Lexicon.{entry, formOf, continuation}
 use Rattle.model.specs.GrammarOf.{grammarOf}
@@ -19,7 +19,7 @@ use Rattle.model.proofs.Booleans.{and-out, eq→eqb}
 use Rattle.filter.specs.Positions.{Feasible, Inserted}
 use Rattle.filter.specs.Reach.{Covers}
 use Rattle.filter.specs.Lexicons.{afterIn, Reaches}
-use Rattle.filter.specs.Masks.{bit, backSpreadMask}
+use Rattle.filter.specs.Masks.{backSpreadMask}
 use Rattle.filter.specs.Stack.{setOf, deletesOf, feasibleOf, reachOf, Begins}
 use Rattle.forms.specs.Letters.{rowCount, rowLetter}
 use Rattle.forms.specs.Forms.{rowsIn, flagsIn, FormsOf}

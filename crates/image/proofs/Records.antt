@@ -33,7 +33,8 @@ kinds-fitted h l =
     let four : Fitted (rowOf 4 (kinds h)) = record { wide = omega arith; narrow = omega arith; filled = omega arith } in
     let five : Fitted (rowOf 5 (kinds h)) = record { wide = omega arith; narrow = omega arith; filled = omega arith } in
     let six : Fitted (rowOf 6 (kinds h)) = record { wide = omega arith; narrow = omega arith; filled = omega arith } in
-    (one, (two, (three, (four, (five, (six, tt))))))
+    let seven : Fitted (rowOf 7 (kinds h)) = record { wide = omega arith; narrow = omega arith; filled = omega arith } in
+    (one, (two, (three, (seven, (four, (five, (six, tt)))))))
 
 -- "1 to 128 blocks"
 pub total-most : (h : Header) → Limited h → blockTotal h ≤ 128
@@ -177,7 +178,7 @@ module _ {image : List ℕ} {h : Header} (laid : Laid image h) (kind i : ℕ) wh
   record-byte j k = ap (λ (l : List ℕ). byte l j) record-part ∙ getD-take (recordWidth h kind) (drop (recordStart h kind i) image) j 0 k ∙ getD-drop (recordStart h kind i) image j 0
 
 -- a table with a place for each kind, read by kind; place 0 is no kind's
-pub by-kind : (f : ℕ → ℕ) (none kind : ℕ) → IsKind kind → getD (none ∷ f 1 ∷ f 2 ∷ f 3 ∷ f 4 ∷ f 5 ∷ f 6 ∷ []) kind 0 ≡ f kind
+pub by-kind : (f : ℕ → ℕ) (none kind : ℕ) → IsKind kind → getD (none ∷ f 1 ∷ f 2 ∷ f 3 ∷ f 4 ∷ f 5 ∷ f 6 ∷ f 7 ∷ []) kind 0 ≡ f kind
 by-kind f none zero is = absurd (omega arith)
 by-kind f none (suc zero) is = refl
 by-kind f none (suc (suc zero)) is = refl
@@ -185,4 +186,5 @@ by-kind f none (suc (suc (suc zero))) is = refl
 by-kind f none (suc (suc (suc (suc zero)))) is = refl
 by-kind f none (suc (suc (suc (suc (suc zero))))) is = refl
 by-kind f none (suc (suc (suc (suc (suc (suc zero)))))) is = refl
-by-kind f none (suc (suc (suc (suc (suc (suc (suc n))))))) is = absurd (omega arith)
+by-kind f none (suc (suc (suc (suc (suc (suc (suc zero))))))) is = refl
+by-kind f none (suc (suc (suc (suc (suc (suc (suc (suc n)))))))) is = absurd (omega arith)

@@ -3,4 +3,4 @@ use Rattle.model.specs.Blocks as model
 use Rattle.image.specs.declared.Header.{Header}
 
 abbrev pub headerOf : Header → model.Header
-headerOf h = record { form = h .form; letters = h .letters; pairs = h .pairs; rules = h .rules; lexicons = h .lexicons; entries = h .entries }
+headerOf h = record { form = h .form; letters = h .letters; pairs = h .pairs; rules = h .rules; lexicons = h .lexicons; entries = h .entries; sets = h .sets }

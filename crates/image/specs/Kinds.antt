@@ -2,4 +2,4 @@
 use Prim.Native.Nat.{ℕ, _<_, _≤_}
 
 abbrev pub IsKind : ℕ → Type 0
-IsKind kind = (1 ≤ kind) × (kind < 7)
+IsKind kind = (1 ≤ kind) × (kind < 8)

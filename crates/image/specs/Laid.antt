@@ -15,6 +15,7 @@ pub record Limited (h : Header) : Type 0 where
   pub lexicons-most : h .lexicons ≤ 64
   pub entries-least : 1 ≤ h .entries
   pub entries-most : h .entries ≤ 2800
+  pub sets-most : h .sets ≤ 31
 
 pub record Laid (image : List ℕ) (h : Header) : Type 0 where
   pub header-is : h ≡ header image

@@ -2,16 +2,16 @@
 // layer reads it.
 use crate::Header;
 ghost use mathlib.Core.Path.{_≡_};
-ghost use Prim.Native.Nat.{_<_};
-ghost use Rattle.model.specs.Blocks.{inAll, recordWidth, perBlock, firstBlock, recordStart};
+ghost use Prim.Native.Nat.{_<_, _≤_};
+ghost use Rattle.model.specs.Blocks.{filling, inAll, recordWidth, perBlock, firstBlock, recordStart};
 ghost use Rattle.image.specs.Header.{headerOf};
 ghost use Rattle.image.specs.Laid.{Limited};
 ghost use Rattle.image.specs.Kinds.{IsKind};
 
 // Of form 1, by kind.
-const WIDTH: [usize; 7] = [0, 12, 2, 2, 506, 2, 16];
+const WIDTH: [usize; 8] = [0, 14, 2, 2, 506, 2, 16, 16];
 
-const PER_BLOCK: [usize; 7] = [0, 42, 253, 253, 1, 253, 31];
+const PER_BLOCK: [usize; 8] = [0, 36, 253, 253, 1, 253, 31, 31];
 
 // Its places by name, for the code that reads records of one kind.
 pub const LETTER_WIDTH: usize = WIDTH[2];
@@ -24,6 +24,9 @@ pub const LEXICON_WIDTH: usize = WIDTH[5];
 pub const LETTERS_START: usize = 512 + 4;
 
 pub const PAIRS_START: usize = 2 * 512 + 4;
+
+// The block of sets, where there are any; else the tables begin there.
+const SETS_BLOCK: usize = 3;
 
 pub fn width(h: Header, kind: usize) -> usize
     requires { ⌜ IsKind kind ⌝ }
@@ -44,8 +47,28 @@ pub fn in_all(h: Header, kind: usize) -> usize
     requires { ⌜ IsKind kind ⌝ }
     ensures { λ r. ⌜ r ≡ inAll (headerOf h) kind ⌝ }
 {
-    let counts = [0, 1, h.letters, h.pairs, h.rules, h.lexicons, h.entries];
+    let counts = [
+        0,
+        1,
+        h.letters,
+        h.pairs,
+        h.rules,
+        h.lexicons,
+        h.entries,
+        h.sets,
+    ];
     counts[kind]
+}
+
+// The blocks of sets: one, where there are any.
+fn set_blocks(h: Header) -> usize
+    requires { ⌜ Limited (headerOf h) ⌝ }
+    ensures { λ r. ⌜ (r ≡ filling 16 (h .sets)) × (r ≤ 1) ⌝ }
+{
+    if h.sets == 0 {
+        return 0;
+    }
+    1
 }
 
 // The first block of a kind.
@@ -54,9 +77,10 @@ pub fn first_block(h: Header, kind: usize) -> usize
     requires { ⌜ IsKind kind ⌝ }
     ensures { λ r. ⌜ r ≡ firstBlock (headerOf h) kind ⌝ }
 {
-    let lexicons = 3 + h.rules;
+    let rules = SETS_BLOCK + set_blocks(h);
+    let lexicons = rules + h.rules;
     let entries = lexicons + 1;
-    let blocks = [0, 0, 1, 2, 3, lexicons, entries];
+    let blocks = [0, 0, 1, 2, rules, lexicons, entries, SETS_BLOCK];
     blocks[kind]
 }
 

@@ -57,6 +57,7 @@ pub struct Header {
     pub rules: usize,
     pub lexicons: usize,
     pub entries: usize,
+    pub sets: usize,
 }
 
 pub fn read_header(image: &[u8]) -> Header
@@ -70,5 +71,6 @@ pub fn read_header(image: &[u8]) -> Header
         rules: number_at(image, 10),
         lexicons: number_at(image, 12),
         entries: number_at(image, 14),
+        sets: number_at(image, 16),
     }
 }

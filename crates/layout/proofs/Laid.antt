@@ -11,20 +11,26 @@ use borrow.Author.Tests.{eq-eqb, ne-eqb, le-leb, lt-leb}
 use Rattle.model.specs.Lists.{below, every, within}
 use Rattle.model.specs.Blocks.{Header, header, block, blockCount, blockTotal, withinLimits, laidOut}
 use Rattle.model.specs.Refusals.{rightLength, rightLayout}
-use Rattle.model.proofs.Booleans.{in5, out4, out5, within-in, within-out, true-of, of-true}
+use Rattle.model.proofs.Booleans.{and-in, and-out, in5, out4, out5, within-in, within-out, true-of, of-true}
 use Rattle.model.proofs.Sealing.{right-blocks}
 use Rattle.image.specs.Laid.{Limited, Laid}
+
+-- the limits of the five counts that document 01 has
+abbrev withinFive : Header → Bool
+withinFive h = within 2 120 (h .letters) && within 1 250 (h .pairs) && within 0 32 (h .rules) && within 1 64 (h .lexicons) && within 1 2800 (h .entries)
 
 pub limited : (h : Header) → withinLimits h ≡ true → Limited h
 unfolding withinLimits
 limited h e =
-    let t = out5 (within 2 120 (h .letters)) (within 1 250 (h .pairs)) (within 0 32 (h .rules)) (within 1 64 (h .lexicons)) (within 1 2800 (h .entries)) (of-true (withinLimits h) e) in
+    let u = and-out (withinFive h) (within 0 31 (h .sets)) (of-true (withinLimits h) e) in
+    let t = out5 (within 2 120 (h .letters)) (within 1 250 (h .pairs)) (within 0 32 (h .rules)) (within 1 64 (h .lexicons)) (within 1 2800 (h .entries)) (u .0) in
     let a = within-out 2 120 (h .letters) (t .0) in
     let b = within-out 1 250 (h .pairs) (t .1) in
     let c = within-out 0 32 (h .rules) (t .2) in
     let d = within-out 1 64 (h .lexicons) (t .3) in
     let f = within-out 1 2800 (h .entries) (t .4) in
-    record { letters-least = a .0; letters-most = a .1; pairs-least = b .0; pairs-most = b .1; rules-most = c .1; lexicons-least = d .0; lexicons-most = d .1; entries-least = f .0; entries-most = f .1 }
+    let g = within-out 0 31 (h .sets) (u .1) in
+    record { letters-least = a .0; letters-most = a .1; pairs-least = b .0; pairs-most = b .1; rules-most = c .1; lexicons-least = d .0; lexicons-most = d .1; entries-least = f .0; entries-most = f .1; sets-most = g .1 }
 
 -- and back: counts that keep the limits pass, and a limit that is not kept fails
 module _ (h : Header) where
@@ -32,12 +38,14 @@ module _ (h : Header) where
   unfolding withinLimits
   limits-kept l =
       true-of (withinLimits h)
+      (and-in (withinFive h) (within 0 31 (h .sets))
       (in5 (within 2 120 (h .letters)) (within 1 250 (h .pairs)) (within 0 32 (h .rules)) (within 1 64 (h .lexicons)) (within 1 2800 (h .entries))
       (within-in 2 120 (h .letters) (l .letters-least) (l .letters-most))
       (within-in 1 250 (h .pairs) (l .pairs-least) (l .pairs-most))
       (within-in 0 32 (h .rules) (omega arith) (l .rules-most))
       (within-in 1 64 (h .lexicons) (l .lexicons-least) (l .lexicons-most))
       (within-in 1 2800 (h .entries) (l .entries-least) (l .entries-most)))
+      (within-in 0 31 (h .sets) (omega arith) (l .sets-most)))
 
   pub limits-broken : (Limited h → ⊥) → withinLimits h ≡ false
   limits-broken f = go (withinLimits h) refl

@@ -69,6 +69,9 @@ fn within_limits(h: Header) -> bool
     if h.entries < 1 {
         return false;
     }
+    if 31 < h.sets {
+        return false;
+    }
     h.entries <= 2800
 }
 
@@ -80,6 +83,9 @@ fn kind_at(h: Header, k: usize) -> usize
 {
     if k < 3 {
         return k + 1;
+    }
+    if k < kinds::first_block(h, 4) {
+        return 7;
     }
     if k < kinds::first_block(h, 5) {
         return 4;

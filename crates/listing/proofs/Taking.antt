@@ -10,12 +10,13 @@ use lib.Seq.{drop-cons}
 use lib.Dec.{T, leb, ltb, eqb}
 use borrow.Author.Tests.{lt-ltb}
 use Rattle.model.specs.Lists.{every, within}
-use Rattle.model.specs.Blocks.{Header, header, kinds, blockTotal}
+use Rattle.model.specs.Blocks.{Header, header}
 use Rattle.model.specs.GrammarOf.{grammarOf}
 use Rattle.model.specs.Query.{Pattern, Query}
 use Rattle.model.specs.Tree.{spells, left, lettersAnd, nullsAnd, isNil, mayAt, goAt, complete}
 use Rattle.model.proofs.Booleans.{and-out, true-of}
 use Rattle.image.specs.Accepted.{Accepted}
+use Rattle.image.proofs.Records.{total-most}
 use Rattle.letters.proofs.Laws.{pairAt}
 use Rattle.rules.specs.Live.{Live, stepOf, aliveOf, finishOf}
 use Rattle.listing.specs.declared.place.Place.{Place}
@@ -24,9 +25,8 @@ use Rattle.listing.specs.Places.{ended, waysAfter, stopsAfter, restOf, n
 
 -- of an accepted image
 module _ (image : List ℕ) (h : Header) (a : Accepted image h) where
-  pub image-short : length image < 65536
-  unfolding kinds blockTotal
-  image-short = omega (arith, a .laid .whole, a .laid .limits .rules-most, a .laid .limits .entries-most)
+  pub image-most : length image ≤ 65536
+  image-most = omega (arith, a .laid .whole, total-most h (a .laid .limits))
 
 -- a letter taken off the front of a part of the image
 module _ (image : List ℕ) (from to : ℕ) (inside : to ≤ length image) where

@@ -62,7 +62,7 @@ pub struct LexicalAfter {
 }
 
 pub fn spell(from: usize, nulls: usize, x: Lexical) -> LexicalAfter
-    requires { ⌜ (nulls ≤ 8) × (from < 65536) ⌝ }
+    requires { ⌜ (nulls ≤ 8) × (from ≤ 65536) ⌝ }
     ensures may { λ r. ⌜ r .may ≡ leb (nullsAnd nulls (x .0)) 8 ⌝ }
     ensures go { λ r. ⌜ (r .may ≡ true → (r .from ≡ lettersAnd from (x .0)) × ((r .nulls ≡ nullsAnd nulls (x .0)) × (r .nulls ≤ 8))) ⌝ }
 {

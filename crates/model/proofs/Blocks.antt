@@ -35,11 +35,11 @@ block-number image k i h =
 
 -- the header's counts are numbers of the image
 module _ (image : List ℕ) where
-  pub header-read : {form letters pairs rules lexicons entries : ℕ}
-      → form ≡ number image 4 → letters ≡ number image 6 → pairs ≡ number image 8 → rules ≡ number image 10 → lexicons ≡ number image 12 → entries ≡ number image 14
-      → _≡_ {A = Header} (record { form = form; letters = letters; pairs = pairs; rules = rules; lexicons = lexicons; entries = entries }) (header image)
+  pub header-read : {form letters pairs rules lexicons entries sets : ℕ}
+      → form ≡ number image 4 → letters ≡ number image 6 → pairs ≡ number image 8 → rules ≡ number image 10 → lexicons ≡ number image 12 → entries ≡ number image 14 → sets ≡ number image 16
+      → _≡_ {A = Header} (record { form = form; letters = letters; pairs = pairs; rules = rules; lexicons = lexicons; entries = entries; sets = sets }) (header image)
   unfolding header
-  header-read a b c d e f i =
+  header-read a b c d e f g i =
       record {
         form = at 4 (omega arith) a i;
         letters = at 6 (omega arith) b i;
@@ -47,6 +47,7 @@ module _ (image : List ℕ) where
         rules = at 10 (omega arith) d i;
         lexicons = at 12 (omega arith) e i;
         entries = at 14 (omega arith) f i;
+        sets = at 16 (omega arith) g i;
       }
     where
       at : (k : ℕ) → k + 1 < 512 → {n : ℕ} → n ≡ number image k → n ≡ number (block image 0) k

@@ -1,6 +1,6 @@
 -- All definitions unfold at once: what the trials compute with.
 use Rattle.model.specs.Blocks.{block, weightedSum, checkOf, numbered, sealedBlock, sealedImage, header, kinds, recordStart, blockTotal, kindAt, recordsAt, withinLimits, laidOut, recordAt}
-use Rattle.model.specs.RuleTables.{codePoints, pairs, pairsAndBoundary, isCodePoint, isPair, column, isFinal, nextState, isTable, matches, takesColumn, columnFor, columnsOf, fed, accepts}
+use Rattle.model.specs.RuleTables.{codePoints, pairs, letterSets, pairsAndBoundary, isCodePoint, isPair, inSet, isSet, isSide, column, isFinal, nextState, isTable, matchesSide, matches, takesColumn, columnFor, columnsOf, fed, accepts}
 use Rattle.model.specs.Lexicon.{entryCount, firstEntry, inLexicon, formOf, isEntryOf, isEntry, linked}
 use Rattle.model.specs.GrammarOf.{grammarOf}
 use Rattle.model.specs.Readings.{passes, isPath, isReading, isReadingOf, upTo, beyond, stepList, endingList}
@@ -12,8 +12,8 @@ use Rattle.model.specs.Rows.{rowNumbers, rowBytes, rowAt, filled, replyT
 use Rattle.model.specs.Calls.{sealingReply, afterSealing, requestVerdict, allReadings, listingReply, listingRows, afterListing}
 use Rattle.model.specs.Beside.{judged, formStart, viewed, formReply}
 use Rattle.model.specs.Lines.{linesFrom, linesOf, fieldsFrom, fieldsOf, valueFrom, isNumber, lineOf, digits, spaced, printedReply, printedRow, printedLine, printed}
-use Rattle.model.specs.Samples.{plainBlock, entryBytes, imageOf, luzImage, tcWith, tcImage, frontWith, frontImage, deadImage, slipImage}
+use Rattle.model.specs.Samples.{plainBlock, entryBytes, setBytes, imageWith, imageOf, luzImage, tcWith, tcImage, frontWith, frontImage, deadImage, slipImage, setsWith, setsImage}
 
 unfoldable pub computed : Unit {0}
-unfolding block weightedSum checkOf numbered sealedBlock sealedImage header kinds recordStart blockTotal kindAt recordsAt withinLimits laidOut recordAt codePoints pairs pairsAndBoundary isCodePoint isPair column isFinal nextState isTable matches takesColumn columnFor columnsOf fed accepts entryCount firstEntry inLexicon formOf isEntryOf isEntry linked grammarOf passes isPath isReading isReadingOf upTo beyond stepList endingList answers entryNumbers queryOf walk stepAll alive begun finish countAt mayAt goAt complete start readingAt readings rightLength rightChecks rightLayout rightLetters rightPairs rightTables rightColumns rightEntries isLexical rightForms formatTests imageTests imageVerdict wordTests pathTests pairingTests ownTests requestTests judgeTests viewTests rowNumbers rowBytes rowAt filled replyTo replyNumber sealingReply afterSealing requestVerdict allReadings listingReply listingRows afterListing judged formStart viewed formReply linesFrom linesOf fieldsFrom fieldsOf valueFrom isNumber lineOf digits spaced printedReply printedRow printedLine printed plainBlock entryBytes imageOf luzImage tcWith tcImage frontWith frontImage deadImage slipImage
+unfolding block weightedSum checkOf numbered sealedBlock sealedImage header kinds recordStart blockTotal kindAt recordsAt withinLimits laidOut recordAt codePoints pairs letterSets pairsAndBoundary isCodePoint isPair inSet isSet isSide column isFinal nextState isTable matchesSide matches takesColumn columnFor columnsOf fed accepts entryCount firstEntry inLexicon formOf isEntryOf isEntry linked grammarOf passes isPath isReading isReadingOf upTo beyond stepList endingList answers entryNumbers queryOf walk stepAll alive begun finish countAt mayAt goAt complete start readingAt readings rightLength rightChecks rightLayout rightLetters rightPairs rightTables rightColumns rightEntries isLexical rightForms formatTests imageTests imageVerdict wordTests pathTests pairingTests ownTests requestTests judgeTests viewTests rowNumbers rowBytes rowAt filled replyTo replyNumber sealingReply afterSealing requestVerdict allReadings listingReply listingRows afterListing judged formStart viewed formReply linesFrom linesOf fieldsFrom fieldsOf valueFrom isNumber lineOf digits spaced printedReply printedRow printedLine printed plainBlock entryBytes setBytes imageWith imageOf luzImage tcWith tcImage frontWith frontImage deadImage slipImage setsWith setsImage
 computed = tt

@@ -14,7 +14,7 @@ use Rattle.model.specs.Rows.{Reply}
 use Rattle.model.specs.Calls.{Sealing, sealingReply, afterSealing, allReadings, listingReply}
 use Rattle.model.specs.Beside.{Judgement, judged, FormReply, formReply, viewed}
 use Rattle.model.specs.Lines.{Line, lineOf, linesOf, decimal, printedReply, printedLine, printed}
-use Rattle.model.specs.Samples.{entryBytes, imageOf, luzLetters, luzPairs, luzTable, luzImage, tcWith, tcImage}
+use Rattle.model.specs.Samples.{entryBytes, imageOf, luzLetters, luzPairs, luzTable, luzImage, tcWith, tcImage, setsImage}
 use Rattle.model.specs.Trials.{reading}
 use Rattle.model.proofs.Front.{atFront}
 use Rattle.model.proofs.Computed.{computed}
@@ -32,8 +32,8 @@ refusal-2 : map (λ i. imageVerdict (set luzImage i 1)) (7 ∷ 513 ∷ 3071 ∷ 
 unfolding computed
 refusal-2 = refl
 
--- form, by either byte; L = 1; P; R; X; E; a kind; a record count; an unused byte; a block too many
-refusal-3 : (changed 4 2 ∷ changed 5 1 ∷ changed 6 1 ∷ changed 8 9 ∷ changed 10 2 ∷ changed 12 1 ∷ changed 14 5 ∷ changed 514 3 ∷ changed 1027 9 ∷ changed 3069 1 ∷ imageVerdict (sealedImage (luzImage ++ replicate 512 0)) ∷ []) ≡ replicate 11 (Verdict.refused 3)
+-- form, by either byte; L = 1; P; R; X; E; sets where there is no block of them; a kind; a record count; unused bytes; a block too many; a block of sets where the count is 0
+refusal-3 : (changed 4 2 ∷ changed 5 1 ∷ changed 6 1 ∷ changed 8 9 ∷ changed 10 2 ∷ changed 12 1 ∷ changed 14 5 ∷ changed 16 1 ∷ changed 514 3 ∷ changed 1027 9 ∷ changed 18 1 ∷ changed 3069 1 ∷ imageVerdict (sealedImage (luzImage ++ replicate 512 0)) ∷ imageVerdict (sealedImage (set setsImage 16 0)) ∷ []) ≡ replicate 14 (Verdict.refused 3)
 unfolding computed
 refusal-3 = refl
 
@@ -47,8 +47,8 @@ refusal-5 : (changed 1028 0 ∷ changed 1030 1 ∷ changed 1031 10 ∷ imageVerd
 unfolding computed
 refusal-5 = refl
 
--- S = 2, next state 3; a column side; a mark; a byte after the last row
-refusal-6 : (imageVerdict (tcWith (2 ∷ 3 ∷ []) (1 ∷ 2 ∷ 255 ∷ 255 ∷ 1 ∷ 1 ∷ 3 ∷ 0 ∷ [])) ∷ changed 1542 10 ∷ changed 1552 2 ∷ changed 1582 1 ∷ []) ≡ replicate 4 (Verdict.refused 6)
+-- S = 2, next state 3; a column side; a mark; a byte after the last row; letter 10 in a set where L is 9; set 2 named where there are two
+refusal-6 : (imageVerdict (tcWith (2 ∷ 3 ∷ []) (1 ∷ 2 ∷ 255 ∷ 255 ∷ 1 ∷ 1 ∷ 3 ∷ 0 ∷ [])) ∷ changed 1542 10 ∷ changed 1552 2 ∷ changed 1582 1 ∷ imageVerdict (sealedImage (set setsImage 1541 4)) ∷ imageVerdict (sealedImage (set setsImage 2058 130)) ∷ []) ≡ replicate 6 (Verdict.refused 6)
 unfolding computed
 refusal-6 = refl
 

@@ -6,13 +6,13 @@ use mathlib.Core.List.{List, [], _∷_, _++_, map}
 use lib.ListN.{take, replicate, set}
 use Rattle.model.specs.Lists.{below, numberBytes}
 use Rattle.model.specs.Blocks.{Header, checkOf, laidOut, withinLimits, inAll, recordWidth, perBlock, firstBlock, recordStart, blockTotal, kindAt, recordsAt}
-use Rattle.model.specs.RuleTables.{Pair, Sides, codePoints, isCodePoint, pairs, isPair, table, column, isTable, nextState, isFinal, pairsAndBoundary, breadth, columnsOf}
+use Rattle.model.specs.RuleTables.{Pair, Sides, codePoints, isCodePoint, pairs, isPair, inSet, isSet, isSide, matchesSide, table, column, isTable, nextState, isFinal, pairsAndBoundary, breadth, columnsOf}
 use Rattle.model.specs.Lexicon.{entryCount, firstEntry, entry, formOf, continuation, gloss, isEntry, pathLength}
 use Rattle.model.specs.Readings.{wordLength, pairingLength}
 use Rattle.model.specs.Refusals.{rightLength}
 use Rattle.model.specs.Rows.{Reply, replyNumber, rowCount}
 use Rattle.model.specs.Beside.{viewed}
-use Rattle.model.specs.Samples.{plainBlock, entryBytes, imageOf, luzLetters, luzPairs, luzTable, luzImage, tcImage}
+use Rattle.model.specs.Samples.{plainBlock, entryBytes, setBytes, imageOf, luzLetters, luzPairs, luzTable, luzImage, tcImage}
 use Rattle.model.proofs.Computed.{computed}
 
 -- blocks
@@ -26,24 +26,27 @@ unfolding computed
 image-lengths = refl
 
 abbrev headed : ℕ → ℕ → ℕ → ℕ → ℕ → Header
-headed l p r x e = record { form = 1; letters = l; pairs = p; rules = r; lexicons = x; entries = e }
+headed l p r x e = record { form = 1; letters = l; pairs = p; rules = r; lexicons = x; entries = e; sets = 0 }
+
+abbrev withSets : ℕ → Header → Header
+withSets n h = record { form = h .form; letters = h .letters; pairs = h .pairs; rules = h .rules; lexicons = h .lexicons; entries = h .entries; sets = n }
 
 lowest-counts : map withinLimits (headed 2 1 0 1 1 ∷ headed 1 1 0 1 1 ∷ headed 2 0 0 1 1 ∷ headed 2 1 0 0 1 ∷ headed 2 1 0 1 0 ∷ [])
     ≡ true ∷ false ∷ false ∷ false ∷ false ∷ []
 unfolding computed
 lowest-counts = refl
 
-highest-counts : map withinLimits (headed 120 250 32 64 2800 ∷ headed 121 250 32 64 2800 ∷ headed 120 251 32 64 2800 ∷ headed 120 250 33 64 2800 ∷ headed 120 250 32 65 2800 ∷ headed 120 250 32 64 2801 ∷ [])
-    ≡ true ∷ false ∷ false ∷ false ∷ false ∷ false ∷ []
+highest-counts : map withinLimits (headed 120 250 32 64 2800 ∷ headed 121 250 32 64 2800 ∷ headed 120 251 32 64 2800 ∷ headed 120 250 33 64 2800 ∷ headed 120 250 32 65 2800 ∷ headed 120 250 32 64 2801 ∷ withSets 31 (headed 120 250 32 64 2800) ∷ withSets 32 (headed 120 250 32 64 2800) ∷ [])
+    ≡ true ∷ false ∷ false ∷ false ∷ false ∷ false ∷ true ∷ false ∷ []
 unfolding computed
 highest-counts = refl
 
--- the most that the limits allow: 127 blocks
 totals : map (λ e. blockTotal (headed 9 8 1 2 e)) (1 ∷ 31 ∷ 32 ∷ 62 ∷ 63 ∷ []) ≡ 6 ∷ 6 ∷ 7 ∷ 7 ∷ 8 ∷ []
 unfolding computed
 totals = refl
 
-most-blocks : blockTotal (headed 120 250 32 64 2800) ≡ 127
+-- the most that the limits allow: 127 blocks without sets, and 128 with them
+most-blocks : map (λ n. blockTotal (withSets n (headed 120 250 32 64 2800))) (0 ∷ 1 ∷ 31 ∷ []) ≡ 127 ∷ 128 ∷ 128 ∷ []
 unfolding computed
 most-blocks = refl
 
@@ -55,6 +58,11 @@ no-rules : map (kindAt (headed 9 8 0 3 40)) (below 6) ≡ 1 ∷ 2 ∷ 3 ∷ 5 �
 unfolding computed
 no-rules = refl
 
+-- the block of sets stands directly after the pairs
+sets-there : (map (kindAt (withSets 5 (headed 9 8 2 3 40))) (below 9) ≡ 1 ∷ 2 ∷ 3 ∷ 7 ∷ 4 ∷ 4 ∷ 5 ∷ 6 ∷ 6 ∷ []) × (recordsAt (withSets 5 (headed 9 8 2 3 40)) 3 ≡ 5)
+unfolding computed
+sets-there = (refl, refl)
+
 record-counts : map (recordsAt (headed 9 8 2 3 40)) (below 8) ≡ 1 ∷ 9 ∷ 8 ∷ 1 ∷ 1 ∷ 3 ∷ 31 ∷ 9 ∷ []
 unfolding computed
 record-counts = refl
@@ -63,20 +71,20 @@ full-last-block : map (recordsAt (headed 9 8 2 3 62)) (6 ∷ 7 ∷ []) ≡ 31 �
 unfolding computed
 full-last-block = refl
 
--- of kinds 1 to 6, and of 7, which there is not: the width of a record, how many a block holds, the first block, and how many there are
-widths : map (recordWidth (headed 9 8 2 3 40)) (below 8) ≡ 0 ∷ 12 ∷ 2 ∷ 2 ∷ 506 ∷ 2 ∷ 16 ∷ 0 ∷ []
+-- of kinds 1 to 7, of which 7 is there with no record, and of 8, which there is not: the width of a record, how many a block holds, the first block, and how many there are
+widths : map (recordWidth (headed 9 8 2 3 40)) (below 9) ≡ 0 ∷ 14 ∷ 2 ∷ 2 ∷ 506 ∷ 2 ∷ 16 ∷ 16 ∷ 0 ∷ []
 unfolding computed
 widths = refl
 
-records-a-block : map (perBlock (headed 9 8 2 3 40)) (1 ∷ 2 ∷ 3 ∷ 4 ∷ 5 ∷ 6 ∷ []) ≡ 42 ∷ 253 ∷ 253 ∷ 1 ∷ 253 ∷ 31 ∷ []
+records-a-block : map (perBlock (headed 9 8 2 3 40)) (1 ∷ 2 ∷ 3 ∷ 4 ∷ 5 ∷ 6 ∷ 7 ∷ []) ≡ 36 ∷ 253 ∷ 253 ∷ 1 ∷ 253 ∷ 31 ∷ 31 ∷ []
 unfolding computed
 records-a-block = refl
 
-first-blocks : map (firstBlock (headed 9 8 2 3 40)) (1 ∷ 2 ∷ 3 ∷ 4 ∷ 5 ∷ 6 ∷ []) ≡ 0 ∷ 1 ∷ 2 ∷ 3 ∷ 5 ∷ 6 ∷ []
+first-blocks : (map (firstBlock (headed 9 8 2 3 40)) (1 ∷ 2 ∷ 3 ∷ 4 ∷ 5 ∷ 6 ∷ []) ≡ 0 ∷ 1 ∷ 2 ∷ 3 ∷ 5 ∷ 6 ∷ []) × (map (firstBlock (withSets 31 (headed 9 8 2 3 40))) (1 ∷ 2 ∷ 3 ∷ 4 ∷ 5 ∷ 6 ∷ 7 ∷ []) ≡ 0 ∷ 1 ∷ 2 ∷ 4 ∷ 6 ∷ 7 ∷ 3 ∷ [])
 unfolding computed
-first-blocks = refl
+first-blocks = (refl, refl)
 
-records-in-all : map (inAll (headed 9 8 2 3 40)) (below 8) ≡ 0 ∷ 1 ∷ 9 ∷ 8 ∷ 2 ∷ 3 ∷ 40 ∷ 0 ∷ []
+records-in-all : map (inAll (withSets 5 (headed 9 8 2 3 40))) (below 9) ≡ 0 ∷ 1 ∷ 9 ∷ 8 ∷ 2 ∷ 3 ∷ 40 ∷ 5 ∷ 0 ∷ []
 unfolding computed
 records-in-all = refl
 
@@ -93,12 +101,12 @@ used kind records n = plainBlock kind records (replicate n 1)
 abbrev small : Header
 small = headed 9 8 1 2 4
 
-records-used : laidOut small 0 (used 1 1 12) ∷ laidOut small 1 (used 2 9 18) ∷ laidOut small 2 (used 3 8 16) ∷ laidOut small 3 (used 4 1 506) ∷ laidOut small 4 (used 5 2 4) ∷ laidOut small 5 (used 6 4 64) ∷ []
+records-used : laidOut small 0 (used 1 1 14) ∷ laidOut small 1 (used 2 9 18) ∷ laidOut small 2 (used 3 8 16) ∷ laidOut small 3 (used 4 1 506) ∷ laidOut small 4 (used 5 2 4) ∷ laidOut small 5 (used 6 4 64) ∷ []
     ≡ true ∷ true ∷ true ∷ true ∷ true ∷ true ∷ []
 unfolding computed
 records-used = refl
 
-byte-past-records : laidOut small 0 (used 1 1 13) ∷ laidOut small 1 (used 2 9 19) ∷ laidOut small 2 (used 3 8 17) ∷ laidOut small 4 (used 5 2 5) ∷ laidOut small 5 (used 6 4 65) ∷ []
+byte-past-records : laidOut small 0 (used 1 1 15) ∷ laidOut small 1 (used 2 9 19) ∷ laidOut small 2 (used 3 8 17) ∷ laidOut small 4 (used 5 2 5) ∷ laidOut small 5 (used 6 4 65) ∷ []
     ≡ false ∷ false ∷ false ∷ false ∷ false ∷ []
 unfolding computed
 byte-past-records = refl
@@ -132,20 +140,43 @@ pair-sides = refl
 abbrev tableOf : ℕ → ℕ → ℕ → ℕ → ℕ → List ℕ → List ℕ
 tableOf c s a m n rest = take 506 ((c ∷ s ∷ (replicate (2 * c) a ++ replicate s m ++ replicate (c * s) n ++ rest)) ++ replicate 506 0)
 
-table-sizes : map (λ t. isTable t 9) (tableOf 1 1 255 1 1 [] ∷ tableOf 16 24 255 1 24 [] ∷ tableOf 0 1 255 1 1 [] ∷ tableOf 1 0 255 1 0 [] ∷ tableOf 17 24 255 1 24 [] ∷ tableOf 16 25 255 1 24 [] ∷ [])
+table-sizes : map (λ t. isTable t 9 2) (tableOf 1 1 255 1 1 [] ∷ tableOf 16 24 255 1 24 [] ∷ tableOf 0 1 255 1 1 [] ∷ tableOf 1 0 255 1 0 [] ∷ tableOf 17 24 255 1 24 [] ∷ tableOf 16 25 255 1 24 [] ∷ [])
     ≡ true ∷ true ∷ false ∷ false ∷ false ∷ false ∷ []
 unfolding computed
 table-sizes = refl
 
-table-entries : map (λ t. isTable t 9) (tableOf 2 2 0 0 0 [] ∷ tableOf 2 2 9 1 2 [] ∷ tableOf 2 2 10 1 2 [] ∷ tableOf 2 2 254 1 2 [] ∷ tableOf 2 2 9 2 2 [] ∷ tableOf 2 2 9 1 3 [] ∷ tableOf 2 2 9 1 2 (1 ∷ []) ∷ [])
+table-entries : map (λ t. isTable t 9 2) (tableOf 2 2 0 0 0 [] ∷ tableOf 2 2 9 1 2 [] ∷ tableOf 2 2 10 1 2 [] ∷ tableOf 2 2 254 1 2 [] ∷ tableOf 2 2 9 2 2 [] ∷ tableOf 2 2 9 1 3 [] ∷ tableOf 2 2 9 1 2 (1 ∷ []) ∷ [])
     ≡ true ∷ true ∷ false ∷ false ∷ false ∷ false ∷ false ∷ []
 unfolding computed
 table-entries = refl
 
 -- each byte of a table is looked at: one bad byte among good ones
-table-bytes : map (λ i. isTable (set (tableOf 2 2 9 1 2 []) i 77) 9) (2 ∷ 5 ∷ 6 ∷ 7 ∷ 8 ∷ 11 ∷ 12 ∷ 505 ∷ []) ≡ replicate 8 false
+table-bytes : map (λ i. isTable (set (tableOf 2 2 9 1 2 []) i 77) 9 2) (2 ∷ 5 ∷ 6 ∷ 7 ∷ 8 ∷ 11 ∷ 12 ∷ 505 ∷ []) ≡ replicate 8 false
 unfolding computed
 table-bytes = refl
+
+-- column sides by nine letters and two sets; by none; by all that there may be
+column-sides : (map (isSide 9 2) (0 ∷ 9 ∷ 10 ∷ 127 ∷ 128 ∷ 129 ∷ 130 ∷ 158 ∷ 254 ∷ 255 ∷ []) ≡ true ∷ true ∷ false ∷ false ∷ true ∷ true ∷ false ∷ false ∷ false ∷ true ∷ [])
+    × (map (isSide 9 0) (127 ∷ 128 ∷ 129 ∷ 255 ∷ []) ≡ false ∷ false ∷ false ∷ true ∷ [])
+    × (map (isSide 120 31) (120 ∷ 121 ∷ 127 ∷ 128 ∷ 158 ∷ 159 ∷ 254 ∷ []) ≡ true ∷ false ∷ false ∷ true ∷ true ∷ false ∷ false ∷ [])
+unfolding computed
+column-sides = (refl, refl, refl)
+
+-- "bit b of byte j for letter 8j + b": bytes 0 and 15 alone
+set-bits : map (inSet (129 ∷ (replicate 14 0 ++ (2 ∷ [])))) (0 ∷ 1 ∷ 7 ∷ 8 ∷ 119 ∷ 120 ∷ 121 ∷ 122 ∷ 128 ∷ 136 ∷ []) ≡ true ∷ false ∷ true ∷ false ∷ false ∷ false ∷ true ∷ false ∷ false ∷ false ∷ []
+unfolding computed
+set-bits = refl
+
+-- no bit above L: letters 9 and 10 where L is 9; the last bit of all; an empty set
+set-letters : map (λ s. isSet 9 (setBytes s)) ([] ∷ (0 ∷ 1 ∷ 9 ∷ []) ∷ (10 ∷ []) ∷ (127 ∷ []) ∷ []) ≡ true ∷ true ∷ false ∷ false ∷ []
+unfolding computed
+set-letters = refl
+
+-- sides that name a set match what it has; where it is missing, nothing
+set-matches : (map (matchesSide ((2 ∷ []) ∷ (12 ∷ []) ∷ []) 129) (below 5) ≡ false ∷ false ∷ true ∷ true ∷ false ∷ []) × (map (matchesSide ((255 ∷ []) ∷ []) 129) (below 5) ≡ replicate 5 false)
+    × (map (λ s. matchesSide ((255 ∷ []) ∷ []) s 2) (2 ∷ 3 ∷ 128 ∷ 158 ∷ 159 ∷ 254 ∷ 255 ∷ []) ≡ true ∷ false ∷ true ∷ false ∷ false ∷ false ∷ true ∷ [])
+unfolding computed
+set-matches = (refl, refl, refl)
 
 abbrev sides : ℕ → ℕ → Sides
 sides a b = record { lexical = a; surface = b }
@@ -176,7 +207,7 @@ unfolding computed
 tc-rows = refl
 
 -- how many of the eight pairs and the boundary each column matches
-luz-breadths : map (λ c. breadth (pairsAndBoundary luzImage) (column (table luzImage 0) c)) (below 5) ≡ 1 ∷ 1 ∷ 1 ∷ 1 ∷ 9 ∷ []
+luz-breadths : map (λ c. breadth [] (pairsAndBoundary luzImage) (column (table luzImage 0) c)) (below 5) ≡ 1 ∷ 1 ∷ 1 ∷ 1 ∷ 9 ∷ []
 unfolding computed
 luz-breadths = refl
 

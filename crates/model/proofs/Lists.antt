@@ -11,7 +11,7 @@ use lib.Seq.{getD-at, take-nil}
 use lib.Dec.{T}
 use native.Mathlib.Omega.{arith}
 use native.Mathlib.Decide.{ℕ-discrete}
-use Rattle.model.specs.Lists.{below, given, every, any, flatMap}
+use Rattle.model.specs.Lists.{below, given, every, any, flatMap, bit}
 use Rattle.model.proofs.Booleans.{and-out, and-in, and-exchange, left-or, right-or, left-false, right-false}
 
 pub length-below : (n : ℕ) → length (below n) ≡ n
@@ -199,3 +199,8 @@ module _ (f : ℕ → Bool) where
 
   pub every-fails : (n k : ℕ) → k < n → f k ≡ false → every f (below n) ≡ false
   every-fails n k h e = every-not f (below n) (below-has n k h) e
+
+-- 0 has no binary digit that is 1
+pub bit-none : (i : ℕ) → bit 0 i ≡ false
+bit-none zero = refl
+bit-none (suc i) = bit-none i

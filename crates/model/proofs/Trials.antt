@@ -47,4 +47,15 @@ starred =
       slip-sealed = (refl, refl);
       slip-bad-word = refl;
       slip-and-8 = refl;
+      sets-accepted = refl;
+      sets-ii-q = refl;
+      sets-ie-q = refl;
+      sets-ii-nq = refl;
+      sets-ii-a = refl;
+      sets-readings = refl;
+      sets-none = refl;
+      null-and-boundary = refl;
+      tie-of-sets = refl;
+      tie-with-letter = refl;
+      letter-narrower = refl;
     }

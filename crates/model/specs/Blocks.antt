@@ -1,4 +1,5 @@
--- Document 01, "Blocks": blocks and their fields, the check, sealing, and the table of kinds, which says where each record stands.
+-- Document 01, "Blocks", with the kind that document 02, (c), adds: blocks and their fields, the check, sealing, and the table of kinds, which says where each
+-- record stands.
 use Prim.Native.Nat.{ℕ, suc, _+_, _*_, _-_, _/_, _%_, min}
 use mathlib.Core.Bool.{Bool, _&&_, cond}
 use mathlib.Core.List.{List, [], _∷_, _++_, map}
@@ -45,7 +46,7 @@ sealedBlock k b = let n = numbered k b in n ++ numberBytes (checkOf n)
 unfoldable pub sealedImage : List ℕ → List ℕ
 sealedImage image = flatMap (λ k. sealedBlock k (block image k)) (below (blockCount image))
 
--- "form (1), L, P, R, X, E, two bytes each": the one record of kind 1
+-- "form (1), L, P, R, X, E, two bytes each", and document 02, (c): "a sixth count, in the two header bytes that follow E": the one record of kind 1
 pub record Header : Type 0 where
   pub form : ℕ
   pub letters : ℕ
@@ -53,11 +54,12 @@ pub record Header : Type 0 where
   pub rules : ℕ
   pub lexicons : ℕ
   pub entries : ℕ
+  pub sets : ℕ
 
 unfoldable pub header : List ℕ → Header
 header image =
     let b = block image 0 in
-    record { form = number b 4; letters = number b 6; pairs = number b 8; rules = number b 10; lexicons = number b 12; entries = number b 14 }
+    record { form = number b 4; letters = number b 6; pairs = number b 8; rules = number b 10; lexicons = number b 12; entries = number b 14; sets = number b 16 }
 
 -- the table of kinds, a row for each: "blocks", "record width", and how many records of it there are in all
 pub record Kind : Type 0 where
@@ -66,7 +68,7 @@ pub record Kind : Type 0 where
   pub width : ℕ
   pub inAll : ℕ
 
-abbrev row : ℕ → ℕ → ℕ → ℕ → Kind
+abbrev pub row : ℕ → ℕ → ℕ → ℕ → Kind
 row kind blocks width inAll = record { kind = kind; blocks = blocks; width = width; inAll = inAll }
 
 -- "bytes 4-509 records": how many of a width a block holds
@@ -78,15 +80,17 @@ abbrev pub filling : ℕ → ℕ → ℕ
 filling width n = (n + (fitting width - 1)) / fitting width
 
 -- a kind with as many blocks as its records fill
-abbrev filled : ℕ → ℕ → ℕ → Kind
+abbrev pub filled : ℕ → ℕ → ℕ → Kind
 filled kind width n = row kind (filling width n) width n
 
--- the rows "in this order", which is that of the blocks; the header decides, so that a form or a count can
+-- the rows "in this order", which is that of the blocks; the header decides, so that a form or a count can. Of the sets: "in one block of kind 7 directly after
+-- the pairs. Each record is 16 bytes .. The block is there exactly when a sixth count .. isn't 0"
 unfoldable pub kinds : Header → List Kind
 kinds h =
-    row 1 1 12 1
+    row 1 1 14 1
     ∷ row 2 1 2 (h .letters)
     ∷ row 3 1 2 (h .pairs)
+    ∷ filled 7 16 (h .sets)
     ∷ row 4 (h .rules) 506 (h .rules)
     ∷ row 5 1 2 (h .lexicons)
     ∷ filled 6 16 (h .entries)
@@ -135,9 +139,9 @@ module _ (h : Header) where
   unfoldable pub recordsAt : ℕ → ℕ
   recordsAt k = let kind = kindAt k in min (perBlock kind) (inAll kind - perBlock kind * (k - firstBlock kind))
 
-  -- "Limits: letters L 2-120, pairs P 1-250, rules R 0-32, lexicons X 1-64, entries E 1-2,800."
+  -- "Limits: letters L 2-120, pairs P 1-250, rules R 0-32, lexicons X 1-64, entries E 1-2,800." And of sets: "a count over 31 is refused with 3"
   unfoldable pub withinLimits : Bool
-  withinLimits = within 2 120 (h .letters) && within 1 250 (h .pairs) && within 0 32 (h .rules) && within 1 64 (h .lexicons) && within 1 2800 (h .entries)
+  withinLimits = within 2 120 (h .letters) && within 1 250 (h .pairs) && within 0 32 (h .rules) && within 1 64 (h .lexicons) && within 1 2800 (h .entries) && within 0 31 (h .sets)
 
   -- block k's kind, its record count, and "Unused bytes before the check are 0."
   unfoldable pub laidOut : ℕ → List ℕ → Bool

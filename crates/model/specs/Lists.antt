@@ -72,6 +72,11 @@ isZero n = eqb n 0
 abbrev pub byte : List ℕ → ℕ → ℕ
 byte bs i = getD bs i 0
 
+-- binary digit i of a number is 1
+abbrev pub bit : ℕ → ℕ → Bool
+bit n zero = eqb (n % 2) 1
+bit n (suc i) = bit (n / 2) i
+
 -- "a two-byte number is unsigned, low byte first": the one that begins at byte i
 abbrev pub number : List ℕ → ℕ → ℕ
 number bs i = byte bs i + 256 * byte bs (i + 1)

@@ -1,4 +1,4 @@
--- Document 01, "When a call is turned down", and the answer that document 02, (b), adds: the tests 1 to 14, and the first that fails, in the order in which
+-- Document 01, "When a call is turned down", with what document 02, (c), adds to 3 and 6, and the answer that (b) adds: the tests 1 to 14, and the first that fails, in the order in which
 -- they are made.
 use Prim.Native.Nat.{ℕ, _%_}
 use mathlib.Core.Bool.{Bool, true, false, _&&_}
@@ -7,7 +7,7 @@ use lib.ListN.{length}
 use lib.Dec.{ltb, eqb}
 use Rattle.model.specs.Lists.{below, every, any, distinct, sum, within}
 use Rattle.model.specs.Blocks.{block, blockCount, blockNumber, blockCheck, checkOf, header, withinLimits, blockTotal, laidOut}
-use Rattle.model.specs.RuleTables.{codePoints, isCodePoint, pairs, isPair, samePair, table, isTable, columnCount, columnsOf}
+use Rattle.model.specs.RuleTables.{codePoints, isCodePoint, pairs, isPair, samePair, letterSets, isSet, table, isTable, columnCount, columnsOf}
 use Rattle.model.specs.Lexicon.{entryCount, entry, formOf, isEntry, pathLength}
 use Rattle.model.specs.GrammarOf.{grammarOf}
 use Rattle.model.specs.Readings.{isLinked, wordLength, pairingLength}
@@ -52,9 +52,11 @@ module _ (image : List ℕ) where
   unfoldable pub rightPairs : Bool
   rightPairs = every (isPair (header image .letters)) (pairs image) && distinct samePair (pairs image)
 
-  -- 6, "C, S, a column side, mark or next state out of range, or a byte after a table's last row not 0"
+  -- 6, "C, S, a column side, mark or next state out of range, or a byte after a table's last row not 0", and a set with a bit above L
   unfoldable pub rightTables : Bool
-  rightTables = every (λ r. isTable (table image r) (header image .letters)) (below (header image .rules))
+  rightTables =
+      let h = header image in
+      every (isSet (h .letters)) (letterSets image) && every (λ r. isTable (table image r) (h .letters) (h .sets)) (below (h .rules))
 
   -- 7, "for a listed or the boundary pair a rule has no matching column, or two narrowest"
   unfoldable pub rightColumns : Bool

@@ -1,8 +1,10 @@
--- Document 01, "The luz grammar and other trials": the images that the trials are about, as bytes.
-use Prim.Native.Nat.{ℕ, _+_, _-_, _/_}
+-- Document 01, "The luz grammar and other trials", and those of document 02: the images that the trials are about, as bytes.
+use Prim.Native.Nat.{ℕ, _+_, _*_, _-_, _/_, _^_}
+use mathlib.Core.Bool.{not, cond}
 use mathlib.Core.List.{List, [], _∷_, _++_, map}
 use lib.ListN.{length, replicate, set}
-use Rattle.model.specs.Lists.{below, part, joined, flatMap, numberBytes}
+use lib.Dec.{eqb}
+use Rattle.model.specs.Lists.{below, given, any, sum, part, joined, flatMap, isZero, numberBytes}
 use Rattle.model.specs.Blocks.{sealedImage}
 
 -- a block's bytes before sealing
@@ -13,18 +15,26 @@ plainBlock kind records bytes = 0 ∷ 0 ∷ kind ∷ records ∷ (bytes ++ repli
 unfoldable pub entryBytes : List ℕ → ℕ → ℕ → List ℕ
 entryBytes form continuation gloss = length form ∷ (form ++ replicate (12 - length form) 0 ++ (continuation ∷ numberBytes gloss))
 
--- a sealed image of one rule; the entries of each lexicon in order
-unfoldable pub imageOf : List ℕ → List ℕ → List ℕ → List (List (List ℕ)) → List ℕ
-imageOf codePoints pairs table lexicons =
+-- a set of letters: "bit b of byte j for letter 8j + b"
+unfoldable pub setBytes : List ℕ → List ℕ
+setBytes letters = map (λ j. sum (map (λ b. cond (any (eqb (8 * j + b)) letters) (2 ^ b) 0) (below 8))) (below 16)
+
+-- a sealed image of one rule, and of sets, each as its bytes; the entries of each lexicon in order
+unfoldable pub imageWith : List (List ℕ) → List ℕ → List ℕ → List ℕ → List (List (List ℕ)) → List ℕ
+imageWith sets codePoints pairs table lexicons =
     let entries = joined lexicons in
     sealedImage
     (joined
-    (plainBlock 1 1 (flatMap numberBytes (1 ∷ length codePoints ∷ length pairs / 2 ∷ 1 ∷ length lexicons ∷ length entries ∷ []))
+    (plainBlock 1 1 (flatMap numberBytes (1 ∷ length codePoints ∷ length pairs / 2 ∷ 1 ∷ length lexicons ∷ length entries ∷ length sets ∷ []))
     ∷ plainBlock 2 (length codePoints) (flatMap numberBytes codePoints)
     ∷ plainBlock 3 (length pairs / 2) pairs
-    ∷ plainBlock 4 1 table
+    ∷ (given (not (isZero (length sets))) (plainBlock 7 (length sets) (joined sets) ∷ [])
+    ++ (plainBlock 4 1 table
     ∷ plainBlock 5 (length lexicons) (flatMap (λ l. numberBytes (length l)) lexicons)
-    ∷ map (λ k. let es = part 31 entries k in plainBlock 6 (length es) (joined es)) (below ((length entries + 30) / 31))))
+    ∷ map (λ k. let es = part 31 entries k in plainBlock 6 (length es) (joined es)) (below ((length entries + 30) / 31))))))
+
+unfoldable pub imageOf : List ℕ → List ℕ → List ℕ → List (List (List ℕ)) → List ℕ
+imageOf = imageWith []
 
 -- "Letters 1-9: # + c e l s u z Z. Pairs 0-7: +:0 c:c e:e l:l s:s u:u Z:c Z:z."
 abbrev pub luzLetters : List ℕ
@@ -73,3 +83,18 @@ deadImage = frontWith (2 ∷ 2 ∷ 1 ∷ 1 ∷ 255 ∷ 255 ∷ 1 ∷ 1 ∷ 0 ∷
 -- document 02, (b): "A typing slip left a letter in an entry which no pair has on its lexical side." Byte 2567 is the third letter of entry 0: luz for luZ.
 unfoldable pub slipImage : List ℕ
 slipImage = sealedImage (set luzImage 2567 8)
+
+-- letters # a e i n q r y +, pairs a:a e:e i:e i:i n:n q:q +:0, and entries iq, inq and ia, with sets as their letters
+unfoldable pub setsWith : List (List ℕ) → List ℕ → List ℕ
+setsWith sets table =
+    imageWith (map setBytes sets) (35 ∷ 97 ∷ 101 ∷ 105 ∷ 110 ∷ 113 ∷ 114 ∷ 121 ∷ 43 ∷ []) (2 ∷ 2 ∷ 3 ∷ 3 ∷ 4 ∷ 3 ∷ 4 ∷ 4 ∷ 5 ∷ 5 ∷ 6 ∷ 6 ∷ 9 ∷ 0 ∷ []) table
+    ((entryBytes (4 ∷ 6 ∷ []) 255 0 ∷ entryBytes (4 ∷ 5 ∷ 6 ∷ []) 255 1 ∷ entryBytes (4 ∷ 2 ∷ []) 255 2 ∷ []) ∷ [])
+
+-- document 02, (c): "The Quichua grammar of source document 001 speaks of postvelars and transparent sounds". Its rule 3, i:i /<= _ Ftr:@ CPos:@, over the transparent
+-- y n r and the postvelar q. Columns i:e, i:i, Ftr:any, CPos:any, any:any; rows 1: 2 5 1 1 1; 2: 2 0 3 4 1; 3: 2 5 3 4 1; 4: 2 5 1 1 1; 5: 2 5 6 0 1; 6: 2 5 1 0 1;
+-- all final.
+unfoldable pub setsImage : List ℕ
+setsImage =
+    setsWith ((8 ∷ 5 ∷ 7 ∷ []) ∷ (6 ∷ []) ∷ [])
+    (5 ∷ 6 ∷ 4 ∷ 3 ∷ 4 ∷ 4 ∷ 128 ∷ 255 ∷ 129 ∷ 255 ∷ 255 ∷ 255 ∷ 1 ∷ 1 ∷ 1 ∷ 1 ∷ 1 ∷ 1
+    ∷ 2 ∷ 5 ∷ 1 ∷ 1 ∷ 1 ∷ 2 ∷ 0 ∷ 3 ∷ 4 ∷ 1 ∷ 2 ∷ 5 ∷ 3 ∷ 4 ∷ 1 ∷ 2 ∷ 5 ∷ 1 ∷ 1 ∷ 1 ∷ 2 ∷ 5 ∷ 6 ∷ 0 ∷ 1 ∷ 2 ∷ 5 ∷ 1 ∷ 0 ∷ 1 ∷ [])

@@ -6,6 +6,7 @@ use mathlib.Core.Path.{_≡_}
 use mathlib.Core.List.{List, [], _∷_, _++_}
 use lib.ListN.{replicate, set}
 use Rattle.model.specs.Blocks.{checkOf, sealedImage}
+use Rattle.model.specs.RuleTables.{columnsOf}
 use Rattle.model.specs.GrammarOf.{grammarOf}
 use Rattle.model.specs.Readings.{Reading, steps, word, passes}
 use Rattle.model.specs.Query.{analysis, generation}
@@ -13,7 +14,7 @@ use Rattle.model.specs.Refusals.{Verdict, imageVerdict}
 use Rattle.model.specs.Rows.{Reply, replyNumber}
 use Rattle.model.specs.Calls.{Sealing, sealingReply, afterSealing, allReadings, listingReply, afterListing}
 use Rattle.model.specs.Beside.{Judgement, judged, FormReply, formReply, viewed}
-use Rattle.model.specs.Samples.{luzImage, tcImage, frontImage, deadImage, slipImage}
+use Rattle.model.specs.Samples.{luzImage, tcImage, frontImage, deadImage, slipImage, setsWith, setsImage}
 
 abbrev pub luz : List ℕ
 luz = 5 ∷ 7 ∷ 8 ∷ []
@@ -93,3 +94,19 @@ pub record Starred : Type 0 where
   pub slip-sealed : (sealingReply slipImage ≡ Sealing.sealed) × (afterSealing slipImage ≡ slipImage)
   pub slip-bad-word : listingReply slipImage (analysis (1 ∷ [])) 64 ≡ Reply.refused 14
   pub slip-and-8 : imageVerdict (sealedImage (set slipImage 2580 13)) ≡ Verdict.refused 8
+  -- document 02, (c), by rule 3 of source document 001: i:i q:q fails, i:e q:q passes, i:i n:n q:q fails, i:i a:a passes
+  pub sets-accepted : imageVerdict setsImage ≡ Verdict.accepted
+  pub sets-ii-q : passes (grammarOf setsImage) (3 ∷ 5 ∷ []) ≡ false
+  pub sets-ie-q : passes (grammarOf setsImage) (2 ∷ 5 ∷ []) ≡ true
+  pub sets-ii-nq : passes (grammarOf setsImage) (3 ∷ 4 ∷ 5 ∷ []) ≡ false
+  pub sets-ii-a : passes (grammarOf setsImage) (3 ∷ 0 ∷ []) ≡ true
+  pub sets-readings : allReadings setsImage (analysis (3 ∷ 6 ∷ [])) ≡ reading (0 ∷ []) (2 ∷ 5 ∷ []) ∷ []
+  pub sets-none : listingReply setsImage (analysis (4 ∷ 6 ∷ [])) 64 ≡ Reply.none
+  -- "A set may hold the null (bit 0) and the boundary (bit 1)": columns any:{null}, {boundary}:{boundary}, any:any; the columns that the pairs and the boundary take
+  pub null-and-boundary : columnsOf (setsWith ((0 ∷ []) ∷ (1 ∷ []) ∷ []) (3 ∷ 1 ∷ 255 ∷ 128 ∷ 129 ∷ 129 ∷ 255 ∷ 255 ∷ 1 ∷ 1 ∷ 1 ∷ 1 ∷ [])) 0 ≡ 2 ∷ 2 ∷ 2 ∷ 2 ∷ 2 ∷ 2 ∷ 0 ∷ 1 ∷ []
+  -- "narrowness still counts pairs": {n q}:any and {q a}:any both match two pairs, q:q among them
+  pub tie-of-sets : imageVerdict (setsWith ((5 ∷ 6 ∷ []) ∷ (6 ∷ 2 ∷ []) ∷ []) (3 ∷ 1 ∷ 128 ∷ 255 ∷ 129 ∷ 255 ∷ 255 ∷ 255 ∷ 1 ∷ 1 ∷ 1 ∷ 1 ∷ [])) ≡ Verdict.refused 7
+  -- and never members: {q r y}:any matches q:q alone, as q:any does
+  pub tie-with-letter : imageVerdict (setsWith ((6 ∷ 7 ∷ 8 ∷ []) ∷ []) (3 ∷ 1 ∷ 128 ∷ 255 ∷ 6 ∷ 255 ∷ 255 ∷ 255 ∷ 1 ∷ 1 ∷ 1 ∷ 1 ∷ [])) ≡ Verdict.refused 7
+  -- q:any is narrower than {n q}:any
+  pub letter-narrower : columnsOf (setsWith ((5 ∷ 6 ∷ []) ∷ []) (3 ∷ 1 ∷ 128 ∷ 255 ∷ 6 ∷ 255 ∷ 255 ∷ 255 ∷ 1 ∷ 1 ∷ 1 ∷ 1 ∷ [])) 0 ≡ 2 ∷ 2 ∷ 2 ∷ 2 ∷ 0 ∷ 1 ∷ 2 ∷ 2 ∷ []

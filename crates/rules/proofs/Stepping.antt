@@ -69,7 +69,7 @@ module _ {image : List ℕ} (ok : Accepted image (header image)) (r : ℕ) (rule
     columns-are = f ∙ sym first
 
     mark-offset : 2 + 2 * columns + (last - 1) < 506
-    mark-offset = let right = table-ok ok r rule in omega (arith, columns-are, columns-most _ _ right, states-most _ _ right)
+    mark-offset = let right = table-ok ok r rule in omega (arith, columns-are, columns-most _ _ _ right, states-most _ _ _ right)
 
     pub mark-inside : at + (2 + 2 * columns) + (last - 1) < length image
     mark-inside = omega (arith, inside (2 + 2 * columns + (last - 1)) mark-offset)
@@ -192,7 +192,7 @@ module _ {image : List ℕ} (ok : Accepted image (header image)) where
   pub ones-live : Live image (replicate 32 1)
   ones-live r h =
       let e = getD-replicate {A = ℕ} 32 r 1 0 (omega (arith, ok .laid .limits .rules-most)) in
-      (omega (arith, e), omega (arith, e, states-least _ _ (table-ok ok r h)))
+      (omega (arith, e), omega (arith, e, states-least _ _ _ (table-ok ok r h)))
 
   -- from state 1, by the boundary pair
   pub begun-is : (p : ℕ) → p ≡ header image .pairs → stepOf (grammarOf image) (replicate 32 1) p ≡ begunOf (grammarOf image)

@@ -31,7 +31,7 @@ module _ (image : List ℕ) where
 
 -- the rules of an accepted image
 module _ {image : List ℕ} (ok : Accepted image (header image)) where
-  pub table-ok : (r : ℕ) → r < header image .rules → T (isTable (table image r) (header image .letters))
+  pub table-ok : (r : ℕ) → r < header image .rules → T (isTable (table image r) (header image .letters) (header image .sets))
   table-ok r h = right-table image (of-true (rightTables image) (ok .tables-right)) r h
 
   pub grammar-next : (r s p : ℕ) → r < header image .rules → grammarOf image .next r s p ≡ nextState (table image r) s (getD (columnsOf image r) p 0)
@@ -55,11 +55,11 @@ module _ {image : List ℕ} (ok : Accepted image (header image)) where
       let c = getD (columnsOf image r) p 0 in
       let right = table-ok r h in
       let column = right-column image (of-true (rightColumns image) (ok .columns-right)) r p h k in
-      let n = next-most t (header image .letters) right (suc s) c m column in
+      let n = next-most t (header image .letters) (header image .sets) right (suc s) c m column in
       let g = grammar-next r (suc s) p h in
       let e : grammarOf image .next r (suc s) p ≡ byte t (rowsAt t + (columnCount t * s + c)) = g ∙ ap (byte t) (omega arith) in
       let w : columnCount t * (suc s - 1) ≡ columnCount t * s = ap (λ (n : ℕ). columnCount t * n) (omega arith) in
-      (omega (arith, row-before t (header image .letters) right s c (omega arith) column), e ∙ ap (λ (n : ℕ). byte t (rowsAt t + (n + c))) (sym w), omega (arith, g, n))
+      (omega (arith, row-before t (header image .letters) (header image .sets) right s c (omega arith) column), e ∙ ap (λ (n : ℕ). byte t (rowsAt t + (n + c))) (sym w), omega (arith, g, n))
 
   -- a next state is one of the table
   pub next-within : (r s p : ℕ) → r < header image .rules → p ≤ header image .pairs → 1 ≤ s → s ≤ stateCount (table image r) → grammarOf image .next r s p ≤ stateCount (table image r)

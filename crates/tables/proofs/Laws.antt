@@ -2,7 +2,7 @@
 use Prim.Native.Nat.{ℕ, zero, suc, _+_, _*_, _<_, _≤_}
 use native.Mathlib.Nat.{le-refl, mul-suc, mul-le-mul, add-assoc}
 use native.Mathlib.Omega.{arith}
-use mathlib.Core.Bool.{Bool}
+use mathlib.Core.Bool.{Bool, _&&_}
 use mathlib.Core.Path.{_≡_, refl, sym, ap, subst, _∙_}
 use mathlib.Core.List.{List, _++_}
 use lib.ListN.{length, getD, take, drop}
@@ -10,9 +10,9 @@ use lib.Seq.{getD-take, getD-drop}
 use lib.Dec.{T, leb, ltb, leb→le, le→leb, ltb→lt}
 use Rattle.model.specs.Lists.{below, every, byte}
 use Rattle.model.specs.Blocks.{Header, header, kinds, recordStart}
-use Rattle.model.specs.RuleTables.{table, columnCount, stateCount, marksAt, rowsAt, isTable, nextState, columnsOf}
+use Rattle.model.specs.RuleTables.{letterSets, isSet, table, columnCount, stateCount, marksAt, rowsAt, isTable, nextState, columnsOf}
 use Rattle.model.specs.Refusals.{rightTables, rightColumns}
-use Rattle.model.proofs.Booleans.{out5, true-of}
+use Rattle.model.proofs.Booleans.{and-out, out5, true-of}
 use Rattle.model.proofs.Lists.{every-at, below-has}
 use Rattle.image.specs.Laid.{Laid}
 use Rattle.image.proofs.Records.{record-inside, record-part, record-length, record-byte}
@@ -41,9 +41,9 @@ module _ (image : List ℕ) (h : Header) (laid : Laid image h) where
   table-length r k = record-length laid 4 r k
 
   -- test 6 by the counts that were read
-  pub tables-read : every (λ r. isTable (table image r) (h .letters)) (below (h .rules)) ≡ rightTables image
+  pub tables-read : (every (isSet (h .letters)) (letterSets image) && every (λ r. isTable (table image r) (h .letters) (h .sets)) (below (h .rules))) ≡ rightTables image
   unfolding rightTables
-  tables-read = ap (λ (k : Header). every (λ r. isTable (table image r) (k .letters)) (below (k .rules))) (laid .header-is)
+  tables-read = ap (λ (k : Header). every (isSet (k .letters)) (letterSets image) && every (λ r. isTable (table image r) (k .letters) (k .sets)) (below (k .rules))) (laid .header-is)
 
   -- and test 7
   pub columns-read : every (λ r. every (λ c. ltb c (columnCount (table image r))) (columnsOf image r)) (below (h .rules)) ≡ rightColumns image
@@ -51,12 +51,12 @@ module _ (image : List ℕ) (h : Header) (laid : Laid image h) where
   columns-read = ap (λ (k : Header). every (λ r. every (λ c. ltb c (columnCount (table image r))) (columnsOf image r)) (below (k .rules))) (laid .header-is)
 
 -- a table that passes test 6
-module _ (t : List ℕ) (letters : ℕ) (right : T (isTable t letters)) where
-  parts : T (counts t letters) × T (sides t letters) × T (marks t letters) × T (nexts t letters) × T (rest t letters)
-  parts = out5 (counts t letters) (sides t letters) (marks t letters) (nexts t letters) (rest t letters) (subst T (table-is t letters) right)
+module _ (t : List ℕ) (letters sets : ℕ) (right : T (isTable t letters sets)) where
+  parts : T (counts t letters sets) × T (sides t letters sets) × T (marks t letters sets) × T (nexts t letters sets) × T (rest t letters sets)
+  parts = out5 (counts t letters sets) (sides t letters sets) (marks t letters sets) (nexts t letters sets) (rest t letters sets) (subst T (table-is t letters sets) right)
 
   bounds : (1 ≤ columnCount t) × (columnCount t ≤ 16) × (1 ≤ stateCount t) × (stateCount t ≤ 24) × (columnCount t * stateCount t ≤ 384)
-  bounds = counts-bound (columnCount t) (stateCount t) (true-of (counts t letters) (parts .0))
+  bounds = counts-bound (columnCount t) (stateCount t) (true-of (counts t letters sets) (parts .0))
 
   pub columns-least : 1 ≤ columnCount t
   columns-least = bounds .0
@@ -96,9 +96,11 @@ module _ (t : List ℕ) (letters : ℕ) (right : T (isTable t letters)) where
 
 module _ (image : List ℕ) where
   -- each table of an image that passes test 6
-  pub right-table : T (rightTables image) → (r : ℕ) → r < header image .rules → T (isTable (table image r) (header image .letters))
+  pub right-table : T (rightTables image) → (r : ℕ) → r < header image .rules → T (isTable (table image r) (header image .letters) (header image .sets))
   unfolding rightTables
-  right-table t r h = every-at (λ r. isTable (table image r) (header image .letters)) (below (header image .rules)) (below-has (header image .rules) r h) t
+  right-table t r h =
+      every-at (λ r. isTable (table image r) (header image .letters) (header image .sets)) (below (header image .rules)) (below-has (header image .rules) r h)
+      (and-out (every (isSet (header image .letters)) (letterSets image)) (every (λ r. isTable (table image r) (header image .letters) (header image .sets)) (below (header image .rules))) t .1)
 
   columns-are : (r : ℕ) → columnsBy image (table image r) ≡ columnsOf image r
   unfolding columnsOf
@@ -128,5 +130,5 @@ pub read-columned : (image : List ℕ) (h : Header) → Laid image h → T (righ
     → (t : List ℕ) → t ≡ table image r → length t ≡ 506 → (c : ℕ) → c ≡ columnCount t → Columned t c
 read-columned image h laid right r k t e l c q =
     let i : r < header image .rules = subst (λ (x : Header). r < x .rules) (laid .header-is) k in
-    let m : columnCount t ≤ 16 = subst (λ (x : List ℕ). columnCount x ≤ 16) (sym e) (columns-most (table image r) (header image .letters) (right-table image right r i)) in
+    let m : columnCount t ≤ 16 = subst (λ (x : List ℕ). columnCount x ≤ 16) (sym e) (columns-most (table image r) (header image .letters) (header image .sets) (right-table image right r i)) in
     record { count = q; most = omega arith; long = omega arith }

@@ -6,5 +6,6 @@ pub mod Breadths
 pub mod Laws
 pub mod Unique
 pub mod Passes
+pub mod LetterSets
 pub mod RowByRow
 pub mod Rows

@@ -10,14 +10,14 @@ use lib.Dec.{eqb}
 use borrow.Author.Tests.{eq-eqb, ne-eqb}
 use Rattle.model.specs.Lists.{byte}
 use Rattle.model.specs.Blocks.{header}
-use Rattle.model.specs.RuleTables.{Pair, Sides, column, pairs, boundaryPair, pairsAndBoundary, matchesSide}
+use Rattle.model.specs.RuleTables.{Pair, Sides, column, pairs, boundaryPair, pairsAndBoundary}
 use Rattle.letters.proofs.Laws.{length-pairs}
-use Rattle.tables.specs.Sides.{sidesFrom, pairNumber}
+use Rattle.tables.specs.Sides.{sidesFrom, meetsSide, pairNumber}
 
-pub any-side : (side letter : ℕ) → side ≡ 255 → matchesSide side letter ≡ true
+pub any-side : (side letter : ℕ) → side ≡ 255 → meetsSide side letter ≡ true
 any-side side letter e = ap (λ (x : Bool). x || eqb side letter) (eq-eqb side 255 e)
 
-pub own-side : (side letter : ℕ) → (side ≡ 255 → ⊥) → matchesSide side letter ≡ eqb side letter
+pub own-side : (side letter : ℕ) → (side ≡ 255 → ⊥) → meetsSide side letter ≡ eqb side letter
 own-side side letter f = ap (λ (x : Bool). x || eqb side letter) (ne-eqb side 255 f)
 
 abbrev sidesWith : ℕ → ℕ → Sides

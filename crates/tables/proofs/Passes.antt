@@ -11,7 +11,7 @@ use lib.Dec.{ltb, eqb}
 use borrow.Author.Tests.{lt-ltb, le-ltb, eq-eqb, ne-eqb}
 use Rattle.model.specs.Lists.{below, every, byte}
 use Rattle.model.specs.Blocks.{header}
-use Rattle.model.specs.RuleTables.{Pair, boundaryPair, pairsAndBoundary, columnCount, columnFor}
+use Rattle.model.specs.RuleTables.{Pair, boundaryPair, letterSets, pairsAndBoundary, columnCount, columnFor}
 use Rattle.model.proofs.Lists.{length-map-below, getD-map-below, map-from, every-same}
 use Rattle.tables.specs.Sides.{pairNumber}
 use Rattle.tables.specs.Breadths.{columnsBy}
@@ -74,7 +74,7 @@ module _ (image t best : List ℕ) (chosen : Chosen image t best) where
   pub none-is : every (λ c. not (eqb c (columnCount t))) (columnsBy image t) ≡ every (λ c. ltb c (columnCount t)) (columnsBy image t)
   none-is =
       every-same (λ c. not (eqb c (columnCount t))) (λ c. ltb c (columnCount t)) (columnsBy image t)
-      (λ c m. let u = map-from (columnFor (pairsAndBoundary image) t) (pairsAndBoundary image) m in less c (columnCount t) (omega (arith, u .2, taken-most (pairsAndBoundary image) t (u .0))))
+      (λ c m. let u = map-from (columnFor (letterSets image) (pairsAndBoundary image) t) (pairsAndBoundary image) m in less c (columnCount t) (omega (arith, u .2, taken-most (letterSets image) (pairsAndBoundary image) t (u .0))))
     where
       less : (c n : ℕ) → c ≤ n → not (eqb c n) ≡ ltb c n
       less c n h = go (ℕ-discrete c n)

@@ -24,24 +24,24 @@ first-passes f (x ∷ xs) d = go (f x) refl (first-passes f xs d)
     go true e r = inr (of-true (f x) e)
     go false e r = r
 
-module _ (ps : List Pair) (t : List ℕ) (p : Pair) where
+module _ (sets : List (List ℕ)) (ps : List Pair) (t : List ℕ) (p : Pair) where
   -- one of two columns that a pair takes is no broader than the other
-  narrower : (c d : ℕ) → d < columnCount t → T (takesColumn ps t p c) → T (takesColumn ps t p d) → (d ≡ c) ⊎ (breadth ps (column t c) < breadth ps (column t d))
+  narrower : (c d : ℕ) → d < columnCount t → T (takesColumn sets ps t p c) → T (takesColumn sets ps t p d) → (d ≡ c) ⊎ (breadth sets ps (column t c) < breadth sets ps (column t d))
   unfolding takesColumn
   narrower c d h s u =
-      let a = and-out (matches (column t c) p) (every (λ d. eqb d c || not (matches (column t d) p) || ltb (breadth ps (column t c)) (breadth ps (column t d))) (below (columnCount t))) s in
-      let b = and-out (matches (column t d) p) (every (λ e. eqb e d || not (matches (column t e) p) || ltb (breadth ps (column t d)) (breadth ps (column t e))) (below (columnCount t))) u in
-      let k = every-at (λ d. eqb d c || not (matches (column t d) p) || ltb (breadth ps (column t c)) (breadth ps (column t d))) (below (columnCount t)) (below-has (columnCount t) d h) (a .1) in
+      let a = and-out (matches sets (column t c) p) (every (λ d. eqb d c || not (matches sets (column t d) p) || ltb (breadth sets ps (column t c)) (breadth sets ps (column t d))) (below (columnCount t))) s in
+      let b = and-out (matches sets (column t d) p) (every (λ e. eqb e d || not (matches sets (column t e) p) || ltb (breadth sets ps (column t d)) (breadth sets ps (column t e))) (below (columnCount t))) u in
+      let k = every-at (λ d. eqb d c || not (matches sets (column t d) p) || ltb (breadth sets ps (column t c)) (breadth sets ps (column t d))) (below (columnCount t)) (below-has (columnCount t) d h) (a .1) in
       ⊎-elim
-      (λ x. ⊎-elim (λ y. inl (eqb→eq d c y)) (λ y. absurd (not-both (matches (column t d) p) (b .0) y)) (or-out (eqb d c) (not (matches (column t d) p)) x))
-      (λ x. inr (ltb→lt (breadth ps (column t c)) (breadth ps (column t d)) x))
-      (or-out (eqb d c || not (matches (column t d) p)) (ltb (breadth ps (column t c)) (breadth ps (column t d))) k)
+      (λ x. ⊎-elim (λ y. inl (eqb→eq d c y)) (λ y. absurd (not-both (matches sets (column t d) p) (b .0) y)) (or-out (eqb d c) (not (matches sets (column t d) p)) x))
+      (λ x. inr (ltb→lt (breadth sets ps (column t c)) (breadth sets ps (column t d)) x))
+      (or-out (eqb d c || not (matches sets (column t d) p)) (ltb (breadth sets ps (column t c)) (breadth sets ps (column t d))) k)
 
-  pub one-narrowest : (c d : ℕ) → c < columnCount t → d < columnCount t → T (takesColumn ps t p c) → T (takesColumn ps t p d) → c ≡ d
+  pub one-narrowest : (c d : ℕ) → c < columnCount t → d < columnCount t → T (takesColumn sets ps t p c) → T (takesColumn sets ps t p d) → c ≡ d
   one-narrowest c d h k s u =
       ⊎-elim sym (λ x. ⊎-elim (λ e. e) (λ y. absurd (omega arith)) (narrower d c h u s)) (narrower c d k s u)
 
   -- where a pair takes a column, it is narrowest
-  pub taken-narrowest : columnFor ps t p < columnCount t → T (takesColumn ps t p (columnFor ps t p))
+  pub taken-narrowest : columnFor sets ps t p < columnCount t → T (takesColumn sets ps t p (columnFor sets ps t p))
   unfolding columnFor
-  taken-narrowest h = ⊎-elim (λ e. absurd (omega arith)) (λ x. x) (first-passes (takesColumn ps t p) (below (columnCount t)) (columnCount t))
+  taken-narrowest h = ⊎-elim (λ e. absurd (omega arith)) (λ x. x) (first-passes (takesColumn sets ps t p) (below (columnCount t)) (columnCount t))

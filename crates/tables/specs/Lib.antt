@@ -1,4 +1,5 @@
 pub mod Bounds
 pub mod Sides
+pub mod Seen
 pub mod Breadths
 pub mod Passes

@@ -1,5 +1,6 @@
 // The columns that the pairs take: a pass over all pairs for each column, which finds how many it matches, and one more, which keeps it for the pairs that it
 // is the narrowest for.
+use crate::sets;
 use crate::sides;
 use crate::sides::Sides;
 use image::Header;
@@ -13,12 +14,12 @@ ghost use Prim.Native.Nat.{_+_, _<_, _≤_};
 ghost use lib.Dec.{eqb};
 ghost use lib.ListN.{length, drop};
 ghost use Rattle.model.specs.Lists.{every, count};
-ghost use Rattle.model.specs.RuleTables.{pairsAndBoundary, matches};
+ghost use Rattle.model.specs.RuleTables.{letterSets, pairsAndBoundary, matches};
 ghost use Rattle.image.specs.Header.{headerOf};
 ghost use Rattle.image.specs.Laid.{Laid};
-ghost use Rattle.tables.specs.Sides.{sidesOf};
+ghost use Rattle.tables.specs.Sides.{sidesOf, meets};
 ghost use Rattle.tables.specs.Breadths.{Columned};
-ghost use Rattle.tables.specs.Passes.{listed, narrower, lesserOf, Passed, Chosen, front};
+ghost use Rattle.tables.specs.Passes.{pairIn, listed, narrower, lesserOf, Passed, PassedBy, Chosen, front};
 
 // The sides of the pairs by number, each level by itself; the boundary pair has number P.
 struct PairSides {
@@ -49,7 +50,7 @@ fn pair_sides(image: &[u8], h: Header) -> PairSides
 // How many of the first pairs a column matches.
 fn breadth_of(lexical: &[u8; 256], surface: &[u8; 256], pairs: usize, column: Sides) -> u8
     requires { ⌜ pairs < 256 ⌝ }
-    ensures { λ r. ⌜ r ≡ count (matches (sidesOf column)) (listed (now (lexical .entry)) (now (surface .entry)) pairs) ⌝ }
+    ensures { λ r. ⌜ r ≡ count (meets (sidesOf column)) (listed (now (lexical .entry)) (now (surface .entry)) pairs) ⌝ }
 {
     let mut n: u8 = 0;
     let mut p: usize = 0;
@@ -110,7 +111,7 @@ fn pass_column(
     least: &mut [u8; 256],
 )
     requires { ⌜ (pairs < 256) × ((length (now best) ≡ 256) × (length (now least) ≡ 256)) ⌝ }
-    ensures { λ _. ⌜ Passed (now (lexical .entry)) (now (surface .entry)) pairs (sidesOf column) breadth c columns (now (best .entry)) (now (least .entry)) (now (best .exit)) (now (least .exit)) ⌝ }
+    ensures { λ _. ⌜ Passed (λ p. meets (sidesOf column) (pairIn (now (lexical .entry)) (now (surface .entry)) p)) pairs breadth c columns (now (best .entry)) (now (least .entry)) (now (best .exit)) (now (least .exit)) ⌝ }
 {
     let mut p: usize = 0;
     while p < pairs {
@@ -125,6 +126,69 @@ fn pass_column(
         least[p] = either(matched, lesser(breadth, broad), broad);
         p += 1;
     }
+}
+
+// A column, by the letters as its sides see them.
+fn keep_seen(
+    lexical: &[u8; 256],
+    surface: &[u8; 256],
+    pairs: usize,
+    column: Sides,
+    c: u8,
+    columns: u8,
+    best: &mut [u8; 256],
+    least: &mut [u8; 256],
+)
+    requires { ⌜ (pairs < 256) × ((length (now best) ≡ 256) × (length (now least) ≡ 256)) ⌝ }
+    ensures { λ _. ⌜ PassedBy (now (lexical .entry)) (now (surface .entry)) pairs (sidesOf column) meets c columns (now (best .entry)) (now (least .entry)) (now (best .exit)) (now (least .exit)) ⌝ }
+{
+    let breadth = breadth_of(lexical, surface, pairs, column);
+    pass_column(
+        lexical,
+        surface,
+        pairs,
+        column,
+        breadth,
+        c,
+        columns,
+        best,
+        least,
+    );
+}
+
+// A column, whose sides may name sets. Where neither does, they see the letters as they are.
+fn keep_column(
+    image: &[u8],
+    h: Header,
+    lexical: &[u8; 256],
+    surface: &[u8; 256],
+    pairs: usize,
+    column: Sides,
+    c: u8,
+    columns: u8,
+    best: &mut [u8; 256],
+    least: &mut [u8; 256],
+)
+    requires { ⌜ Laid (now image) (headerOf h) ⌝ }
+    requires { ⌜ (pairs < 256) × ((length (now best) ≡ 256) × (length (now least) ≡ 256)) ⌝ }
+    ensures { λ _. ⌜ PassedBy (now (lexical .entry)) (now (surface .entry)) pairs (sidesOf column) (matches (letterSets (now (image .entry)))) c columns (now (best .entry)) (now (least .entry)) (now (best .exit)) (now (least .exit)) ⌝ }
+{
+    if !sets::has_set(column) {
+        keep_seen(lexical, surface, pairs, column, c, columns, best, least);
+        return;
+    }
+    let lexical_seen = sets::seen(image, h, column.lexical.0, lexical, pairs);
+    let surface_seen = sets::seen(image, h, column.surface.0, surface, pairs);
+    keep_seen(
+        &lexical_seen,
+        &surface_seen,
+        pairs,
+        column,
+        c,
+        columns,
+        best,
+        least,
+    );
 }
 
 // The column that each pair takes, C where none matches or two are narrowest. No breadth is over 251.
@@ -143,13 +207,13 @@ pub fn find_columns(image: &[u8], h: Header, t: &[u8], columns: usize) -> [u8; 2
     let mut c: usize = 0;
     while c < columns {
         let column = sides::column_at(t, c);
-        let breadth = breadth_of(&lexical, &surface, pairs, column);
-        pass_column(
+        keep_column(
+            image,
+            h,
             &lexical,
             &surface,
             pairs,
             column,
-            breadth,
             c as u8,
             none,
             &mut best,

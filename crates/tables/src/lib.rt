@@ -1,6 +1,7 @@
 // Rule tables: the tests 6 and 7 of the image check, and the column that each pair takes.
 mod columns;
 mod range;
+mod sets;
 pub mod sides;
 
 use image::kinds;
@@ -18,9 +19,9 @@ ghost use Rattle.image.specs.Laid.{Laid};
 ghost use Rattle.image.specs.Index.{columnRow};
 
 // What test 6 asks of one table.
-fn is_table(t: &[u8], letters: usize) -> bool
+fn is_table(t: &[u8], letters: usize, sets: usize) -> bool
     requires { ⌜ length (now t) ≡ 506 ⌝ }
-    ensures { λ r. ⌜ r ≡ isTable (now (t .entry)) letters ⌝ }
+    ensures { λ r. ⌜ r ≡ isTable (now (t .entry)) letters sets ⌝ }
 {
     let columns = image::byte_at(t, 0);
     let states = image::byte_at(t, 1);
@@ -28,15 +29,15 @@ fn is_table(t: &[u8], letters: usize) -> bool
         return false;
     }
     let marks = 2 + 2 * columns;
-    if !range::all_allowed(t, 2, marks, letters, true) {
+    if !range::all_allowed(t, 2, marks, letters, sets, true) {
         return false;
     }
     let rows = marks + states;
-    if !range::all_allowed(t, marks, rows, 1, false) {
+    if !range::all_allowed(t, marks, rows, 1, 0, false) {
         return false;
     }
     let end = rows + columns * states;
-    if !range::all_allowed(t, rows, end, states, false) {
+    if !range::all_allowed(t, rows, end, states, 0, false) {
         return false;
     }
     image::is_blank(t, end, kinds::TABLE_WIDTH)
@@ -53,21 +54,32 @@ pub fn table_at(image: &[u8], h: image::Header, r: usize) -> &[u8]
     &image[from..to]
 }
 
-// Test 6 of the image check.
-pub fn right_tables(image: &[u8], h: image::Header) -> bool
+fn each_table(image: &[u8], h: image::Header) -> bool
     requires { ⌜ Laid (now image) (headerOf h) ⌝ }
-    ensures { λ r. ⌜ r ≡ rightTables (now (image .entry)) ⌝ }
+    ensures { λ r. ⌜ r ≡ every (λ i. isTable (table (now (image .entry)) i) (h .letters) (h .sets)) (below (h .rules)) ⌝ }
 {
     let letters = h.letters;
+    let sets = h.sets;
     let rules = h.rules;
     let mut r = 0;
     while r < rules {
-        if !is_table(table_at(image, h, r), letters) {
+        if !is_table(table_at(image, h, r), letters, sets) {
             return false;
         }
         r += 1;
     }
     true
+}
+
+// Test 6 of the image check: the sets, and then the tables.
+pub fn right_tables(image: &[u8], h: image::Header) -> bool
+    requires { ⌜ Laid (now image) (headerOf h) ⌝ }
+    ensures { λ r. ⌜ r ≡ rightTables (now (image .entry)) ⌝ }
+{
+    if !sets::right_sets(image, h) {
+        return false;
+    }
+    each_table(image, h)
 }
 
 // The columns that rule r takes for pair 0, 1, .. P-1 and the boundary pair, written to the front of `out`; whether every one of them

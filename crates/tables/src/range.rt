@@ -7,7 +7,7 @@ ghost use Rattle.model.specs.Lists.{every, within};
 ghost use Rattle.tables.specs.Bounds.{rightCounts, allowed};
 
 // A number from `low` to `high`.
-fn is_within(low: usize, high: usize, n: usize) -> bool
+pub fn is_within(low: usize, high: usize, n: usize) -> bool
     ensures { λ r. ⌜ r ≡ within low high n ⌝ }
 {
     if n < low {
@@ -26,27 +26,40 @@ pub fn right_counts(columns: usize, states: usize) -> bool
     is_within(1, 24, states)
 }
 
-// A byte that is at most `most`, or 255 where `any` allows it.
-fn is_allowed(b: usize, most: usize, any: bool) -> bool
-    ensures { λ r. ⌜ r ≡ allowed any most b ⌝ }
+// A byte that is at most `most`, or 255, or one that names a set, where `any` allows it.
+fn is_allowed(b: usize, most: usize, sets: usize, any: bool) -> bool
+    ensures { λ r. ⌜ r ≡ allowed any sets most b ⌝ }
 {
     if b <= most {
         return true;
     }
-    if any {
-        return b == 255;
+    if !any {
+        return false;
     }
-    false
+    if b == 255 {
+        return true;
+    }
+    if b < 128 {
+        return false;
+    }
+    b - 128 < sets
 }
 
 // Every byte from `from` to before `to` is such a byte.
-pub fn all_allowed(bytes: &[u8], from: usize, to: usize, most: usize, any: bool) -> bool
+pub fn all_allowed(
+    bytes: &[u8],
+    from: usize,
+    to: usize,
+    most: usize,
+    sets: usize,
+    any: bool,
+) -> bool
     requires { ⌜ (from ≤ to) × (to ≤ length (now bytes)) ⌝ }
-    ensures { λ r. ⌜ r ≡ every (allowed any most) (slice from to (now (bytes .entry))) ⌝ }
+    ensures { λ r. ⌜ r ≡ every (allowed any sets most) (slice from to (now (bytes .entry))) ⌝ }
 {
     let mut i = from;
     while i < to {
-        if !is_allowed(image::byte_at(bytes, i), most, any) {
+        if !is_allowed(image::byte_at(bytes, i), most, sets, any) {
             return false;
         }
         i += 1;

@@ -6,13 +6,13 @@ use letters::Surface;
 ghost use mathlib.Core.Path.{_≡_};
 ghost use Prim.Native.Nat.{_+_, _<_, _≤_};
 ghost use lib.ListN.{length};
-ghost use Rattle.model.specs.RuleTables.{matchesSide, matches, column};
+ghost use Rattle.model.specs.RuleTables.{column};
 ghost use Rattle.image.specs.Header.{headerOf};
 ghost use Rattle.image.specs.Laid.{Laid};
 ghost use Rattle.letters.specs.Pairs.{pairOf};
-ghost use Rattle.tables.specs.Sides.{sidesOf, sidesFrom, pairNumber};
+ghost use Rattle.tables.specs.Sides.{sidesOf, sidesFrom, meetsSide, meets, pairNumber};
 
-// What a column says of a pair: on each level its letter, or 255 for any.
+// What a column says of a pair: on each level its letter, 255 for any, or a number that names a set.
 pub struct Sides {
     pub lexical: Lexical,
     pub surface: Surface,
@@ -29,9 +29,9 @@ pub fn sides_at(bytes: &[u8], at: usize) -> Sides
     }
 }
 
-// A column's side matches its own letter, or any where it is 255.
+// A side that names no set matches its own letter, or any where it is 255.
 fn side_matches(side: u8, letter: u8) -> bool
-    ensures { λ r. ⌜ r ≡ matchesSide side letter ⌝ }
+    ensures { λ r. ⌜ r ≡ meetsSide side letter ⌝ }
 {
     if side == 255 {
         return true;
@@ -39,9 +39,9 @@ fn side_matches(side: u8, letter: u8) -> bool
     side == letter
 }
 
-// A column matches a pair on both levels.
+// A column matches a pair on both levels; where a side names a set, by what it sees.
 pub fn column_matches(column: Sides, pair: Pair) -> bool
-    ensures { λ r. ⌜ r ≡ matches (sidesOf column) (pairOf pair) ⌝ }
+    ensures { λ r. ⌜ r ≡ meets (sidesOf column) (pairOf pair) ⌝ }
 {
     if !side_matches(column.lexical.0, pair.lexical.0) {
         return false;

@@ -1,4 +1,4 @@
--- `read_header` meets its contract: six numbers of the first block.
+-- `read_header` meets its contract: seven numbers of the first block.
 use borrow.Author.Needs.{needs}
 use Rattle.model.proofs.Blocks.{header-read}
 use Rattle.image.proofs.read_header.Statement.{statement}
@@ -22,6 +22,9 @@ number-at-requires-5 c κs = search needs
 number-at-requires-6 : tie.Need-number-at-requires-6
 number-at-requires-6 c κs = search needs
 
+number-at-requires-7 : tie.Need-number-at-requires-7
+number-at-requires-7 c κs = search needs
+
 returns : tie.Need-returns
 returns c =
     let b = c .before in
@@ -29,7 +32,8 @@ returns c =
     let e = d .before in
     let f = e .before in
     let g = f .before in
-    header-read (g .before .before .args .image .now) (g .number-at .ensures .0) (f .number-at2 .ensures .0) (e .number-at3 .ensures .0) (d .number-at4 .ensures .0) (b .number-at5 .ensures .0) (c .number-at6 .ensures .0)
+    let i = g .before in
+    header-read (i .before .before .args .image .now) (i .number-at .ensures .0) (g .number-at2 .ensures .0) (f .number-at3 .ensures .0) (e .number-at4 .ensures .0) (d .number-at5 .ensures .0) (b .number-at6 .ensures .0) (c .number-at7 .ensures .0)
 
 pub read-header-spec : {M : Type 1} → statement M
 read-header-spec =
@@ -41,4 +45,5 @@ read-header-spec =
     number-at-requires-4
     number-at-requires-5
     number-at-requires-6
+    number-at-requires-7
     returns)

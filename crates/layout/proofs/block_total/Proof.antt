@@ -25,7 +25,7 @@ module _ (h : Header) (limits : Limited h) (most first : ℕ) (e1 : most ≡ per
 
   total-few : first + (h .entries + (most - 1)) / most ≤ 200
   unfolding kinds blockTotal
-  total-few = omega (arith, total-is, limits .rules-most, limits .entries-most)
+  total-few = omega (arith, total-is, limits .rules-most, limits .entries-most, limits .sets-most)
 
 module _ (c : tie.After-struct-known) where
   abbrev start : tie.Start

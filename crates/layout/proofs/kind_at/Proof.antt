@@ -30,7 +30,7 @@ returns-2 : tie.Need-returns-2
 unfolding kinds
 returns-2 c =
     let s = c .before .before .before in
-    placed (headerOf (s .args .h)) (s .args .k) 4 (omega arith) (omega arith) (omega (arith, c .before .first-block .ensures))
+    placed (headerOf (s .args .h)) (s .args .k) 7 (omega arith) (omega arith) (omega (arith, c .before .first-block .ensures))
 
 first-block-requires-2 : tie.Need-first-block-requires-2
 first-block-requires-2 c κs = search needs
@@ -40,14 +40,24 @@ unfolding kinds
 returns-3 c =
     let f = c .before .before .before in
     let s = f .before .before in
-    placed (headerOf (s .args .h)) (s .args .k) 5 (omega arith) (omega (arith, f .first-block .ensures)) (omega (arith, c .before .first-block2 .ensures))
+    placed (headerOf (s .args .h)) (s .args .k) 4 (omega arith) (omega (arith, f .first-block .ensures)) (omega (arith, c .before .first-block2 .ensures))
+
+first-block-requires-3 : tie.Need-first-block-requires-3
+first-block-requires-3 c κs = search needs
 
 returns-4 : tie.Need-returns-4
-unfolding kinds blockTotal
+unfolding kinds
 returns-4 c =
     let f = c .before .before .before in
-    let s = f .before .before in
-    placed (headerOf (s .args .h)) (s .args .k) 6 (omega arith) (omega (arith, c .before .first-block2 .ensures)) (omega (arith, s .pre .1))
+    let s = f .before .before .before .before in
+    placed (headerOf (s .args .h)) (s .args .k) 5 (omega arith) (omega (arith, f .first-block2 .ensures)) (omega (arith, c .before .first-block3 .ensures))
+
+returns-5 : tie.Need-returns-5
+unfolding kinds blockTotal
+returns-5 c =
+    let f = c .before .before .before in
+    let s = f .before .before .before .before in
+    placed (headerOf (s .args .h)) (s .args .k) 6 (omega arith) (omega (arith, c .before .first-block3 .ensures)) (omega (arith, s .pre .1))
 
 pub kind-at-spec : {M : Type 1} → statement M
 kind-at-spec =
@@ -59,4 +69,6 @@ kind-at-spec =
     returns-2
     first-block-requires-2
     returns-3
-    returns-4)
+    first-block-requires-3
+    returns-4
+    returns-5)

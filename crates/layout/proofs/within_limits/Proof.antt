@@ -30,7 +30,10 @@ returns-8 : tie.Need-returns-8
 returns-8 c = sym (limits-broken _ (λ limited. omega arith))
 
 returns-9 : tie.Need-returns-9
-returns-9 c =
+returns-9 c = sym (limits-broken _ (λ limited. omega arith))
+
+returns-10 : tie.Need-returns-10
+returns-10 c =
     sym
     (limits-last _
     (λ entries-most.
@@ -44,6 +47,7 @@ returns-9 c =
       lexicons-most = omega arith;
       entries-least = omega arith;
       entries-most = entries-most;
+      sets-most = omega arith;
     }))
 
 pub within-limits-spec : {M : Type 1} → statement M
@@ -58,4 +62,5 @@ within-limits-spec =
     returns-6
     returns-7
     returns-8
-    returns-9)
+    returns-9
+    returns-10)

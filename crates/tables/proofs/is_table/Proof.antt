@@ -28,7 +28,7 @@ returns c =
     let n = k .before in
     let m = n .before in
     let a = m .before .before .args in
-    sym (counts-fail (a .t .now) (a .letters) (m .byte-at .result) (n .byte-at2 .result) (m .byte-at .ensures .0) (n .byte-at2 .ensures .0) (k .right-counts .result) (k .right-counts .ensures) (c .if1 .taken))
+    sym (counts-fail (a .t .now) (a .letters) (a .sets) (m .byte-at .result) (n .byte-at2 .result) (m .byte-at .ensures .0) (n .byte-at2 .ensures .0) (k .right-counts .result) (k .right-counts .ensures) (c .if1 .taken))
 
 mul-marks : tie.Need-mul-marks
 mul-marks c = search needs
@@ -45,7 +45,7 @@ returns-2 c =
     let n = k .before .before .before in
     let m = n .before in
     let a = m .before .before .args in
-    sym (sides-fail (a .t .now) (a .letters) (m .byte-at .result) (n .byte-at2 .result) (m .byte-at .ensures .0) (n .byte-at2 .ensures .0) (k .all-allowed .result) (k .all-allowed .ensures) (c .if2 .taken))
+    sym (sides-fail (a .t .now) (a .letters) (a .sets) (m .byte-at .result) (n .byte-at2 .result) (m .byte-at .ensures .0) (n .byte-at2 .ensures .0) (k .all-allowed .result) (k .all-allowed .ensures) (c .if2 .taken))
 
 add-rows : tie.Need-add-rows
 add-rows c = search needs
@@ -59,7 +59,7 @@ returns-3 c =
     let n = k .before .before .before .before .before in
     let m = n .before in
     let a = m .before .before .args in
-    sym (marks-fail (a .t .now) (a .letters) (m .byte-at .result) (n .byte-at2 .result) (m .byte-at .ensures .0) (n .byte-at2 .ensures .0) (k .all-allowed2 .result) (k .all-allowed2 .ensures) (c .if3 .taken))
+    sym (marks-fail (a .t .now) (a .letters) (a .sets) (m .byte-at .result) (n .byte-at2 .result) (m .byte-at .ensures .0) (n .byte-at2 .ensures .0) (k .all-allowed2 .result) (k .all-allowed2 .ensures) (c .if3 .taken))
 
 mul-end : tie.Need-mul-end
 mul-end c = let b = bounds (c .before .before .before .before) in omega arith
@@ -76,7 +76,7 @@ returns-4 c =
     let n = k .before .before .before .before .before .before .before in
     let m = n .before in
     let a = m .before .before .args in
-    sym (nexts-fail (a .t .now) (a .letters) (m .byte-at .result) (n .byte-at2 .result) (m .byte-at .ensures .0) (n .byte-at2 .ensures .0) (k .all-allowed3 .result) (k .all-allowed3 .ensures) (c .if4 .taken))
+    sym (nexts-fail (a .t .now) (a .letters) (a .sets) (m .byte-at .result) (n .byte-at2 .result) (m .byte-at .ensures .0) (n .byte-at2 .ensures .0) (k .all-allowed3 .result) (k .all-allowed3 .ensures) (c .if4 .taken))
 
 is-blank-requires : tie.Need-is-blank-requires
 is-blank-requires c κs = search needs
@@ -91,15 +91,16 @@ returns-5 c =
     let m = n .before in
     let t = m .before .before .args .t .now in
     let a = m .before .before .args .letters in
+    let sets = m .before .before .args .sets in
     let x = m .byte-at .result in
     let y = n .byte-at2 .result in
     let p = m .byte-at .ensures .0 in
     let q = n .byte-at2 .ensures .0 in
-    rest-decides t a x y p q (m .before .before .pre)
-    (counts-pass t a x y p q (l .before .right-counts .result) (l .before .right-counts .ensures) (l .if1 .left))
-    (sides-pass t a x y p q (k .before .all-allowed .result) (k .before .all-allowed .ensures) (k .if2 .left))
-    (marks-pass t a x y p q (j .before .all-allowed2 .result) (j .before .all-allowed2 .ensures) (j .if3 .left))
-    (nexts-pass t a x y p q (i .before .all-allowed3 .result) (i .before .all-allowed3 .ensures) (i .if4 .left))
+    rest-decides t a sets x y p q (m .before .before .pre)
+    (counts-pass t a sets x y p q (l .before .right-counts .result) (l .before .right-counts .ensures) (l .if1 .left))
+    (sides-pass t a sets x y p q (k .before .all-allowed .result) (k .before .all-allowed .ensures) (k .if2 .left))
+    (marks-pass t a sets x y p q (j .before .all-allowed2 .result) (j .before .all-allowed2 .ensures) (j .if3 .left))
+    (nexts-pass t a sets x y p q (i .before .all-allowed3 .result) (i .before .all-allowed3 .ensures) (i .if4 .left))
     (c .is-blank .result) (c .is-blank .ensures)
 
 pub is-table-spec : {M : Type 1} → statement M

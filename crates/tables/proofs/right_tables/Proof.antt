@@ -1,80 +1,49 @@
--- `right_tables` meets its contract: every table passed is right.
+-- `right_tables` meets its contract: the sets, and then the tables.
 use borrow.Author.Needs.{needs}
-use native.Mathlib.Omega.{arith}
-use mathlib.Core.Path.{_≡_, refl, sym, ap, _∙_}
-use mathlib.Core.Bool.{Bool, true}
+use mathlib.Core.Bool.{Bool}
 use mathlib.Core.List.{List}
-use Prim.Native.Nat.{ℕ, _≤_, _-_}
+use mathlib.Core.Path.{_≡_, sym, _∙_}
+use Prim.Native.Nat.{ℕ}
 use Rattle.model.specs.Lists.{below, every}
-use Rattle.model.specs.RuleTables.{table, isTable}
+use Rattle.model.specs.RuleTables.{letterSets, isSet, table, isTable}
+use Rattle.model.proofs.Booleans.{left-true, left-false}
 use Rattle.image.specs.Header.{headerOf}
-use Rattle.model.proofs.Lists.{every-more, every-fails}
 use Rattle.tables.proofs.Lists.{fails, passes}
 use Rattle.tables.proofs.Laws.{tables-read}
 use Rattle.tables.proofs.right_tables.Statement.{statement}
 use Rattle.tables.proofs.right_tables.Tie as tie
 
-abbrev right : List ℕ → ℕ → ℕ → Bool
-right image letters r = isTable (table image r) letters
+abbrev sets-right : List ℕ → ℕ → Bool
+sets-right image letters = every (isSet letters) (letterSets image)
 
-abbrev Inv-loop : tie.InvT-loop
-Inv-loop image h letters rules r₀ r = (r ≤ rules) × (every (right image letters) (below r) ≡ true)
+abbrev each-right : List ℕ → ℕ → ℕ → ℕ → Bool
+each-right image letters sets rules = every (λ r. isTable (table image r) letters sets) (below rules)
 
-abbrev μ-loop : tie.MeasureT-loop
-μ-loop image h letters rules r₀ r = rules - r
+right-sets-requires : tie.Need-right-sets-requires
+right-sets-requires c κs = search needs
 
--- the test of the table read in a turn
-module _ (c : tie.After-is-table Inv-loop μ-loop) where
-  tested : c .is-table .result ≡ right (c .before .before .before .before .before .args .image .now) (c .before .before .before .before .before .args .h .letters) (c .before .before .before .loop .r)
-  tested = c .is-table .ensures ∙ ap (λ (t : List ℕ). isTable t (c .before .before .before .before .before .args .h .letters)) (c .before .table-at .ensures .0)
-
-loop-holds : tie.Need-loop-holds Inv-loop μ-loop
-loop-holds c = (search needs, refl)
-
-table-at-requires : tie.Need-table-at-requires Inv-loop μ-loop
-table-at-requires c κs = search needs
-
-is-table-requires : tie.Need-is-table-requires Inv-loop μ-loop
-is-table-requires c κs = search needs
-
-returns : tie.Need-returns Inv-loop μ-loop
+returns : tie.Need-returns
 returns c =
-    let b = c .before .before .before .before in
-    let s = b .before .before in
-    let f = right (s .args .image .now) (s .args .h .letters) in
-    sym (every-fails f (s .args .h .rules) (b .loop .r) (c .before .before .before .loop-test .taken) (fails (c .before .is-table .result) (tested (c .before)) (c .if1 .taken)))
-    ∙ tables-read (s .args .image .now) (headerOf (s .args .h)) (s .pre)
+    let m = c .before in
+    let s = m .before .before in
+    let image = s .args .image .now in
+    let h = s .args .h in
+    sym (left-false (sets-right image (h .letters)) (each-right image (h .letters) (h .sets) (h .rules)) (fails (m .right-sets .result) (m .right-sets .ensures) (c .if1 .taken)))
+    ∙ tables-read image (headerOf h) (s .pre)
 
-add-r : tie.Need-add-r Inv-loop μ-loop
-add-r c = search needs
+each-table-requires : tie.Need-each-table-requires
+each-table-requires c κs = search needs
 
-loop-less : tie.Need-loop-less Inv-loop μ-loop
-loop-less c = search needs
-
-loop-again : tie.Need-loop-again Inv-loop μ-loop
-loop-again c =
-    let b = c .before .before .before .before in
-    let a = b .before .before .args in
-    (search needs, every-more (right (a .image .now) (a .h .letters)) (b .loop .r) (b .loop .inv .1) (passes (c .before .is-table .result) (tested (c .before)) (c .if1 .left)))
-
-returns-2 : tie.Need-returns-2 Inv-loop μ-loop
+returns-2 : tie.Need-returns-2
 returns-2 c =
-    let b = c .before in
-    let s = b .before .before in
-    let e : b .loop .r ≡ s .args .h .rules = omega arith in
-    sym (b .loop .inv .1) ∙ ap (λ (n : ℕ). every (right (s .args .image .now) (s .args .h .letters)) (below n)) e ∙ tables-read (s .args .image .now) (headerOf (s .args .h)) (s .pre)
+    let m = c .before .before in
+    let s = m .before .before in
+    let image = s .args .image .now in
+    let h = s .args .h in
+    c .each-table .ensures
+    ∙ sym (left-true (sets-right image (h .letters)) (each-right image (h .letters) (h .sets) (h .rules)) (passes (m .right-sets .result) (m .right-sets .ensures) (c .before .if1 .left)))
+    ∙ tables-read image (headerOf h) (s .pre)
 
 pub right-tables-spec : {M : Type 1} → statement M
 right-tables-spec =
-    tie.close
-    (tie.spec
-    Inv-loop
-    μ-loop
-    loop-holds
-    table-at-requires
-    is-table-requires
-    returns
-    add-r
-    loop-less
-    loop-again
-    returns-2)
+    tie.close (tie.spec right-sets-requires returns each-table-requires returns-2)

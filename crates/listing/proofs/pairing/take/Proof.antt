@@ -10,7 +10,7 @@ use Rattle.image.specs.Header.{headerOf}
 use Rattle.listing.specs.Asked.{wordPattern, wordQuery}
 use Rattle.listing.specs.declared.place.Place.{Place}
 use Rattle.listing.specs.Places.{withLast}
-use Rattle.listing.proofs.Taking.{image-short, nullsLet, levelLets, rulesLet, SpellsOn, refused-nulls, refused-level, refused-rules, took}
+use Rattle.listing.proofs.Taking.{image-most, nullsLet, levelLets, rulesLet, SpellsOn, refused-nulls, refused-level, refused-rules, took}
 use Rattle.listing.proofs.pairing.take.Statement.{statement}
 use Rattle.listing.proofs.pairing.take.Tie as tie
 
@@ -81,7 +81,7 @@ spell-requires : tie.Need-spell-requires
 spell-requires c κs =
     let s = c .before .before .before .before .before .before in
     let stands = s .pre .1 .1 .0 in
-    (stands .nulls-in, omega (arith, image-short (s .args .image .now) (headerOf (s .args .h)) (s .pre .0), stands .in-order, stands .in-image))
+    (stands .nulls-in, omega (arith, image-most (s .args .image .now) (headerOf (s .args .h)) (s .pre .0), stands .in-order, stands .in-image))
 
 returns : tie.Need-returns
 returns c t =

@@ -7,16 +7,16 @@ use Prim.Native.Nat.{ℕ, _+_, _<_, _≤_, _-_}
 use lib.ListN.{length, getD, take}
 use lib.Seq.{take-all}
 use Rattle.model.specs.Lists.{count}
-use Rattle.model.specs.RuleTables.{boundaryPair, matches}
+use Rattle.model.specs.RuleTables.{boundaryPair}
 use Rattle.model.proofs.Lists.{length-map-below, getD-map-below}
-use Rattle.tables.specs.Sides.{sidesOf}
+use Rattle.tables.specs.Sides.{sidesOf, meets}
 use Rattle.tables.specs.Passes.{pairIn, listed}
 use Rattle.tables.proofs.Lists.{count-more, count-same}
 use Rattle.tables.proofs.columns.breadth_of.Statement.{statement}
 use Rattle.tables.proofs.columns.breadth_of.Tie as tie
 
 abbrev Inv-loop : tie.InvT-loop
-Inv-loop lexical surface pairs column n₀ p₀ n p = (p ≤ pairs) × ((n ≤ p) × (n ≡ count (matches (sidesOf column)) (take p (listed lexical surface pairs))))
+Inv-loop lexical surface pairs column n₀ p₀ n p = (p ≤ pairs) × ((n ≤ p) × (n ≡ count (meets (sidesOf column)) (take p (listed lexical surface pairs))))
 
 abbrev μ-loop : tie.MeasureT-loop
 μ-loop lexical surface pairs column n₀ p₀ n p = pairs - p
@@ -46,7 +46,7 @@ loop-again : tie.Need-loop-again Inv-loop μ-loop
 loop-again c =
     let b = c .before .before .before .before .before in
     let a = b .before .args in
-    let f = matches (sidesOf (a .column)) in
+    let f = meets (sidesOf (a .column)) in
     let pair = pairIn (a .lexical .now) (a .surface .now) in
     let l = listed (a .lexical .now) (a .surface .now) (a .pairs) in
     let there : b .loop .p < length l = omega (arith, length-map-below pair (a .pairs)) in
@@ -62,7 +62,7 @@ returns c =
     let a = b .before .args in
     let pair = pairIn (a .lexical .now) (a .surface .now) in
     let l = listed (a .lexical .now) (a .surface .now) (a .pairs) in
-    b .loop .inv .1 .1 ∙ ap (count (matches (sidesOf (a .column)))) (take-all (b .loop .p) l (omega (arith, length-map-below pair (a .pairs))))
+    b .loop .inv .1 .1 ∙ ap (count (meets (sidesOf (a .column)))) (take-all (b .loop .p) l (omega (arith, length-map-below pair (a .pairs))))
 
 pub breadth-of-spec : {M : Type 1} → statement M
 breadth-of-spec =

@@ -8,7 +8,7 @@ use Prim.Native.Nat.{ℕ, _+_, _<_, _≤_, _-_}
 use lib.ListN.{length, getD, length-replicate, getD-replicate}
 use Rattle.model.specs.Lists.{byte, count}
 use Rattle.model.specs.Blocks.{header}
-use Rattle.model.specs.RuleTables.{Pair, Sides, boundaryPair, pairsAndBoundary, column, columnCount, matches, breadth, columnFor}
+use Rattle.model.specs.RuleTables.{Pair, Sides, boundaryPair, letterSets, pairsAndBoundary, column, columnCount, matches, breadth, columnFor}
 use Rattle.model.proofs.Lists.{getD-map-below}
 use Rattle.letters.proofs.Laws.{laid-pairs}
 use Rattle.tables.specs.Sides.{sidesOf, pairNumber}
@@ -22,17 +22,17 @@ use Rattle.tables.proofs.columns.find_columns.Tie as tie
 -- what is kept for pair p after c columns
 abbrev KeptFor : List ℕ → List ℕ → ℕ → ℕ → List ℕ → List ℕ → ℕ → Type 0
 KeptFor image t columns c best least p =
-    NarrowestSoFar (matching (pairsAndBoundary image) t (pairNumber image p)) (broad (pairsAndBoundary image) t (pairNumber image p)) columns 252 c (byte best p) (byte least p)
+    NarrowestSoFar (matching (letterSets image) (pairsAndBoundary image) t (pairNumber image p)) (broad (letterSets image) (pairsAndBoundary image) t (pairNumber image p)) columns 252 c (byte best p) (byte least p)
 
 abbrev Inv-loop : tie.InvT-loop
-Inv-loop image t columns lexical surface pairs none best₀ least₀ c₀ best least c =
+Inv-loop image h t columns lexical surface pairs none best₀ least₀ c₀ best least c =
     (c ≤ columns)
     × (length best ≡ 256)
     × (length least ≡ 256)
     × ((p : ℕ) → p < pairs → KeptFor image t columns c best least p)
 
 abbrev μ-loop : tie.MeasureT-loop
-μ-loop image t columns lexical surface pairs none best₀ least₀ c₀ best least c = columns - c
+μ-loop image h t columns lexical surface pairs none best₀ least₀ c₀ best least c = columns - c
 
 pair-sides-requires : tie.Need-pair-sides-requires Inv-loop μ-loop
 pair-sides-requires c κs = search needs
@@ -63,30 +63,25 @@ loop-holds c =
 column-at-requires : tie.Need-column-at-requires Inv-loop μ-loop
 column-at-requires c κs = let s = start-of (c .before .before) in (omega (arith, s .pre .1 .most), s .pre .1 .long)
 
-breadth-of-requires : tie.Need-breadth-of-requires Inv-loop μ-loop
-breadth-of-requires c κs = omega (arith, start-of (c .before .before .before .before .before) .pre .0 .limits .pairs-most)
+cast-keep-column : tie.Need-cast-keep-column Inv-loop μ-loop
+cast-keep-column c = omega (arith, start-of (c .before .before .before .before .before) .pre .1 .most)
 
-cast-pass-column : tie.Need-cast-pass-column Inv-loop μ-loop
-cast-pass-column c = omega (arith, start-of (c .before .before .before .before .before .before .before .before) .pre .1 .most)
-
-pass-column-requires : tie.Need-pass-column-requires Inv-loop μ-loop
-pass-column-requires c κs =
-    let at = c .before .before .before .before .before .before .before .before .before in
-    (omega (arith, start-of (at .before) .pre .0 .limits .pairs-most), (at .loop .inv .1, at .loop .inv .2))
+keep-column-requires : tie.Need-keep-column-requires Inv-loop μ-loop
+keep-column-requires c κs =
+    let at = c .before .before .before .before .before .before in
+    let s = start-of (at .before) in
+    (s .pre .0, (omega (arith, s .pre .0 .limits .pairs-most), (at .loop .inv .1, at .loop .inv .2)))
 
 add-c : tie.Need-add-c Inv-loop μ-loop
-add-c c = let at = c .before .before .before .before .before .before .before .before .before .before in omega (arith, start-of (at .before) .pre .1 .most)
+add-c c = let at = c .before .before .before .before .before .before .before in omega (arith, start-of (at .before) .pre .1 .most)
 
 loop-less : tie.Need-loop-less Inv-loop μ-loop
 loop-less c = omega arith
 
 -- what a pass leaves for a pair
-module _ (c : tie.After-pass-column Inv-loop μ-loop) where
-  abbrev broadened : tie.After-breadth-of Inv-loop μ-loop
-  broadened = c .before .before .before .before .before
-
+module _ (c : tie.After-keep-column Inv-loop μ-loop) where
   abbrev read : tie.After-column-at Inv-loop μ-loop
-  read = broadened .before .before .before
+  read = c .before .before .before .before .before
 
   abbrev at : tie.At-loop Inv-loop μ-loop
   at = read .before .before
@@ -96,6 +91,9 @@ module _ (c : tie.After-pass-column Inv-loop μ-loop) where
 
   abbrev start : tie.Start Inv-loop μ-loop
   start = start-of (at .before)
+
+  abbrev sets : List (List ℕ)
+  sets = letterSets (start .args .image .now)
 
   abbrev ps : List Pair
   ps = pairsAndBoundary (start .args .image .now)
@@ -109,27 +107,28 @@ module _ (c : tie.After-pass-column Inv-loop μ-loop) where
   own : (p : ℕ) → p < start .args .h .pairs + 1 → pair p ≡ pairNumber (start .args .image .now) p
   own p h = sym (getD-map-below pair (start .args .h .pairs + 1) p boundaryPair h) ∙ ap (λ (l : List Pair). getD l p boundaryPair) (sided .pair-sides .ensures)
 
-  wide : broadened .breadth-of .result ≡ breadth ps (column t (at .loop .c))
-  wide = broadened .breadth-of .ensures ∙ ap₂ (λ (x : Sides) (l : List Pair). count (matches x) l) (read .column-at .ensures) (sided .pair-sides .ensures)
+  wide : count (matches sets (sidesOf (read .column-at .result))) (listed (sided .pair-sides .result .lexical) (sided .pair-sides .result .surface) (start .args .h .pairs + 1)) ≡ breadth sets ps (column t (at .loop .c))
+  wide = ap₂ (λ (x : Sides) (l : List Pair). count (matches sets x) l) (read .column-at .ensures) (sided .pair-sides .ensures)
 
-  kept : (p : ℕ) → p < start .args .h .pairs + 1 → KeptFor (start .args .image .now) t (start .args .columns) (at .loop .c + 1) (c .pass-column .last .1 .1 .1 .1 .1 .1 .1 .0) (c .pass-column .last .1 .1 .1 .1 .1 .1 .1 .1 .0) p
+  kept : (p : ℕ) → p < start .args .h .pairs + 1 → KeptFor (start .args .image .now) t (start .args .columns) (at .loop .c + 1) (c .keep-column .last .1 .1 .1 .1 .1 .1 .1 .1 .0) (c .keep-column .last .1 .1 .1 .1 .1 .1 .1 .1 .1 .0) p
   kept p h =
       let x = pairNumber (start .args .image .now) p in
-      let same = ap₂ (λ (y : Sides) (z : Pair). matches y z) (sym (read .column-at .ensures)) (sym (own p h)) in
+      let same = ap₂ (λ (y : Sides) (z : Pair). matches sets y z) (sym (read .column-at .ensures)) (sym (own p h)) in
       pass-read _ _ _ _
-      (pass-kept (matching ps t x) (broad ps t x) (start .args .columns) (at .loop .c) (byte (at .loop .best) p) (byte (at .loop .least) p) (breadth-most (start .pre .0) (column t (at .loop .c))) (at .loop .inv .3 p h)
-      (matches (sidesOf (read .column-at .result)) (pair p)) (broadened .breadth-of .result) same wide)
-      (c .pass-column .ensures .best-is p h) (c .pass-column .ensures .least-is p h)
+      (pass-kept (matching sets ps t x) (broad sets ps t x) (start .args .columns) (at .loop .c) (byte (at .loop .best) p) (byte (at .loop .least) p) (breadth-most (start .pre .0) (column t (at .loop .c))) (at .loop .inv .3 p h)
+      (matches sets (sidesOf (read .column-at .result)) (pair p)) _ same wide)
+      (c .keep-column .ensures .best-is p h) (c .keep-column .ensures .least-is p h)
 
 loop-again : tie.Need-loop-again Inv-loop μ-loop
 loop-again c =
     let l = at c .loop in
-    (omega arith, c .pass-column .ensures .best-size ∙ l .inv .1, c .pass-column .ensures .least-size ∙ l .inv .2, kept c)
+    (omega arith, c .keep-column .ensures .best-size ∙ l .inv .1, c .keep-column .ensures .least-size ∙ l .inv .2, kept c)
 
 returns : tie.Need-returns Inv-loop μ-loop
 returns c =
     let l = c .before .loop in
     let s = start-of (c .before .before) in
+    let sets = letterSets (s .args .image .now) in
     let ps = pairsAndBoundary (s .args .image .now) in
     let t = s .args .t .now in
     let q = laid-pairs (s .pre .0) in
@@ -137,10 +136,10 @@ returns c =
     record {
       each = λ p h.
           let x = pairNumber (s .args .image .now) p in
-          pass-all (matching ps t x) (broad ps t x) (s .args .columns) 252
-          (subst (λ (k : ℕ). NarrowestSoFar (matching ps t x) (broad ps t x) (s .args .columns) 252 k (byte (l .best) p) (byte (l .least) p)) e (l .inv .3 p (omega arith)))
-          ∙ ap (narrowest (matching ps t x) (broad ps t x)) (s .pre .1 .count)
-          ∙ narrowest-is ps t x;
+          pass-all (matching sets ps t x) (broad sets ps t x) (s .args .columns) 252
+          (subst (λ (k : ℕ). NarrowestSoFar (matching sets ps t x) (broad sets ps t x) (s .args .columns) 252 k (byte (l .best) p) (byte (l .least) p)) e (l .inv .3 p (omega arith)))
+          ∙ ap (narrowest (matching sets ps t x) (broad sets ps t x)) (s .pre .1 .count)
+          ∙ narrowest-is sets ps t x;
     }
 
 pub find-columns-spec : {M : Type 1} → statement M
@@ -154,9 +153,8 @@ find-columns-spec =
     cast-none
     loop-holds
     column-at-requires
-    breadth-of-requires
-    cast-pass-column
-    pass-column-requires
+    cast-keep-column
+    keep-column-requires
     add-c
     loop-less
     loop-again

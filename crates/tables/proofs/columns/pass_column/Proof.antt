@@ -6,9 +6,8 @@ use mathlib.Core.Path.{_≡_, refl, sym, ap, ap₂, _∙_}
 use mathlib.Core.List.{List}
 use Prim.Native.Nat.{ℕ, _+_, _-_, _<_, _≤_}
 use Rattle.model.specs.Lists.{byte}
-use Rattle.model.specs.RuleTables.{matches}
 use Rattle.tables.specs.declared.sides.Sides.{Sides}
-use Rattle.tables.specs.Sides.{sidesOf}
+use Rattle.tables.specs.Sides.{sidesOf, meets}
 use Rattle.tables.specs.Passes.{pairIn, narrower, lesserOf}
 use Rattle.tables.proofs.Passes.{Written, written-none, written-more}
 use Rattle.tables.proofs.columns.pass_column.Statement.{statement}
@@ -16,10 +15,10 @@ use Rattle.tables.proofs.columns.pass_column.Tie as tie
 
 -- what is kept for pair p after the pass
 abbrev bestAfter : List ℕ → List ℕ → Sides → ℕ → ℕ → ℕ → List ℕ → List ℕ → ℕ → ℕ
-bestAfter lexical surface column breadth c columns best least p = cond (matches (sidesOf column) (pairIn lexical surface p)) (narrower breadth c columns (byte best p) (byte least p)) (byte best p)
+bestAfter lexical surface column breadth c columns best least p = cond (meets (sidesOf column) (pairIn lexical surface p)) (narrower breadth c columns (byte best p) (byte least p)) (byte best p)
 
 abbrev leastAfter : List ℕ → List ℕ → Sides → ℕ → List ℕ → ℕ → ℕ
-leastAfter lexical surface column breadth least p = cond (matches (sidesOf column) (pairIn lexical surface p)) (lesserOf breadth (byte least p)) (byte least p)
+leastAfter lexical surface column breadth least p = cond (meets (sidesOf column) (pairIn lexical surface p)) (lesserOf breadth (byte least p)) (byte least p)
 
 abbrev Inv-loop : tie.InvT-loop
 Inv-loop lexical surface pairs column breadth c columns best₀ least₀ p₀ best least p =

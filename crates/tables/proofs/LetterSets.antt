@@ -1,0 +1,178 @@
+-- Sets: a bit by a table of powers, a set as it stands in the image, and what a side sees, by which it is compared as one that names no set.
+use Prim.Native.Nat.{ℕ, zero, suc, _+_, _-_, _/_, _%_, _<_, _≤_}
+use native.Mathlib.Omega.{arith}
+use mathlib.Core.Bool.{Bool, true, false, _&&_, _||_, not, cond, true≢false}
+use mathlib.Core.Path.{_≡_, refl, sym, ap, ap₂, _∙_}
+use mathlib.Core.List.{List, [], _∷_, map, List·Memᴰ, List·Memᴰ·head, List·Memᴰ·tail}
+use lib.ListN.{length, getD, length-map, List·getD-eq-default}
+use lib.Dec.{T, leb, eqb}
+use borrow.Author.Tests.{le-leb, lt-leb, eq-eqb, ne-eqb}
+use Rattle.model.specs.Lists.{below, every, count, within, byte, bit}
+use Rattle.model.specs.Blocks.{Header, header, kinds, recordStart, recordAt}
+use Rattle.model.specs.RuleTables.{Pair, Sides, letterSets, inSet, isSet, namesSet, matchesSide, matches}
+use Rattle.model.proofs.Booleans.{within-out, of-true}
+use Rattle.model.proofs.Lists.{bit-none, below-from, getD-map-below, length-map-below}
+use Rattle.image.specs.Laid.{Laid}
+use Rattle.image.proofs.Records.{record-inside, record-byte, record-length}
+use Rattle.tables.specs.Sides.{meetsSide, meets}
+use Rattle.tables.specs.Seen.{seenBy, Seen}
+use Rattle.tables.specs.Passes.{pairIn, listed, narrower, lesserOf, Passed, PassedBy}
+
+abbrev pub powers : List ℕ
+powers = 1 ∷ 2 ∷ 4 ∷ 8 ∷ 16 ∷ 32 ∷ 64 ∷ 128 ∷ []
+
+pub power-some : (i : ℕ) → i < 8 → 1 ≤ getD powers i 0
+power-some zero h = omega arith
+power-some (suc zero) h = omega arith
+power-some (suc (suc zero)) h = omega arith
+power-some (suc (suc (suc zero))) h = omega arith
+power-some (suc (suc (suc (suc zero)))) h = omega arith
+power-some (suc (suc (suc (suc (suc zero))))) h = omega arith
+power-some (suc (suc (suc (suc (suc (suc zero)))))) h = omega arith
+power-some (suc (suc (suc (suc (suc (suc (suc zero))))))) h = omega arith
+power-some (suc (suc (suc (suc (suc (suc (suc (suc i)))))))) h = absurd (omega arith)
+
+lowest : {m n : ℕ} → m ≡ n → eqb (m % 2) 1 ≡ eqb (n % 2) 1
+lowest e = ap (λ (x : ℕ). eqb (x % 2) 1) e
+
+-- a number divided by a power has the bit as its lowest
+pub power-bit : (n i : ℕ) → i < 8 → eqb (n / getD powers i 0 % 2) 1 ≡ bit n i
+power-bit n zero h = let e : n / 1 ≡ n = omega arith in lowest e
+power-bit n (suc zero) h = refl
+power-bit n (suc (suc zero)) h = let e : n / 4 ≡ n / 2 / 2 = omega arith in lowest e
+power-bit n (suc (suc (suc zero))) h = let e : n / 8 ≡ n / 2 / 2 / 2 = omega arith in lowest e
+power-bit n (suc (suc (suc (suc zero)))) h = let e : n / 16 ≡ n / 2 / 2 / 2 / 2 = omega arith in lowest e
+power-bit n (suc (suc (suc (suc (suc zero))))) h = let e : n / 32 ≡ n / 2 / 2 / 2 / 2 / 2 = omega arith in lowest e
+power-bit n (suc (suc (suc (suc (suc (suc zero)))))) h = let e : n / 64 ≡ n / 2 / 2 / 2 / 2 / 2 / 2 = omega arith in lowest e
+power-bit n (suc (suc (suc (suc (suc (suc (suc zero))))))) h = let e : n / 128 ≡ n / 2 / 2 / 2 / 2 / 2 / 2 / 2 = omega arith in lowest e
+power-bit n (suc (suc (suc (suc (suc (suc (suc (suc i)))))))) h = absurd (omega arith)
+
+-- the sets of an image
+module _ {image : List ℕ} {h : Header} (laid : Laid image h) (i : ℕ) where
+  sets-read : header image .sets ≡ h .sets
+  sets-read = ap (λ (k : Header). k .sets) (sym (laid .header-is))
+
+  pub set-record : i < h .sets → getD (letterSets image) i [] ≡ recordAt image 7 i
+  unfolding letterSets
+  set-record k = getD-map-below (recordAt image 7) (header image .sets) i [] (omega (arith, sets-read))
+
+  -- one that is missing has no letter
+  pub set-missing : (a : ℕ) → h .sets ≤ i → inSet (getD (letterSets image) i []) a ≡ false
+  unfolding letterSets inSet
+  set-missing a k =
+      ap (λ (s : List ℕ). bit (byte s (a / 8)) (a % 8)) (List·getD-eq-default (letterSets image) [] {n = i} (omega (arith, sets-read, length-map-below (recordAt image 7) (header image .sets))))
+      ∙ bit-none (a % 8)
+
+  -- nor has any a letter past its 16 bytes
+  pub set-past : (a : ℕ) → i < h .sets → 128 ≤ a → inSet (getD (letterSets image) i []) a ≡ false
+  unfolding inSet kinds
+  set-past a k l =
+      ap (λ (s : List ℕ). bit (byte s (a / 8)) (a % 8)) (set-record k)
+      ∙ ap (λ (n : ℕ). bit n (a % 8)) (List·getD-eq-default (recordAt image 7 i) 0 {n = a / 8} (omega (arith, record-length laid 7 i k)))
+      ∙ bit-none (a % 8)
+
+  -- a byte of a set is that byte of the image
+  pub set-inside : (a : ℕ) → i < h .sets → a < 128 → recordStart h 7 i + a / 8 < length image
+  unfolding kinds
+  set-inside a k l = record-inside laid 7 i (a / 8) k (omega arith)
+
+  pub set-bit : (a : ℕ) → i < h .sets → a < 128 → bit (byte image (recordStart h 7 i + a / 8)) (a % 8) ≡ inSet (getD (letterSets image) i []) a
+  unfolding inSet kinds
+  set-bit a k l =
+      ap (λ (n : ℕ). bit n (a % 8)) (sym (record-byte laid 7 i (a / 8) (omega arith)))
+      ∙ ap (λ (s : List ℕ). bit (byte s (a / 8)) (a % 8)) (sym (set-record k))
+
+-- the test of all sets, by their numbers
+module _ (image : List ℕ) (h : Header) (laid : Laid image h) where
+  pub sets-tested : every (λ i. isSet (h .letters) (recordAt image 7 i)) (below (h .sets)) ≡ every (isSet (h .letters)) (letterSets image)
+  unfolding letterSets
+  sets-tested = sym (over (isSet (h .letters)) (below (header image .sets)) ∙ ap (λ (k : Header). every (λ i. isSet (h .letters) (recordAt image 7 i)) (below (k .sets))) (sym (laid .header-is)))
+    where
+      over : (f : List ℕ → Bool) (xs : List ℕ) → every f (map (recordAt image 7) xs) ≡ every (λ i. f (recordAt image 7 i)) xs
+      over f [] = refl
+      over f (x ∷ xs) = ap (λ (b : Bool). f (recordAt image 7 x) && b) (over f xs)
+
+-- a letter is no letter above L, or is one
+module _ (letters : ℕ) (set : List ℕ) where
+  abbrev pub allows : ℕ → Bool
+  allows a = leb a letters || not (inSet set a)
+
+  pub allows-low : (a : ℕ) → a ≤ letters → allows a ≡ true
+  allows-low a h = ap (λ (b : Bool). b || not (inSet set a)) (le-leb a letters h)
+
+  pub allows-high : (a : ℕ) → letters < a → allows a ≡ not (inSet set a)
+  allows-high a h = ap (λ (b : Bool). b || not (inSet set a)) (lt-leb a letters h)
+
+-- what a side sees
+module _ (sets : List (List ℕ)) where
+  -- one that names no set
+  module _ (side : ℕ) (e : namesSet side ≡ false) where
+    pub plain-sees : (letter : ℕ) → seenBy sets side letter ≡ letter
+    plain-sees letter = ap (λ (b : Bool). cond b (cond (inSet (getD sets (side - 128) []) letter) side 254) letter) e
+
+    pub plain-side : (letter : ℕ) → meetsSide side letter ≡ matchesSide sets side letter
+    unfolding matchesSide
+    plain-side letter = sym (ap (λ (b : Bool). cond b (inSet (getD sets (side - 128) []) letter) (eqb side 255 || eqb side letter)) e)
+
+  -- one that names a set
+  module _ (side : ℕ) (e : namesSet side ≡ true) where
+    pub set-sees : (letter : ℕ) → seenBy sets side letter ≡ cond (inSet (getD sets (side - 128) []) letter) side 254
+    set-sees letter = ap (λ (b : Bool). cond b (cond (inSet (getD sets (side - 128) []) letter) side 254) letter) e
+
+    pub set-side : (letter : ℕ) → matchesSide sets side letter ≡ inSet (getD sets (side - 128) []) letter
+    unfolding matchesSide
+    set-side letter = ap (λ (b : Bool). cond b (inSet (getD sets (side - 128) []) letter) (eqb side 255 || eqb side letter)) e
+
+    pub named-least : 128 ≤ side
+    named-least = within-out 128 158 side (of-true (namesSet side) e) .0
+
+    named-most : side ≤ 158
+    named-most = within-out 128 158 side (of-true (namesSet side) e) .1
+
+    itself : (b : Bool) → meetsSide side (cond b side 254) ≡ b
+    itself true = ap₂ (λ (x y : Bool). x || y) (ne-eqb side 255 (omega (arith, named-most))) (eq-eqb side side refl)
+    itself false = ap₂ (λ (x y : Bool). x || y) (ne-eqb side 255 (omega (arith, named-most))) (ne-eqb side 254 (omega (arith, named-most)))
+
+  -- compared as one that names no set, it matches what it should
+  pub seen-side : (side letter : ℕ) → meetsSide side (seenBy sets side letter) ≡ matchesSide sets side letter
+  seen-side side letter = go (namesSet side) refl
+    where
+      go : (b : Bool) → namesSet side ≡ b → meetsSide side (seenBy sets side letter) ≡ matchesSide sets side letter
+      go true e = ap (meetsSide side) (set-sees side e letter) ∙ itself side e (inSet (getD sets (side - 128) []) letter) ∙ sym (set-side side e letter)
+      go false e = ap (meetsSide side) (plain-sees side e letter) ∙ plain-side side e letter
+
+  -- a column that names no set
+  pub plain-column : (c : Sides) (p : Pair) → (namesSet (c .lexical) || namesSet (c .surface)) ≡ false → meets c p ≡ matches sets c p
+  unfolding meets matches
+  plain-column c p e =
+      ap₂ (λ (x y : Bool). x && y) (plain-side (c .lexical) (neither (namesSet (c .lexical)) (namesSet (c .surface)) e .0) (p .lexical)) (plain-side (c .surface) (neither (namesSet (c .lexical)) (namesSet (c .surface)) e .1) (p .surface))
+    where
+      neither : (a b : Bool) → (a || b) ≡ false → (a ≡ false) × (b ≡ false)
+      neither false b e = (refl, e)
+      neither true b e = absurd (true≢false e)
+
+  -- any column, over the letters as its sides see them
+  module _ (c : Sides) (lexical surface lexical′ surface′ : List ℕ) (n : ℕ) (l : Seen sets (c .lexical) lexical n lexical′) (s : Seen sets (c .surface) surface n surface′) where
+    pub seen-column : (p : ℕ) → p < n → meets c (pairIn lexical′ surface′ p) ≡ matches sets c (pairIn lexical surface p)
+    unfolding meets matches
+    seen-column p h =
+        ap₂ (λ (x y : Bool). x && y)
+        (ap (meetsSide (c .lexical)) (l .each p h) ∙ seen-side (c .lexical) (byte lexical p))
+        (ap (meetsSide (c .surface)) (s .each p h) ∙ seen-side (c .surface) (byte surface p))
+
+-- how many pass, where two tests agree on each
+count-same : (f g : Pair → Bool) (x y : ℕ → Pair) (ps : List ℕ) → ((p : ℕ) → List·Memᴰ p ps → f (x p) ≡ g (y p)) → count f (map x ps) ≡ count g (map y ps)
+count-same f g x y [] same = refl
+count-same f g x y (p ∷ ps) same = ap₂ (λ (b : Bool) (n : ℕ). cond b 1 0 + n) (same p (List·Memᴰ·head refl)) (count-same f g x y ps (λ q m. same q (List·Memᴰ·tail m)))
+
+-- a pass by tests that agree is the same pass
+module _ (f g : Sides → Pair → Bool) (column : Sides) (lexical surface lexical′ surface′ : List ℕ) (pairs : ℕ) (same : (p : ℕ) → p < pairs → f column (pairIn lexical′ surface′ p) ≡ g column (pairIn lexical surface p)) where
+  pub passed-same : (c columns : ℕ) (best least best′ least′ : List ℕ) → PassedBy lexical′ surface′ pairs column f c columns best least best′ least′ → PassedBy lexical surface pairs column g c columns best least best′ least′
+  passed-same c columns best least best′ least′ w =
+      let broad = count-same (f column) (g column) (pairIn lexical′ surface′) (pairIn lexical surface) (below pairs) (λ p m. same p (below-from pairs p m)) in
+      record {
+        best-size = w .best-size;
+        least-size = w .least-size;
+        best-is = λ p h. w .best-is p h ∙ ap₂ (λ (b : Bool) (n : ℕ). cond b (narrower n c columns (byte best p) (byte least p)) (byte best p)) (same p h) broad;
+        least-is = λ p h. w .least-is p h ∙ ap₂ (λ (b : Bool) (n : ℕ). cond b (lesserOf n (byte least p)) (byte least p)) (same p h) broad;
+      }

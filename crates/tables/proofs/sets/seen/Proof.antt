@@ -1,0 +1,59 @@
+-- `seen` meets its contract: the letters passed are as the side sees them.
+use borrow.Author.Needs.{needs}
+use native.Mathlib.Omega.{arith}
+use Prim.Native.Nat.{ℕ, _-_, _≤_}
+use mathlib.Core.Path.{_≡_, refl, _∙_}
+use lib.ListN.{length, length-set}
+use Rattle.model.specs.Lists.{byte}
+use Rattle.model.specs.RuleTables.{letterSets}
+use Rattle.tables.specs.Seen.{seenBy}
+use Rattle.tables.proofs.Passes.{Written, written-none, written-more}
+use Rattle.tables.proofs.sets.seen.Statement.{statement}
+use Rattle.tables.proofs.sets.seen.Tie as tie
+
+abbrev Inv-loop : tie.InvT-loop
+Inv-loop image h side letters n out₀ p₀ out p = (p ≤ n) × (length out ≡ 256) × Written (λ q. seenBy (letterSets image) side (byte letters q)) out₀ p out
+
+abbrev μ-loop : tie.MeasureT-loop
+μ-loop image h side letters n out₀ p₀ out p = n - p
+
+loop-holds : tie.Need-loop-holds Inv-loop μ-loop
+loop-holds c = (omega arith, refl, written-none _ _)
+
+element-copy-out-seen-letter : tie.Need-element-copy-out-seen-letter Inv-loop μ-loop
+element-copy-out-seen-letter c = omega arith
+
+seen-letter-requires : tie.Need-seen-letter-requires Inv-loop μ-loop
+seen-letter-requires c κs = search needs
+
+array-write-out : tie.Need-array-write-out Inv-loop μ-loop
+array-write-out c = omega arith
+
+add-p : tie.Need-add-p Inv-loop μ-loop
+add-p c = omega arith
+
+loop-less : tie.Need-loop-less Inv-loop μ-loop
+loop-less c = omega arith
+
+loop-again : tie.Need-loop-again Inv-loop μ-loop
+loop-again c =
+    let l = c .before .before .before .loop in
+    (omega arith, length-set (l .out) (l .p) (c .seen-letter .result) ∙ l .inv .1, written-more (l .inv .2) (c .seen-letter .result) (omega (arith, l .inv .2 .size, l .inv .1)) (c .seen-letter .ensures))
+
+returns : tie.Need-returns Inv-loop μ-loop
+returns c = let l = c .before .loop in record { each = λ p h. l .inv .2 .done p (omega arith) }
+
+pub seen-spec : {M : Type 1} → statement M
+seen-spec =
+    tie.close
+    (tie.spec
+    Inv-loop
+    μ-loop
+    loop-holds
+    element-copy-out-seen-letter
+    seen-letter-requires
+    array-write-out
+    add-p
+    loop-less
+    loop-again
+    returns)
