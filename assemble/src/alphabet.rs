@@ -2,7 +2,7 @@
 
 use crate::fault::{Fault, Faults};
 use crate::limits;
-use crate::lines::{name, Word};
+use crate::lines::{name, one_character, Word};
 use crate::sections::{Section, Sections};
 
 /// The null, as a side of a pair or column.
@@ -101,15 +101,14 @@ fn read_symbol(section: &Section) -> Result<char, Fault> {
 }
 
 /// A character that may be a letter: one code point that fits two bytes.
-fn read_character(word: Word, line: usize) -> Result<char, Fault> {
+pub fn read_character(word: Word, line: usize) -> Result<char, Fault> {
     let Some(text) = word.bare() else {
         return Err(Fault::new(line, "a letter stands without quotation marks"));
     };
-    let mut characters = text.chars();
-    match (characters.next(), characters.next()) {
-        (Some(c), None) if u32::from(c) <= limits::CODE_POINT => Ok(c),
-        (Some(c), None) => Err(Fault::new(line, format!("letter {} lies above U+FFFF", name(c)))),
-        _ => Err(Fault::new(line, format!("{text}: {}", not_one_character(text)))),
+    match one_character(text) {
+        Some(c) if u32::from(c) <= limits::CODE_POINT => Ok(c),
+        Some(c) => Err(Fault::new(line, format!("letter {} lies above U+FFFF", name(c)))),
+        None => Err(Fault::new(line, format!("{text}: {}", not_one_character(text)))),
     }
 }
 

@@ -1,10 +1,12 @@
-//! A grammar: letters, pairs, rules and lexicons that an image can hold.
+//! A grammar: letters, sets, pairs, rules and lexicons that an image can hold.
 
 use crate::alphabet::Alphabet;
+use crate::columns::Sides;
 use crate::fault::Faults;
 use crate::lexicons::{self, Lexicon};
 use crate::pairs::{self, Pair};
 use crate::rules::{self, Rule};
+use crate::sets::Sets;
 use crate::{lines, sections};
 
 /// Only `read_grammar` makes one, so every grammar keeps the limits, has one narrowest column for each
@@ -12,6 +14,7 @@ use crate::{lines, sections};
 #[derive(Debug)]
 pub struct Grammar {
     pub(crate) alphabet: Alphabet,
+    pub(crate) sets: Sets,
     pub(crate) pairs: Vec<Pair>,
     pub(crate) rules: Vec<Rule>,
     pub(crate) lexicons: Vec<Lexicon>,
@@ -23,9 +26,11 @@ pub fn read_grammar(bytes: &[u8]) -> Result<Grammar, Faults> {
     let text = lines::decode(bytes)?;
     let sections = sections::divide(lines::split(text)?)?;
     let alphabet = Alphabet::read(&sections)?;
+    let sets = Sets::read(&sections.subsets, &alphabet)?;
     let pairs = pairs::read(&sections.pairs, &alphabet)?;
     let mut faults = Faults::default();
-    let rules = rules::read(&sections.rules, &alphabet, &pairs, &mut faults);
+    let sides = Sides { alphabet: &alphabet, sets: &sets };
+    let rules = rules::read(&sections.rules, sides, &pairs, &mut faults);
     let lexicons = lexicons::read(&sections.lexicons, &alphabet, &pairs, &mut faults);
-    faults.or(Grammar { alphabet, pairs, rules, lexicons })
+    faults.or(Grammar { alphabet, sets, pairs, rules, lexicons })
 }

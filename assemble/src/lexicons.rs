@@ -3,7 +3,7 @@
 use crate::alphabet::{Alphabet, ANY, BOUNDARY, NULL};
 use crate::fault::{Fault, Faults};
 use crate::limits;
-use crate::lines::{name, number, Line, Word};
+use crate::lines::{name, number, one_character, Line, Word};
 use crate::pairs::Pair;
 use crate::sections::{Keyword, Section};
 use std::collections::HashMap;
@@ -97,8 +97,7 @@ fn is_end(name: &str, alphabet: &Alphabet) -> bool {
 }
 
 fn is_alone(text: &str, side: u8, alphabet: &Alphabet) -> bool {
-    let mut characters = text.chars();
-    characters.next() == Some(alphabet.character(side)) && characters.next().is_none()
+    one_character(text) == Some(alphabet.character(side))
 }
 
 fn read_entry(

@@ -1,4 +1,4 @@
-//! The limits of a grammar, as document 01 sets them for an image, and of the text that it is read from.
+//! The limits of a grammar, as documents 01 and 02 set them for an image, and of the text that it is read from.
 
 use crate::fault::Fault;
 use std::ops::RangeInclusive;
@@ -6,6 +6,7 @@ use std::ops::RangeInclusive;
 /// Letters, the boundary being one of them.
 pub const LETTERS: RangeInclusive<usize> = 2..=120;
 pub const PAIRS: RangeInclusive<usize> = 1..=250;
+pub const SETS: RangeInclusive<usize> = 0..=31;
 pub const RULES: RangeInclusive<usize> = 0..=32;
 pub const COLUMNS: RangeInclusive<usize> = 1..=16;
 pub const STATES: RangeInclusive<usize> = 1..=24;

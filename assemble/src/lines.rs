@@ -99,6 +99,12 @@ fn refuse_unseen(text: &str, unseen: impl Fn(char) -> bool) -> Result<(), String
     }
 }
 
+/// The character of a word that is just one.
+pub fn one_character(word: &str) -> Option<char> {
+    let mut characters = word.chars();
+    characters.next().filter(|_| characters.next().is_none())
+}
+
 /// A whole number in digits; none where it is written otherwise or is far too large.
 pub fn number(word: &str) -> Option<usize> {
     let digits = !word.is_empty() && word.bytes().all(|byte| byte.is_ascii_digit());

@@ -1,4 +1,4 @@
-//! Lists of letters, pairs and entries by number, for those who read the analyser's numbers.
+//! Lists of letters, pairs, sets and entries by number, for those who read the analyser's numbers.
 
 use crate::alphabet::{Alphabet, BOUNDARY, NULL};
 use crate::grammar::Grammar;
@@ -14,6 +14,13 @@ pub fn list_letters(grammar: &Grammar) -> String {
 pub fn list_pairs(grammar: &Grammar) -> String {
     let pairs = grammar.pairs.iter().enumerate();
     pairs.map(|(number, pair)| format!("{number}\t{}\n", pair.show(&grammar.alphabet))).collect()
+}
+
+/// A line a set: number, name, letters.
+pub fn list_sets(grammar: &Grammar) -> String {
+    let sets = grammar.sets.all().iter().enumerate();
+    sets.map(|(number, set)| format!("{number}\t{}\t{}\n", set.name, show_letters(&set.letters, &grammar.alphabet)))
+        .collect()
 }
 
 /// A line an entry: number, lexicon, form, continuation, gloss number, gloss in words.
@@ -37,6 +44,11 @@ fn list_entry(number: usize, lexicon: &Lexicon, entry: &Entry, grammar: &Grammar
     };
     let (name, gloss, gloss_text) = (&lexicon.name, entry.gloss, &entry.gloss_text);
     format!("{number}\t{name}\t{form}\t{continuation}\t{gloss}\t{gloss_text}\n")
+}
+
+fn show_letters(letters: &[u8], alphabet: &Alphabet) -> String {
+    let shown: Vec<String> = letters.iter().map(|&letter| alphabet.character(letter).to_string()).collect();
+    shown.join(" ")
 }
 
 /// A form as the text writes it.

@@ -1,8 +1,8 @@
 //! The program `assemble`: makes an image of a grammar's text, or lists what the text numbers.
 
 use assemble::{
-    list_entries, list_letters, list_pairs, put_in_place, read_grammar, read_source, sealed_image, spell_words,
-    warnings, Fault, Faults, Grammar,
+    list_entries, list_letters, list_pairs, list_sets, put_in_place, read_grammar, read_source, sealed_image,
+    spell_words, warnings, Fault, Faults, Grammar,
 };
 use std::env;
 use std::ffi::OsString;
@@ -14,6 +14,7 @@ const USAGE: &str = "\
 usage: assemble GRAMMAR IMAGE        make a sealed image of the grammar
        assemble --letters GRAMMAR    list its letters by number
        assemble --pairs GRAMMAR      list its pairs by number
+       assemble --sets GRAMMAR       list its sets by number
        assemble --entries GRAMMAR    list its entries by number
        assemble --words GRAMMAR      turn words, one a line, into letter numbers
 ";
@@ -51,6 +52,7 @@ fn run(arguments: &[OsString]) -> Result<(), Failure> {
     match first.to_str() {
         Some("--letters") => list(second, list_letters),
         Some("--pairs") => list(second, list_pairs),
+        Some("--sets") => list(second, list_sets),
         Some("--entries") => list(second, list_entries),
         Some("--words") => spell(second),
         _ if is_option(first) => Err(Failure::Usage),

@@ -1,10 +1,9 @@
 //! Rule tables: columns, final states, and for each state a row of next states.
 
-use crate::alphabet::Alphabet;
-use crate::columns::{self, Column};
+use crate::columns::{self, Column, Sides};
 use crate::fault::{Fault, Faults};
 use crate::limits;
-use crate::lines::{name, number, Line, Word};
+use crate::lines::{name, number, one_character, Line, Word};
 use crate::pairs::Pair;
 use crate::sections::Section;
 
@@ -41,23 +40,23 @@ struct Heading<'a> {
     columns: usize,
 }
 
-pub fn read(sections: &[Section], alphabet: &Alphabet, pairs: &[Pair], faults: &mut Faults) -> Vec<Rule> {
+pub fn read(sections: &[Section], sides: Sides, pairs: &[Pair], faults: &mut Faults) -> Vec<Rule> {
     if let Some(first_over) = sections.get(*limits::RULES.end()) {
         faults.keep(limits::within(&limits::RULES, sections.len(), "rules", first_over.line));
     }
-    let rules = sections.iter().map(|section| read_rule(section, alphabet, pairs));
+    let rules = sections.iter().map(|section| read_rule(section, sides, pairs));
     rules.filter_map(|rule| faults.keep(rule)).collect()
 }
 
-fn read_rule(section: &Section, alphabet: &Alphabet, pairs: &[Pair]) -> Result<Rule, Fault> {
+fn read_rule(section: &Section, sides: Sides, pairs: &[Pair]) -> Result<Rule, Fault> {
     let heading = read_heading(section)?;
     let [lexical, surface, rows @ ..] = &section.body[..] else {
         let what = "a rule has a row of lexical letters and a row of surface letters";
         return Err(Fault::new(section.last_line(), what));
     };
-    let columns = read_columns(lexical, surface, &heading, alphabet)?;
+    let columns = read_columns(lexical, surface, &heading, sides)?;
     let states = read_states(rows, &heading, section.last_line())?;
-    let taken = columns::taken(&columns, pairs, alphabet)
+    let taken = columns::taken(&columns, pairs, sides)
         .map_err(|what| Fault::new(lexical.number, format!("rule \"{}\": {what}", heading.name)))?;
     Ok(Rule {
         name: heading.name.to_string(),
@@ -84,30 +83,31 @@ fn read_heading<'a>(section: &Section<'a>) -> Result<Heading<'a>, Fault> {
     Ok(heading)
 }
 
-fn read_columns(lexical: &Line, surface: &Line, heading: &Heading, alphabet: &Alphabet) -> Result<Vec<Column>, Fault> {
-    let lexical = read_sides(lexical, "lexical", heading, alphabet)?;
-    let surface = read_sides(surface, "surface", heading, alphabet)?;
+fn read_columns(lexical: &Line, surface: &Line, heading: &Heading, sides: Sides) -> Result<Vec<Column>, Fault> {
+    let lexical = read_sides(lexical, "lexical", heading, sides)?;
+    let surface = read_sides(surface, "surface", heading, sides)?;
     let columns = lexical.into_iter().zip(surface);
     Ok(columns.map(|(lexical, surface)| Column { lexical, surface }).collect())
 }
 
-fn read_sides(line: &Line, level: &str, heading: &Heading, alphabet: &Alphabet) -> Result<Vec<u8>, Fault> {
+fn read_sides(line: &Line, level: &str, heading: &Heading, sides: Sides) -> Result<Vec<u8>, Fault> {
     if line.words.len() != heading.columns {
         let (found, said) = (line.words.len(), heading.columns);
         let what = format!("{found} {level} letters where the rule has {said} columns");
         return Err(Fault::new(line.number, what));
     }
-    line.words.iter().map(|&word| read_side(word, line.number, alphabet)).collect()
+    line.words.iter().map(|&word| read_side(word, line.number, sides)).collect()
 }
 
-fn read_side(word: Word, line: usize, alphabet: &Alphabet) -> Result<u8, Fault> {
-    let mut characters = word.bare().unwrap_or("").chars();
-    let (Some(character), None) = (characters.next(), characters.next()) else {
-        return Err(Fault::new(line, "a side of a column is one character"));
+fn read_side(word: Word, line: usize, sides: Sides) -> Result<u8, Fault> {
+    let side_is = "a side of a column is one character or the name of a set";
+    let Some(text) = word.bare() else {
+        return Err(Fault::new(line, format!("{side_is}, without quotation marks")));
     };
-    alphabet
-        .side(character)
-        .ok_or_else(|| Fault::new(line, format!("{} is no letter of the alphabet", name(character))))
+    sides.side(text).ok_or_else(|| match one_character(text) {
+        Some(c) => Fault::new(line, format!("{} is no letter of the alphabet, and no set is called so", name(c))),
+        None => Fault::new(line, format!("no set is called {text}; {side_is}")),
+    })
 }
 
 fn read_states(rows: &[Line], heading: &Heading, last_line: usize) -> Result<Vec<State>, Fault> {

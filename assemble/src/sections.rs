@@ -10,20 +10,22 @@ pub enum Keyword {
     Null,
     Any,
     Alphabet,
+    Subset,
     Pairs,
     Rule,
     Lexicon,
     End,
 }
 
-const ORDER: &str = "BOUNDARY, NULL, ANY and ALPHABET, then PAIRS, RULE, LEXICON, END";
+const ORDER: &str = "BOUNDARY, NULL, ANY and ALPHABET, then SUBSET and PAIRS, then RULE, LEXICON, END";
 
 impl Keyword {
-    const ALL: [Keyword; 8] = [
+    const ALL: [Keyword; 9] = [
         Keyword::Boundary,
         Keyword::Null,
         Keyword::Any,
         Keyword::Alphabet,
+        Keyword::Subset,
         Keyword::Pairs,
         Keyword::Rule,
         Keyword::Lexicon,
@@ -40,6 +42,7 @@ impl Keyword {
             Keyword::Null => "NULL",
             Keyword::Any => "ANY",
             Keyword::Alphabet => "ALPHABET",
+            Keyword::Subset => "SUBSET",
             Keyword::Pairs => "PAIRS",
             Keyword::Rule => "RULE",
             Keyword::Lexicon => "LEXICON",
@@ -51,7 +54,7 @@ impl Keyword {
     fn rank(self) -> u8 {
         match self {
             Keyword::Boundary | Keyword::Null | Keyword::Any | Keyword::Alphabet => 0,
-            Keyword::Pairs => 1,
+            Keyword::Subset | Keyword::Pairs => 1,
             Keyword::Rule => 2,
             Keyword::Lexicon => 3,
             Keyword::End => 4,
@@ -94,6 +97,7 @@ pub struct Sections<'a> {
     pub null: Section<'a>,
     pub any: Section<'a>,
     pub alphabet: Section<'a>,
+    pub subsets: Vec<Section<'a>>,
     pub pairs: Section<'a>,
     pub rules: Vec<Section<'a>>,
     pub lexicons: Vec<Section<'a>>,
@@ -112,6 +116,7 @@ pub fn divide(lines: Vec<Line<'_>>) -> Result<Sections<'_>, Fault> {
         null: only(&mut sections, Keyword::Null, end)?,
         any: only(&mut sections, Keyword::Any, end)?,
         alphabet: only(&mut sections, Keyword::Alphabet, end)?,
+        subsets: every(&mut sections, Keyword::Subset),
         pairs: only(&mut sections, Keyword::Pairs, end)?,
         rules: every(&mut sections, Keyword::Rule),
         lexicons,

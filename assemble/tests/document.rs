@@ -1,4 +1,4 @@
-//! The example in GRAMMARS.md is the luz grammar.
+//! The example in GRAMMARS.md is the luz grammar, and what it shows of sets stands in quichua.
 
 mod support;
 
@@ -25,4 +25,25 @@ fn example(document: &str) -> String {
 fn the_example_gives_the_image_of_luz() {
     let image = assembled(&example(&document())).unwrap();
     assert!(image == assembled(&sample("luz")).unwrap(), "the example is another grammar");
+}
+
+/// The indented lines after the line `heading`, up to the first that is not.
+fn lines_after<'a>(document: &'a str, heading: &str) -> Vec<&'a str> {
+    let after = document.lines().skip_while(|line| *line != heading).skip(1);
+    let lines = after.skip_while(|line| line.is_empty()).take_while(|line| line.starts_with("    ")).map(str::trim);
+    lines.collect()
+}
+
+#[test]
+fn the_sets_and_their_rule_are_those_of_quichua() {
+    let document = document();
+    let quichua = sample("quichua");
+    let lines: Vec<&str> = quichua.lines().map(str::trim).collect();
+    let shown = lines_after(&document, "### SUBSET");
+    assert!(shown.len() > 1 && shown.iter().all(|line| lines.contains(line)), "{shown:?}");
+    let rule = lines_after(
+        &document,
+        "A side of a column is one character (a letter, the null, the boundary or `@`) or the name of a set:",
+    );
+    assert!(rule.len() > 1 && lines.windows(rule.len()).any(|here| here == rule), "{rule:?}");
 }

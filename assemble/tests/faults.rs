@@ -101,7 +101,7 @@ fn of_bytes_that_are_not_utf_8() {
 
 #[test]
 fn of_sections() {
-    let order = "sections stand in this order: BOUNDARY, NULL, ANY and ALPHABET, then PAIRS, RULE, LEXICON, END";
+    let order = "sections stand in this order: BOUNDARY, NULL, ANY and ALPHABET, then SUBSET and PAIRS, then RULE, LEXICON, END";
     check(
         "faults-sections",
         &[
@@ -118,6 +118,11 @@ fn of_sections() {
                 &format!("RULE after LEXICON; {order}"),
             ),
             ("LEXICON Number", "PAIRS z:z\nLEXICON Number", 22, &format!("PAIRS after LEXICON; {order}")),
+            ("LEXICON Noun", "SUBSET Late c\nLEXICON Noun", 19, &format!("SUBSET after RULE; {order}")),
+            ("LEXICON Number", "SUBSET Late c\nLEXICON Number", 22, &format!("SUBSET after LEXICON; {order}")),
+            ("ANY @", "SUBSET Early #\nANY @", 5, &format!("ANY after SUBSET; {order}")),
+            ("ALPHABET", "SUBSET Early c\nALPHABET", 6, &format!("ALPHABET after SUBSET; {order}")),
+            ("END\n", "END\nSUBSET Late c\n", 26, "only comments may follow END"),
             ("END\n", "", 24, "no END after this; the text may have been cut off"),
             ("END\n", "END\n; a comment\n  +s #\n", 27, "only comments may follow END"),
             ("END\n", "END\nEND\n", 26, "only comments may follow END"),
@@ -155,6 +160,53 @@ fn of_letters() {
     );
 }
 
+/// Each text puts sets before the pairs, in line 8 and after.
+#[test]
+fn of_sets() {
+    let takes = "SUBSET takes a name, without quotation marks, and then letters";
+    let cases = [
+        ("SUBSET", 8, takes),
+        ("SUBSET \"Front\" e", 8, takes),
+        ("SUBSET\n  Front e", 8, takes),
+        ("SUBSET Front", 8, "set Front has no letters"),
+        ("SUBSET Front ; e", 8, "set Front has no letters"),
+        ("SUBSET c e", 8, "c cannot name a set: it is a letter"),
+        ("SUBSET 0 e", 8, "0 cannot name a set: it is the null"),
+        ("SUBSET # e", 8, "# cannot name a set: it is the boundary"),
+        ("SUBSET @ e", 8, "@ cannot name a set: it stands for any letter"),
+        ("SUBSET END e", 8, "END cannot name a set: it is a keyword"),
+        ("SUBSET SUBSET e", 8, "SUBSET cannot name a set: it is a keyword"),
+        ("SUBSET Front e\nSUBSET Front e", 9, "a second set Front; the first is in line 8"),
+        ("SUBSET Front e\nSUBSET Low u\nSUBSET Front", 10, "a second set Front; the first is in line 8"),
+        ("SUBSET Front e\n  u e", 9, "letter e (U+0065) is in set Front already"),
+        ("SUBSET Front 0 0", 8, "letter 0 (U+0030) is in set Front already"),
+        ("SUBSET Front # e #", 8, "letter # (U+0023) is in set Front already"),
+        ("SUBSET Front e\n\n  k", 10, "k (U+006B) is no letter of the alphabet"),
+        ("SUBSET Front e @", 8, "@ stands for any letter, which only a rule's column may"),
+        ("SUBSET Front \"e\"", 8, "a letter stands without quotation marks"),
+        ("SUBSET Front eu", 8, "eu: a letter is one character, and this is U+0065 U+0075"),
+        ("SUBSET Low u\nSUBSET Front e Low", 9, "Low: a letter is one character, and this is U+004C U+006F U+0077"),
+        ("SUBSET Front \u{10000}", 8, "letter \u{10000} (U+10000) lies above U+FFFF"),
+    ];
+    let texts = cases.map(|(sets, ..)| format!("{sets}\nPAIRS"));
+    let cases: Vec<Case> =
+        texts.iter().zip(cases).map(|(text, (_, line, what))| ("PAIRS", &text[..], line, what)).collect();
+    check("faults-sets", &cases);
+}
+
+#[test]
+fn all_faults_of_sets_are_told_and_hide_those_of_pairs() {
+    let text = edited("PAIRS", "SUBSET c e\nSUBSET Front k e e\nSUBSET Low\nPAIRS").replace("u:u", "u:k");
+    let ran = refused("faults-several-sets", text.as_bytes());
+    let stderr = "\
+grammar.txt:8: c cannot name a set: it is a letter
+grammar.txt:9: k (U+006B) is no letter of the alphabet
+grammar.txt:9: letter e (U+0065) is in set Front already
+grammar.txt:10: set Low has no letters
+";
+    assert_eq!(ran, Ran { code: Some(1), stdout: String::new(), stderr: stderr.to_string() });
+}
+
 #[test]
 fn of_pairs() {
     check(
@@ -179,6 +231,7 @@ fn of_pairs() {
 fn of_rule_tables() {
     let heading = "RULE takes a name in quotation marks, the count of states, and of columns";
     let letters = "a rule has a row of lexical letters and a row of surface letters";
+    let side = "a side of a column is one character or the name of a set";
     let next = "a next state is a number from 0 to 5";
     check(
         "faults-rules",
@@ -193,8 +246,10 @@ fn of_rule_tables() {
             ("RULE \"Z\" 5 5", "RULE \"Z\" 6 5", 18, "5 rows where the rule has 6 states"),
             ("RULE \"Z\" 5 5", "RULE \"Z\" 5 4", 12, "5 lexical letters where the rule has 4 columns"),
             ("c z 0 e @", "c z 0 e", 13, "4 surface letters where the rule has 5 columns"),
-            ("c z 0 e @", "c z 0 e k", 13, "k (U+006B) is no letter of the alphabet"),
-            ("Z Z + e @", "Z Z + e any", 12, "a side of a column is one character"),
+            ("c z 0 e @", "c z 0 e k", 13, "k (U+006B) is no letter of the alphabet, and no set is called so"),
+            ("Z Z + e @", "Z Z + e any", 12, &format!("no set is called any; {side}")),
+            ("c z 0 e @", "c z 0 e e\u{301}", 13, &format!("no set is called e\u{301}; {side}")),
+            ("Z Z + e @", "Z Z + e \"@\"", 12, &format!("{side}, without quotation marks")),
             ("RULE \"Z\" 5 5", "RULE \"empty\" 1 1\nRULE \"Z\" 5 5", 11, letters),
             ("RULE \"Z\" 5 5", "RULE \"empty\" 1 1\n  @\nRULE \"Z\" 5 5", 12, letters),
             ("4: 3 2", "5: 3 2", 17, "the row of state 4 begins with 4: if it is final, else 4."),
@@ -251,6 +306,37 @@ fn of_columns() {
 }
 
 #[test]
+fn of_columns_with_sets() {
+    let with_sets = |columns: &str| {
+        let text = edited("PAIRS", "SUBSET Front e c\nSUBSET V e u\nPAIRS");
+        text.replace("     Z Z + e @\n     c z 0 e @\n", columns)
+    };
+    for (columns, line, what) in [
+        (
+            "Z Z + Fron @\nc z 0 e @\n",
+            14,
+            "no set is called Fron; a side of a column is one character or the name of a set",
+        ),
+        ("Z Z + W @\nc z 0 e @\n", 14, "W (U+0057) is no letter of the alphabet, and no set is called so"),
+        (
+            "Z Z Front V @\nc z @ @ @\n",
+            14,
+            "rule \"Z\": for the pair e:e columns 3 (Front:@) and 4 (V:@) are equally narrow",
+        ),
+        (
+            "V V Z + @\ne Front @ @ @\n",
+            14,
+            "rule \"Z\": for the pair e:e columns 1 (V:e) and 2 (V:Front) are equally narrow",
+        ),
+        ("Z Z + e Front\nc z 0 e @\n", 14, "rule \"Z\": no column matches the pair l:l"),
+    ] {
+        let ran = refused("faults-columns-sets", with_sets(columns).as_bytes());
+        let stderr = format!("grammar.txt:{line}: {what}\n");
+        assert_eq!(ran, Ran { code: Some(1), stdout: String::new(), stderr }, "{columns:?}");
+    }
+}
+
+#[test]
 fn of_lexicons() {
     let name = "LEXICON takes one name, without quotation marks";
     check(
@@ -260,6 +346,7 @@ fn of_lexicons() {
             ("LEXICON Noun", "LEXICON Noun Verb", 19, name),
             ("LEXICON Noun", "LEXICON \"Noun\"", 19, name),
             ("LEXICON Noun", "LEXICON END", 19, "END cannot name a lexicon"),
+            ("LEXICON Noun", "LEXICON SUBSET", 19, "SUBSET cannot name a lexicon"),
             ("LEXICON Noun", "LEXICON #", 19, "# cannot name a lexicon"),
             ("LEXICON Noun", "LEXICON Number", 22, "a second lexicon Number; the first is in line 19"),
             ("luZ Number", "luZ Plural", 20, "no lexicon is called Plural; # in its place ends the word"),

@@ -84,7 +84,7 @@ fn a_faulty_grammar_lists_and_writes_nothing() {
     let folder = luz_folder("files-faulty");
     for slip in ["luk  Number", "luz  Number"] {
         fs::write(folder.join("faulty.txt"), sample("luz").replace("luc  Number", slip)).unwrap();
-        for option in ["--letters", "--pairs", "--entries", "--words"] {
+        for option in ["--letters", "--pairs", "--sets", "--entries", "--words"] {
             fails(run(&folder, &[option, "faulty.txt"], b"luz\n"), "faulty.txt:");
         }
         for image in ["luz.img", "new.img"] {

@@ -1,4 +1,5 @@
-//! The check that the other tests lean on refuses the small example of each of document 01's refusals.
+//! The check that the other tests lean on refuses the small example of each of document 01's refusals, and what document 02
+//! refuses of sets.
 
 mod support;
 
@@ -13,12 +14,21 @@ fn luz() -> Vec<u8> {
 
 /// luz with one byte set and the blocks sealed again.
 fn altered(block: usize, byte: usize, value: u8) -> Vec<u8> {
-    let mut image = luz();
+    with(luz(), block, byte, value)
+}
+
+fn with(mut image: Vec<u8>, block: usize, byte: usize, value: u8) -> Vec<u8> {
     let place = &mut image[BLOCK * block + byte];
     assert_ne!(*place, value, "the alteration changes nothing");
     *place = value;
     seal(&mut image);
     image
+}
+
+/// luz with two sets, of which set 1 stands for e in its rule's fourth column.
+fn luz_with_sets() -> Vec<u8> {
+    let text = sample("luz").replace("PAIRS ", "SUBSET Low c u\nSUBSET Front e\nPAIRS ");
+    assembled(&text.replace("     Z Z + e @\n", "     Z Z + Front @\n")).unwrap()
 }
 
 #[test]
@@ -51,6 +61,31 @@ fn a_wrong_layout_is_refused_with_3() {
     assert_eq!(refusal(&altered(1, 2, 3)), Some(3), "a kind");
     assert_eq!(refusal(&altered(1, 3, 8)), Some(3), "a record count");
     assert_eq!(refusal(&altered(5, 509, 1)), Some(3), "an unused byte");
+    assert_eq!(refusal(&altered(0, 18, 1)), Some(3), "an unused byte after the sixth count");
+}
+
+#[test]
+fn a_wrong_layout_of_sets_is_refused_with_3() {
+    let image = luz_with_sets();
+    let altered = |block, byte, value| refusal(&with(image.clone(), block, byte, value));
+    assert_eq!(refusal(&image), None);
+    assert_eq!(altered(0, 16, 32), Some(3), "N = 32");
+    assert_eq!(altered(0, 17, 1), Some(3), "N = 258");
+    assert_eq!(altered(0, 16, 0), Some(3), "a block of sets where N is 0");
+    assert_eq!(altered(0, 16, 1), Some(3), "a record count other than N");
+    assert_eq!(altered(3, 3, 1), Some(3), "N other than the record count");
+    assert_eq!(altered(3, 2, 6), Some(3), "a kind");
+    assert_eq!(altered(3, 4 + 2 * 16, 1), Some(3), "a byte after the last set");
+    assert_eq!(altered(3, 509, 1), Some(3), "the last byte before the check");
+    assert_eq!(refusal(&with(luz(), 0, 16, 1)), Some(3), "no block of sets where N is 1");
+    let mut behind = image.clone();
+    behind[3 * BLOCK..5 * BLOCK].rotate_left(BLOCK);
+    seal(&mut behind);
+    assert_eq!(refusal(&behind), Some(3), "sets after the rule");
+    let mut twice = image.clone();
+    twice.splice(3 * BLOCK..3 * BLOCK, image[3 * BLOCK..4 * BLOCK].to_vec());
+    seal(&mut twice);
+    assert_eq!(refusal(&twice), Some(3), "two blocks of sets");
 }
 
 #[test]
@@ -79,6 +114,45 @@ fn a_wrong_table_is_refused_with_6() {
     assert_eq!(refusal(&altered(3, 16, 2)), Some(6), "a mark");
     assert_eq!(refusal(&altered(3, 21, 6)), Some(6), "a next state over S");
     assert_eq!(refusal(&altered(3, 509, 1)), Some(6), "a byte after the last row");
+}
+
+#[test]
+fn a_wrong_set_or_side_is_refused_with_6() {
+    let image = luz_with_sets();
+    let altered = |block, byte, value| refusal(&with(image.clone(), block, byte, value));
+    // Letter 9 is the last: bit 1 of byte 1.
+    assert_eq!(altered(3, 5, 2), None, "letter 9");
+    assert_eq!(altered(3, 5, 4), Some(6), "letter 10");
+    assert_eq!(altered(3, 5 + 16, 4), Some(6), "letter 10 in the last set");
+    assert_eq!(altered(3, 4 + 15, 128), Some(6), "letter 127");
+    assert_eq!(altered(3, 4, 3), None, "the null and the boundary");
+    // The fourth column's lexical side.
+    assert_eq!(image[4 * BLOCK + 12], 129);
+    for side in [10, 120, 121, 127, 130, 158, 159, 254] {
+        assert_eq!(altered(4, 12, side), Some(6), "side {side}");
+    }
+    assert_eq!(altered(4, 12, 128), None, "set 0");
+    assert_eq!(altered(4, 12, 4), None, "e");
+    assert_eq!(refusal(&with(luz(), 3, 12, 128)), Some(6), "a set where there is none");
+}
+
+#[test]
+fn a_set_without_letters_matches_nothing() {
+    let none = with(luz_with_sets(), 3, 4 + 16, 0);
+    assert_eq!(refusal(&none), None, "e:e takes @:@");
+    // The last column's lexical side.
+    assert_eq!(refusal(&with(none, 4, 14, 129)), Some(7), "no column for c:c");
+}
+
+#[test]
+fn two_sets_that_are_equally_narrow_are_refused_with_7() {
+    let mut tie = luz_with_sets();
+    // Z:c and Z:z become Low:@ and Front:@, and Front has c and e where Low has c and u.
+    tie[4 * BLOCK + 6..4 * BLOCK + 10].copy_from_slice(&[128, 255, 129, 255]);
+    tie[3 * BLOCK + 4 + 16] = 1 << 3 | 1 << 4;
+    seal(&mut tie);
+    assert_eq!(refusal(&tie), Some(7), "c:c");
+    assert_eq!(refusal(&with(tie, 3, 4 + 16, 1 << 3)), None, "Front has c alone");
 }
 
 #[test]

@@ -1,15 +1,16 @@
-//! The limits of document 01, each at its edge and with the first value past it.
+//! The limits of documents 01 and 02, each at its edge and with the first value past it.
 
 mod support;
 
 use support::assembled;
-use support::check::{counts, entries, refusal};
+use support::check::{counts, entries, refusal, sets, tables};
 
 /// The counts of a grammar made to measure.
 #[derive(Clone, Copy)]
 struct Sizes {
     letters: usize,
     pairs: usize,
+    sets: usize,
     rules: usize,
     columns: usize,
     states: usize,
@@ -19,10 +20,19 @@ struct Sizes {
 }
 
 const SMALL: Sizes =
-    Sizes { letters: 20, pairs: 19, rules: 1, columns: 2, states: 2, lexicons: 2, entries: 4, form: 3 };
+    Sizes { letters: 20, pairs: 19, sets: 0, rules: 1, columns: 2, states: 2, lexicons: 2, entries: 4, form: 3 };
 
-const LARGEST: Sizes =
-    Sizes { letters: 120, pairs: 250, rules: 32, columns: 16, states: 24, lexicons: 64, entries: 2_800, form: 12 };
+const LARGEST: Sizes = Sizes {
+    letters: 120,
+    pairs: 250,
+    sets: 31,
+    rules: 32,
+    columns: 16,
+    states: 24,
+    lexicons: 64,
+    entries: 2_800,
+    form: 12,
+};
 
 /// Letter 2, 3, ..
 fn letter(at: usize) -> char {
@@ -36,17 +46,25 @@ fn pairs(sizes: Sizes) -> Vec<(char, char)> {
     all.take(sizes.pairs).collect()
 }
 
-/// A rule that watches the first letters with themselves, and any pair in its last column.
+/// A rule that watches the last sets with themselves, then the first letters, and any pair in its last column. Set k is
+/// called sk and has letter k from the end, so that the two never meet.
 fn rule(sizes: Sizes) -> String {
-    let watched: String = (1..sizes.columns).map(|k| format!("{} ", letter(k - 1))).collect();
+    let set_names = (0..sizes.sets).rev().map(|k| format!("s{k} "));
+    let letters = (0..).map(|k| format!("{} ", letter(k)));
+    let watched: String = set_names.chain(letters).take(sizes.columns.saturating_sub(1)).collect();
     let row = format!(" {}", sizes.states).repeat(sizes.columns);
     let rows: String = (1..=sizes.states).map(|state| format!("{state}:{row}\n")).collect();
     format!("RULE \"r\" {} {}\n{watched}@\n{watched}@\n{rows}", sizes.states, sizes.columns)
 }
 
+fn last_letter(sizes: Sizes, k: usize) -> char {
+    letter(sizes.letters - 2 - k)
+}
+
 fn text(sizes: Sizes) -> String {
     let mut text = "BOUNDARY #\nNULL 0\nANY @\nALPHABET\n".to_string();
     text.extend((0..sizes.letters - 1).map(|k| format!("{}\n", letter(k))));
+    text.extend((0..sizes.sets).map(|k| format!("SUBSET s{k} {}\n", last_letter(sizes, k))));
     text += "PAIRS\n";
     text.extend(pairs(sizes).iter().map(|(lexical, surface)| format!("{lexical}:{surface}\n")));
     text += &rule(sizes).repeat(sizes.rules);
@@ -69,8 +87,8 @@ fn accepted(sizes: Sizes) -> Vec<u8> {
     let image = assembled(&text(sizes)).unwrap();
     assert_eq!(refusal(&image), None);
     let c = counts(&image);
-    let found = (c.letters, c.pairs, c.rules, c.lexicons, c.entries);
-    assert_eq!(found, (sizes.letters, sizes.pairs, sizes.rules, sizes.lexicons, sizes.entries));
+    let found = (c.letters, c.pairs, c.sets, c.rules, c.lexicons, c.entries);
+    assert_eq!(found, (sizes.letters, sizes.pairs, sizes.sets, sizes.rules, sizes.lexicons, sizes.entries));
     image
 }
 
@@ -83,7 +101,8 @@ fn refused(text: &str, at: &str, what: &str) {
 
 #[test]
 fn all_limits_at_once() {
-    assert_eq!(accepted(LARGEST).len(), 127 * 512);
+    assert_eq!(accepted(LARGEST).len(), 128 * 512);
+    assert_eq!(accepted(Sizes { sets: 0, ..LARGEST }).len(), 127 * 512);
 }
 
 #[test]
@@ -120,6 +139,27 @@ fn pairs_at_their_limits() {
     // The only pair has the first letter, so forms have no other.
     accepted(Sizes { pairs: 1, form: 1, ..SMALL });
     refused(&text(Sizes { pairs: 0, rules: 0, ..SMALL }), "PAIRS", "0 pairs; allowed are 1 to 250");
+}
+
+#[test]
+fn sets_at_their_limits() {
+    let room = Sizes { letters: 40, pairs: 39, ..SMALL };
+    let image = accepted(Sizes { sets: 31, ..room });
+    assert_eq!(sets(&image)[30], [10], "set 30 has letter 10 alone");
+    assert_eq!(&tables(&image)[0][..6], [2, 2, 158, 158, 255, 255], "set 30 is a side");
+    let over = text(Sizes { sets: 32, ..room });
+    refused(&over, "SUBSET s31", "32 sets; allowed are 0 to 31");
+    accepted(Sizes { sets: 1, ..SMALL });
+}
+
+/// The null, the boundary and every letter: 121 bits of 128.
+#[test]
+fn letters_of_a_set() {
+    let all: Vec<String> = (0..119).map(|k| letter(k).to_string()).collect();
+    let text =
+        text(Sizes { letters: 120, ..SMALL }).replace("PAIRS", &format!("SUBSET All 0 # {}\nPAIRS", all.join(" ")));
+    let image = assembled(&text).unwrap();
+    assert_eq!((refusal(&image), sets(&image)), (None, vec![(0..=120).collect()]));
 }
 
 #[test]
@@ -189,6 +229,8 @@ fn the_first_too_many_gives_the_line() {
     assert_eq!(line(&letters), last_line(&letters, &letter(119).to_string()));
     let pairs = text(Sizes { pairs: 253, ..SMALL });
     assert_eq!(line(&pairs), last_line(&pairs, "RULE") - 3);
+    let sets = text(Sizes { letters: 40, pairs: 39, sets: 34, ..SMALL });
+    assert_eq!(line(&sets), last_line(&sets, "SUBSET s31"));
     let rules = text(Sizes { rules: 35, ..SMALL });
     assert_eq!(line(&rules), last_line(&rules, "RULE") - 2 * rule(SMALL).lines().count());
     let lexicons = text(Sizes { lexicons: 67, entries: 67, ..SMALL });

@@ -1,4 +1,4 @@
-//! The lists of luz, and words turned into letter numbers.
+//! The lists of luz, the sets of quichua, and words turned into letter numbers.
 
 mod support;
 
@@ -18,6 +18,14 @@ fn letters_by_number() {
 fn pairs_by_number() {
     let right = "0\t+:0\n1\tc:c\n2\te:e\n3\tl:l\n4\ts:s\n5\tu:u\n6\tZ:c\n7\tZ:z\n";
     assert_eq!(luz("--pairs", b""), Ran { code: Some(0), stdout: right.into(), stderr: String::new() });
+}
+
+#[test]
+fn sets_by_number() {
+    let none = Ran { code: Some(0), stdout: String::new(), stderr: String::new() };
+    assert_eq!(luz("--sets", b""), none);
+    let ran = run(anywhere(), &["--sets".as_ref(), sample_path("quichua").as_os_str()], b"");
+    assert_eq!(ran, Ran { stdout: "0\tFtr\ty n r\n1\tCPos\tq ǧ Q\n".into(), ..none });
 }
 
 #[test]

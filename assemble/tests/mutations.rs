@@ -2,8 +2,8 @@
 
 mod support;
 
-use assemble::{list_entries, list_letters, list_pairs, read_grammar, sealed_image};
-use support::check::refusal;
+use assemble::{list_entries, list_letters, list_pairs, list_sets, read_grammar, sealed_image};
+use support::check::{counts, refusal};
 use support::sample;
 
 /// Numbers that look random and are the same in every run (xorshift).
@@ -19,7 +19,7 @@ impl Random {
 }
 
 /// Pieces that a slip may put in: what the format gives a meaning, and what it does not expect.
-const PIECES: [&str; 24] = [
+const PIECES: [&str; 27] = [
     " ",
     "\n",
     "\t",
@@ -40,6 +40,9 @@ const PIECES: [&str; 24] = [
     "END",
     "LEXICON",
     "PAIRS",
+    "SUBSET",
+    " CPos ",
+    "\nSUBSET V # 0 e\n",
     "\u{301}",
     "\u{10000}",
     "\u{feff}",
@@ -71,7 +74,9 @@ fn try_text(text: &[u8]) -> bool {
     match read_grammar(text) {
         Ok(grammar) => {
             let shown = String::from_utf8_lossy(text);
-            assert_eq!(refusal(&sealed_image(&grammar)), None, "{shown}");
+            let image = sealed_image(&grammar);
+            assert_eq!(refusal(&image), None, "{shown}");
+            assert_eq!(list_sets(&grammar).lines().count(), counts(&image).sets, "{shown}");
             for list in [list_letters, list_pairs, list_entries] {
                 assert!(!list(&grammar).is_empty(), "{shown}");
             }
@@ -85,8 +90,8 @@ fn try_text(text: &[u8]) -> bool {
 }
 
 /// Counts the texts that gave an image and those that did not.
-fn try_texts(name: &str, rounds: usize) -> (usize, usize) {
-    let whole = sample(name).into_bytes();
+fn try_texts(text: String, rounds: usize) -> (usize, usize) {
+    let whole = text.into_bytes();
     let mut random = Random(0x2545_f491_4f6c_dd1d);
     let (mut taken, mut refused) = (0, 0);
     for _ in 0..rounds {
@@ -105,12 +110,21 @@ fn try_texts(name: &str, rounds: usize) -> (usize, usize) {
 
 #[test]
 fn luz_with_slips() {
-    let (taken, refused) = try_texts("luz", 4_000);
+    let (taken, refused) = try_texts(sample("luz"), 4_000);
     assert!(taken > 100 && refused > 100, "{taken} taken, {refused} refused");
 }
 
 #[test]
 fn quichua_with_slips() {
-    let (taken, refused) = try_texts("quichua", 150);
+    let (taken, refused) = try_texts(sample("quichua"), 150);
     assert!(taken > 10 && refused > 10, "{taken} taken, {refused} refused");
+}
+
+/// Most of quichua is lexicon; with a few stems left, most slips meet its letters, sets and rules.
+#[test]
+fn the_sets_of_quichua_with_slips() {
+    let text = sample("quichua");
+    let rules = text.find("; SOUNDS OF SUFFIXES").unwrap();
+    let (taken, refused) = try_texts(format!("{}LEXICON V\nqeq #\niyqa #\nEND\n", &text[..rules]), 4_000);
+    assert!(taken > 100 && refused > 100, "{taken} taken, {refused} refused");
 }

@@ -2,7 +2,7 @@
 
 mod support;
 
-use support::check::{counts, entries, lexicon_counts, pairs, refusal};
+use support::check::{counts, entries, lexicon_counts, pairs, refusal, sets};
 use support::{anywhere, assembled, run, sample, sample_path, scratch, SAMPLES};
 
 fn list(option: &str, sample: &str) -> Vec<Vec<String>> {
@@ -49,6 +49,23 @@ fn letters_and_pairs_are_listed_as_the_image_has_them() {
             })
             .collect();
         assert_eq!(list("--pairs", sample), right, "{sample}");
+    }
+}
+
+#[test]
+fn sets_are_listed_as_the_image_has_them() {
+    for sample in SAMPLES {
+        let image = image_of(sample);
+        let letters = list("--letters", sample);
+        let in_image = sets(&image);
+        let listed = list("--sets", sample);
+        assert_eq!((listed.len(), counts(&image).sets), (in_image.len(), in_image.len()), "{sample}");
+        for ((k, line), set) in listed.iter().enumerate().zip(in_image) {
+            let number = |letter: &str| letters.iter().position(|line| line[1] == letter).unwrap() as u8 + 1;
+            let mut numbers: Vec<u8> = line[2].split(' ').map(number).collect();
+            numbers.sort();
+            assert_eq!((&line[0], numbers), (&k.to_string(), set), "{sample}");
+        }
     }
 }
 

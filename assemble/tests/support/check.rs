@@ -1,4 +1,4 @@
-//! Document 01's image check, tests 1 to 8 and then 14, which document 02 adds, written from their text.
+//! Document 01's image check, tests 1 to 8, and then 14 and the sets, which document 02 adds, written from their text.
 
 const BLOCK: usize = 512;
 
@@ -46,6 +46,7 @@ pub struct Counts {
     pub rules: usize,
     pub lexicons: usize,
     pub entries: usize,
+    pub sets: usize,
 }
 
 pub fn counts(image: &[u8]) -> Counts {
@@ -57,6 +58,7 @@ pub fn counts(image: &[u8]) -> Counts {
         rules: count(3),
         lexicons: count(4),
         entries: count(5),
+        sets: count(6),
     }
 }
 
@@ -79,12 +81,16 @@ fn right_layout(image: &[u8]) -> bool {
         && (1..=250).contains(&c.pairs)
         && c.rules <= 32
         && (1..=64).contains(&c.lexicons)
-        && (1..=2_800).contains(&c.entries);
+        && (1..=2_800).contains(&c.entries)
+        && c.sets <= 31;
     if !within {
         return false;
     }
     // Kind, record count and record width of every block.
-    let mut blocks = vec![(1, 1, 12), (2, c.letters, 2), (3, c.pairs, 2)];
+    let mut blocks = vec![(1, 1, 14), (2, c.letters, 2), (3, c.pairs, 2)];
+    if c.sets > 0 {
+        blocks.push((7, c.sets, 16));
+    }
     blocks.extend(vec![(4, 1, 506); c.rules]);
     blocks.push((5, c.lexicons, 2));
     let mut rest = c.entries;
@@ -128,9 +134,25 @@ fn right_pairs(image: &[u8]) -> bool {
     })
 }
 
+/// The letters of each set: bit b of byte j is letter 8j + b.
+pub fn sets(image: &[u8]) -> Vec<Vec<u8>> {
+    let block = &image[3 * BLOCK..];
+    let has = |set: usize, letter: u8| block[4 + 16 * set + letter as usize / 8] >> (letter % 8) & 1 == 1;
+    (0..counts(image).sets).map(|set| (0..128).filter(|&letter| has(set, letter)).collect()).collect()
+}
+
+/// The block of the first rule: the fourth, or the fifth where there are sets.
+fn first_table(image: &[u8]) -> usize {
+    if counts(image).sets > 0 {
+        4
+    } else {
+        3
+    }
+}
+
 /// The 506 bytes of each table.
-fn tables(image: &[u8]) -> Vec<&[u8]> {
-    let blocks = image.chunks(BLOCK).skip(3).take(counts(image).rules);
+pub fn tables(image: &[u8]) -> Vec<&[u8]> {
+    let blocks = image.chunks(BLOCK).skip(first_table(image)).take(counts(image).rules);
     blocks.map(|block| &block[4..510]).collect()
 }
 
@@ -138,31 +160,39 @@ fn columns(table: &[u8]) -> Vec<(u8, u8)> {
     (0..table[0] as usize).map(|k| (table[2 + 2 * k], table[3 + 2 * k])).collect()
 }
 
-// 6: C, S, a column side, mark or next state out of range, or a byte after a table's last row not 0.
+// 6: C, S, a column side, mark or next state out of range, or a byte after a table's last row not 0; a bit above L, or a
+// side that names a missing set.
 fn right_tables(image: &[u8]) -> bool {
-    let letters = counts(image).letters;
-    tables(image).into_iter().all(|table| {
-        let (c, s) = (table[0] as usize, table[1] as usize);
-        if !(1..=16).contains(&c) || !(1..=24).contains(&s) {
-            return false;
-        }
-        let (sides, rest) = table[2..].split_at(2 * c);
-        let (marks, rest) = rest.split_at(s);
-        let (rows, unused) = rest.split_at(s * c);
-        sides.iter().all(|&side| side as usize <= letters || side == 255)
-            && marks.iter().all(|&mark| mark <= 1)
-            && rows.iter().all(|&next| next as usize <= s)
-            && unused.iter().all(|&byte| byte == 0)
-    })
+    let Counts { letters, sets: set_count, .. } = counts(image);
+    let right_side = |side: usize| side <= letters || (128..128 + set_count).contains(&side) || side == 255;
+    let right_sets = sets(image).iter().flatten().all(|&letter| letter as usize <= letters);
+    right_sets
+        && tables(image).into_iter().all(|table| {
+            let (c, s) = (table[0] as usize, table[1] as usize);
+            if !(1..=16).contains(&c) || !(1..=24).contains(&s) {
+                return false;
+            }
+            let (sides, rest) = table[2..].split_at(2 * c);
+            let (marks, rest) = rest.split_at(s);
+            let (rows, unused) = rest.split_at(s * c);
+            sides.iter().all(|&side| right_side(side as usize))
+                && marks.iter().all(|&mark| mark <= 1)
+                && rows.iter().all(|&next| next as usize <= s)
+                && unused.iter().all(|&byte| byte == 0)
+        })
 }
 
 // 7: for a listed or the boundary pair a rule has no matching column, or two narrowest.
 fn right_columns(image: &[u8]) -> bool {
     let mut fed = pairs(image);
     fed.push((1, 1));
-    let matches = |column: (u8, u8), pair: (u8, u8)| {
-        (column.0 == 255 || column.0 == pair.0) && (column.1 == 255 || column.1 == pair.1)
+    let sets = sets(image);
+    let side_matches = |asked: u8, side: u8| match asked {
+        255 => true,
+        128.. => sets[asked as usize - 128].contains(&side),
+        _ => asked == side,
     };
+    let matches = |column: (u8, u8), pair: (u8, u8)| side_matches(column.0, pair.0) && side_matches(column.1, pair.1);
     tables(image).into_iter().all(|table| {
         fed.iter().all(|&pair| {
             let matching = columns(table).into_iter().filter(|&column| matches(column, pair));
@@ -181,13 +211,13 @@ fn right_columns(image: &[u8]) -> bool {
 /// The 16 bytes of each entry.
 pub fn entries(image: &[u8]) -> Vec<&[u8]> {
     let c = counts(image);
-    let blocks = image.chunks(BLOCK).skip(4 + c.rules);
+    let blocks = image.chunks(BLOCK).skip(first_table(image) + c.rules + 1);
     blocks.flat_map(|block| block[4..500].chunks(16)).take(c.entries).collect()
 }
 
 pub fn lexicon_counts(image: &[u8]) -> Vec<usize> {
     let c = counts(image);
-    (0..c.lexicons).map(|k| two(image, (3 + c.rules) * BLOCK + 4 + 2 * k)).collect()
+    (0..c.lexicons).map(|k| two(image, (first_table(image) + c.rules) * BLOCK + 4 + 2 * k)).collect()
 }
 
 // 8: lexicon counts don't add to E, or an entry breaks its layout.
