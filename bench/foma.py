@@ -8,7 +8,7 @@
 # The analyser is their composition. It has no limits: not of entries, pairs or nulls.
 import sys
 
-END, ANY, EMPTY = 255, 255, "@0@"
+END, ANY, FIRST_SET, EMPTY = 255, 255, 128, "@0@"
 
 
 def two(bytes, at):
@@ -23,9 +23,11 @@ class Image:
     def __init__(self, name):
         with open(name, "rb") as file:
             blocks = [block[4:510] for block in iter(lambda: file.read(512), b"")]
-        _, letters, pairs, rules, lexicons, entries = (two(blocks[0], 2 * i) for i in range(6))
+        _, letters, pairs, rules, lexicons, entries, sets = (two(blocks[0], 2 * i) for i in range(7))
         self.letters = [EMPTY] + [chr(two(blocks[1], 2 * i)) for i in range(letters)]
         self.pairs = [tuple(pair) for pair in chunks(blocks[2], 2, pairs)]
+        # A set as one number: its binary digit n is letter n.
+        self.sets = [int.from_bytes(record, "little") for record in chunks(blocks.pop(3), 16, sets)] if sets > 0 else []
         self.rules = blocks[3 : 3 + rules]
         self.counts = [two(blocks[3 + rules], 2 * i) for i in range(lexicons)]
         self.entries = [entry for block in blocks[4 + rules :] for entry in chunks(block, 16, 31)][:entries]
@@ -63,16 +65,22 @@ def surface(image):
     return [(0, 0, f"p{i}", image.letters[surface]) for i, (_, surface) in enumerate(image.pairs)], [0]
 
 
-def taken(columns, fed):
+def matches(asked, side, sets):
+    if FIRST_SET <= asked < FIRST_SET + len(sets):
+        return sets[asked - FIRST_SET] >> side & 1 == 1
+    return asked in (ANY, side)
+
+
+def taken(columns, fed, sets):
     # For each pair the place of its narrowest column.
-    matched = [[all(a in (ANY, b) for a, b in zip(column, pair)) for pair in fed] for column in columns]
+    matched = [[all(matches(a, b, sets) for a, b in zip(column, pair)) for pair in fed] for column in columns]
     matching = lambda i: [k for k in range(len(columns)) if matched[k][i]]
     return [min(matching(i), key=lambda k: sum(matched[k])) for i in range(len(fed))]
 
 
-def rule(table, pairs):
+def rule(table, image):
     columns, states = table[0], table[1]
-    *takes, boundary = taken(chunks(table[2:], 2, columns), pairs + [(1, 1)])
+    *takes, boundary = taken(chunks(table[2:], 2, columns), image.pairs + [(1, 1)], image.sets)
     marks = table[2 + 2 * columns :]
     rows = [[0] * columns] + [list(row) for row in chunks(marks[states:], columns, states)]
     start = rows[1][boundary]
@@ -97,7 +105,7 @@ def write(folder, name, automaton):
 
 mode, image, folder = sys.argv[1], Image(sys.argv[2]), sys.argv[3]
 parts = {"lexicon": lexicon(image, mode), "pairing": pairing(image)}
-parts |= {f"rule{k}": rule(table, image.pairs) for k, table in enumerate(image.rules)}
+parts |= {f"rule{k}": rule(table, image) for k, table in enumerate(image.rules)}
 parts["surface"] = surface(image)
 for name, automaton in parts.items():
     write(folder, name, automaton)

@@ -1,4 +1,4 @@
-/* The C entry at its limits: the largest image there is, with entries, pairs and rules up to the last, and listings of more than 65,536 readings. */
+/* The C entry at its limits: the largest image there is, with entries, pairs, sets and rules up to the last, and listings of more than 65,536 readings. */
 #define _DEFAULT_SOURCE
 #include "calls.h"
 
@@ -26,11 +26,11 @@ static uint8_t *add_block(struct image *image, uint8_t kind, size_t records)
     return block + 4;
 }
 
-static void add_header(struct image *image, size_t letters, size_t pairs, size_t rules, size_t lexicons, size_t entries)
+static void add_header(struct image *image, size_t letters, size_t pairs, size_t rules, size_t lexicons, size_t entries, size_t sets)
 {
-    size_t counts[] = {1, letters, pairs, rules, lexicons, entries};
+    size_t counts[] = {1, letters, pairs, rules, lexicons, entries, sets};
     uint8_t *header = add_block(image, 1, 1);
-    for (size_t i = 0; i < 6; i++)
+    for (size_t i = 0; i < 7; i++)
         put_two(header + 2 * i, counts[i]);
     uint8_t *points = add_block(image, 2, letters);
     for (size_t i = 0; i < letters; i++)
@@ -64,8 +64,24 @@ static struct bytes sealed(struct image *image)
 
 /* The largest image. Pairs 0 to 118 are x:x, 119 to 236 are x:x+1, the others x:0 for letters that no form has. The forms of lexicon 0 are two even
  * letters, all unlike. By entry number their paths end there, go on through lexicons 1 to 15, or through lexicons 49 to 63; all these have one entry,
- * which is empty. Only the last rule fails, and only for 64:64. */
-enum { STEMS = 2737, ENTRIES = 2800, NO_PAIR = 64 };
+ * which is empty. The first column of every rule but rule 0 has a set on both sides: two letters, and in all sets but the last the boundary too. Only the last
+ * rule fails, and only in that column: for 64:64 and 120:120. */
+enum { STEMS = 2737, ENTRIES = 2800, SETS = 31, BOUNDARY = 1, LAST = 120 };
+
+static int fails(uint8_t x)
+{
+    return x == 64 || x == LAST;
+}
+
+static void add_sets(struct image *image)
+{
+    uint8_t *set = add_block(image, 7, SETS);
+    for (unsigned k = 0; k < SETS; k++, set += 16) {
+        unsigned letters[] = {2 * (k + 2), LAST, k < SETS - 1 ? BOUNDARY : LAST};
+        for (size_t i = 0; i < 3; i++)
+            set[letters[i] / 8] |= (uint8_t)(1 << letters[i] % 8);
+    }
+}
 
 static struct bytes letters_of(size_t stem)
 {
@@ -96,7 +112,7 @@ static struct bytes path_of(size_t stem)
 static struct bytes largest(void)
 {
     static struct image image;
-    add_header(&image, 120, 250, 32, 64, ENTRIES);
+    add_header(&image, LAST, 250, 32, 64, ENTRIES, SETS);
     uint8_t *pair = add_block(&image, 3, 250);
     for (uint8_t x = 2; x <= 120; x++, pair += 2)
         pair[0] = pair[1] = x;
@@ -106,17 +122,20 @@ static struct bytes largest(void)
     }
     for (uint8_t x = 3; x <= 27; x += 2, pair += 2)
         pair[0] = x;
+    add_sets(&image);
     for (unsigned rule = 0; rule < 32; rule++) {
         uint8_t *table = add_block(&image, 4, 1), *columns = table + 2, *marks = columns + 32, *rows = marks + 24;
         table[0] = 16;
         table[1] = 24;
         for (unsigned c = 0; c < 15; c++)
             columns[2 * c] = columns[2 * c + 1] = (uint8_t)(2 * (rule + c + 1));
+        if (rule > 0)
+            columns[0] = columns[1] = (uint8_t)(128 + rule - 1);
         columns[30] = columns[31] = 255;
         memset(marks, 1, 24);
         for (unsigned s = 0; s < 24; s++)
             for (unsigned c = 0; c < 16; c++)
-                rows[16 * s + c] = rule == 31 && columns[2 * c] == NO_PAIR ? 0 : (uint8_t)((s + 1) % 24 + 1);
+                rows[16 * s + c] = rule == 31 && c == 0 ? 0 : (uint8_t)((s + 1) % 24 + 1);
     }
     uint8_t *counts = add_block(&image, 5, 64);
     put_two(counts, STEMS);
@@ -138,10 +157,10 @@ static void stem(struct bytes image, size_t e)
     uint8_t x = letters.at[0], y = letters.at[1];
     for (uint8_t i = 0; i < 2; i++)
         for (uint8_t j = 0; j < 2; j++) {
-            if (y + j > 120)
+            if (y + j > LAST)
                 continue;
             struct bytes word = BYTES(x + i, y + j), pairing = BYTES(i ? 117 + x : x - 2, j ? 117 + y : y - 2);
-            int passes = (i || x != NO_PAIR) && (j || y != NO_PAIR);
+            int passes = (i || !fails(x)) && (j || !fails(y));
             uint8_t *row = rows + ROW * n;
             put_row(row, path, pairing);
             judge(what, image, path, pairing, passes);
@@ -149,7 +168,7 @@ static void stem(struct bytes image, size_t e)
                 analyse(what, image, word, ROOM, passes ? 5 : 0, (struct bytes){row, passes ? ROW : 0});
             n += passes;
         }
-    generate(what, image, path, ROOM, 4 * n + 1, (struct bytes){rows, ROW * n});
+    generate(what, image, path, ROOM, n > 0 ? 4 * n + 1 : 0, (struct bytes){rows, ROW * n});
     form(what, image, e, 12, 4 * 2 + 1, letters);
 }
 
@@ -157,7 +176,7 @@ static void entries(void)
 {
     static const size_t edges[] = {255, 256, 1023, 1024, 2047, 2048, 2049, STEMS - 2, STEMS - 1};
     struct bytes image = largest();
-    check("largest image", image, image.length == 127 * BLOCK ? 1 : 0);
+    check("largest image", image, image.length == 128 * BLOCK ? 1 : 0);
     for (size_t e = 0; e < STEMS; e += 59)
         stem(image, e);
     for (size_t i = 0; i < sizeof edges / sizeof *edges; i++)
@@ -196,7 +215,7 @@ static struct entry alike(size_t e)
 static struct bytes many(void)
 {
     static struct image image;
-    add_header(&image, WAYS + 1, WAYS, 0, 2, 1 + FIRSTS + SECONDS);
+    add_header(&image, WAYS + 1, WAYS, 0, 2, 1 + FIRSTS + SECONDS, 0);
     uint8_t *pairs = add_block(&image, 3, WAYS);
     for (uint8_t i = 0; i < WAYS; i++) {
         pairs[2 * i] = 2;
