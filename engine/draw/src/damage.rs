@@ -2,7 +2,9 @@
 
 use crate::grammars::lexical_letters;
 use crate::prng::Prng;
-use crate::tables::{with_columns, Temper};
+use crate::set_damage;
+use crate::sets::{disguise, MOST};
+use crate::tables::{with_columns, Stock, Temper};
 use other_engine::draft::{Draft, DraftEntry};
 use other_engine::grammar::{columns_taken, matches, ANY, BOUNDARY, END, NULL};
 use other_engine::image::{block_check, seal, BLOCK};
@@ -21,9 +23,10 @@ fn certain(image: Vec<u8>, refusal: u8) -> Damaged {
 }
 
 /// Where things lie in the image of a draft.
-struct Place {
-    letters: usize,
+pub(crate) struct Place {
+    pub(crate) letters: usize,
     pairs: usize,
+    pub(crate) sets: usize,
     rules: usize,
     lexicons: usize,
     entries: usize,
@@ -32,15 +35,26 @@ struct Place {
 
 impl Place {
     fn of(draft: &Draft) -> Place {
-        let entries = draft.entries().count();
-        Place {
+        let mut place = Place {
             letters: draft.letters.len(),
             pairs: draft.pairs.len(),
+            sets: draft.sets.len(),
             rules: draft.tables.len(),
             lexicons: draft.lexicons.len(),
-            entries,
-            blocks: 4 + draft.tables.len() + entries.div_ceil(31),
-        }
+            entries: draft.entries().count(),
+            blocks: 0,
+        };
+        place.blocks = place.lexicon_block() + 1 + place.entries.div_ceil(31);
+        place
+    }
+
+    /// The first rule's block, or as many blocks as stand ahead of it.
+    fn first_rule(&self) -> usize {
+        3 + usize::from(self.sets > 0)
+    }
+
+    fn lexicon_block(&self) -> usize {
+        self.first_rule() + self.rules
     }
 
     fn letter(&self, number: usize) -> usize {
@@ -51,40 +65,54 @@ impl Place {
         2 * BLOCK + 4 + 2 * number
     }
 
+    pub(crate) fn set(&self, number: usize) -> usize {
+        3 * BLOCK + 4 + 16 * number
+    }
+
     fn table(&self, rule: usize) -> usize {
-        (3 + rule) * BLOCK + 4
+        (self.first_rule() + rule) * BLOCK + 4
     }
 
     fn lexicon(&self, number: usize) -> usize {
-        (3 + self.rules) * BLOCK + 4 + 2 * number
+        self.lexicon_block() * BLOCK + 4 + 2 * number
     }
 
     fn entry(&self, number: usize) -> usize {
-        (4 + self.rules + number / 31) * BLOCK + 4 + 16 * (number % 31)
+        (self.lexicon_block() + 1 + number / 31) * BLOCK + 4 + 16 * (number % 31)
     }
 
     /// The bytes of a block before its unused ones.
     fn used(&self, block: usize) -> usize {
         4 + match block {
-            0 => 12,
+            0 => 14,
             1 => 2 * self.letters,
             2 => 2 * self.pairs,
-            _ if block < 3 + self.rules => 506,
-            _ if block == 3 + self.rules => 2 * self.lexicons,
-            _ => 16 * (self.entries - 31 * (block - 4 - self.rules)).min(31),
+            _ if block < self.first_rule() => 16 * self.sets,
+            _ if block < self.lexicon_block() => 506,
+            _ if block == self.lexicon_block() => 2 * self.lexicons,
+            _ => 16 * (self.entries - 31 * (block - self.lexicon_block() - 1)).min(31),
+        }
+    }
+
+    /// A block, often one ahead of the rules.
+    fn some_block(&self, prng: &mut Prng) -> usize {
+        if prng.percent(25) {
+            prng.below(self.first_rule())
+        } else {
+            prng.below(self.blocks)
         }
     }
 }
 
-fn put(image: &mut [u8], at: usize, number: usize) {
+pub(crate) fn put(image: &mut [u8], at: usize, number: usize) {
     image[at..at + 2].copy_from_slice(&(number as u16).to_le_bytes());
 }
 
-fn get(image: &[u8], at: usize) -> usize {
+pub(crate) fn get(image: &[u8], at: usize) -> usize {
     usize::from(u16::from_le_bytes([image[at], image[at + 1]]))
 }
 
-fn resealed(mut image: Vec<u8>) -> Vec<u8> {
+pub(crate) fn resealed(mut image: Vec<u8>) -> Vec<u8> {
     // An image too long to be sealed is refused for that alone.
     let _ = seal(&mut image);
     image
@@ -172,11 +200,11 @@ fn in_place(prng: &mut Prng, place: &Place, image: &mut [u8], k: u8) {
         3 => match prng.below(4) {
             0 => put(image, 4, prng.one_of(&[0, 2, 256, 257, 257, 513, 65_535])),
             1 => {
-                let at = prng.below(place.blocks) * BLOCK + 2;
+                let at = place.some_block(prng) * BLOCK + 2;
                 image[at] = other_kind(prng, image[at]);
             }
             2 => {
-                let at = prng.below(place.blocks) * BLOCK + 3;
+                let at = place.some_block(prng) * BLOCK + 3;
                 image[at] = match prng.below(3) {
                     0 => image[at].wrapping_add(1),
                     1 => image[at].wrapping_sub(1),
@@ -187,7 +215,7 @@ fn in_place(prng: &mut Prng, place: &Place, image: &mut [u8], k: u8) {
                 // A block other than a rule's, whose table leaves no unused block bytes.
                 let rest = place.blocks - place.rules;
                 let drawn = prng.below(rest);
-                let block = if drawn < 3 {
+                let block = if drawn < place.first_rule() {
                     drawn
                 } else {
                     drawn + place.rules
@@ -233,6 +261,7 @@ fn in_place(prng: &mut Prng, place: &Place, image: &mut [u8], k: u8) {
                 _ => image[at + prng.below(2)] = 255,
             }
         }
+        6 if place.sets > 0 && prng.percent(25) => set_damage::bit_above(prng, place, image),
         6 => table_field(prng, place, image),
         7 => {
             // The last column becomes like the first, or matches nothing.
@@ -266,18 +295,14 @@ fn table_field(prng: &mut Prng, place: &Place, image: &mut [u8]) {
     let rows = marks + states;
     let rest = rows + states * columns;
     let end = at + 506;
-    match prng.below(8) {
+    match prng.below(9) {
         0 => image[at] = prng.one_of(&[0, 17, 18, 255]),
         1 => image[at + 1] = prng.one_of(&[0, 25, 26, 255]),
-        2 => {
+        2 | 3 => {
             let side = prng.between(at + 2, marks - 1);
-            image[side] = match prng.below(3) {
-                0 => (place.letters + 1) as u8,
-                1 => 254,
-                _ => prng.between(place.letters + 1, 254) as u8,
-            };
+            image[side] = set_damage::wrong_side(prng, place);
         }
-        3 => {
+        4 => {
             let mark = prng.between(marks, rows - 1);
             image[mark] = if prng.percent(50) {
                 2
@@ -285,7 +310,7 @@ fn table_field(prng: &mut Prng, place: &Place, image: &mut [u8]) {
                 prng.between(2, 255) as u8
             };
         }
-        4 | 5 => {
+        5 | 6 => {
             let next = prng.between(rows, rest - 1);
             let past = states + 1;
             image[next] = if prng.percent(60) {
@@ -490,7 +515,7 @@ fn past_modulus(prng: &mut Prng, draft: &Draft, higher: bool) -> Damaged {
 fn plan(prng: &mut Prng, draft: &Draft) -> Damaged {
     let place = Place::of(draft);
     let mut image = draft.image();
-    match prng.below(9) {
+    match prng.below(12) {
         0..=2 => {
             let with_rule = with_a_rule(draft);
             let mut image = with_rule.image();
@@ -498,8 +523,15 @@ fn plan(prng: &mut Prng, draft: &Draft) -> Damaged {
             return certain(resealed(image), 3);
         }
         3 => {
-            let (at, limit) =
-                prng.one_of(&[(6, 120), (8, 250), (10, 32), (12, 64), (14, 2_800usize)]);
+            let limits = [
+                (6, 120),
+                (8, 250),
+                (10, 32),
+                (12, 64),
+                (14, 2_800),
+                (16, MOST),
+            ];
+            let (at, limit) = prng.one_of(&limits);
             let old = get(&image, at);
             let new = match prng.below(6) {
                 0 => 0,
@@ -517,8 +549,8 @@ fn plan(prng: &mut Prng, draft: &Draft) -> Damaged {
             image.drain(block * BLOCK..(block + 1) * BLOCK);
         }
         7 => {
-            if place.blocks == 127 {
-                image.resize(128 * BLOCK, 0);
+            if place.blocks == 128 {
+                image.truncate(127 * BLOCK);
             } else {
                 match prng.below(3) {
                     0 => image.resize((place.blocks + 1) * BLOCK, 0),
@@ -532,9 +564,10 @@ fn plan(prng: &mut Prng, draft: &Draft) -> Damaged {
                 }
             }
         }
+        8..=10 => return certain(set_damage::layout(prng, draft), 3),
         _ => {
             // Two blocks of unlike kinds change places under right numbers.
-            let block = prng.below(3);
+            let block = prng.below(place.first_rule());
             let other = prng.between(block + 1, place.blocks - 1);
             for byte in 0..BLOCK {
                 image.swap(block * BLOCK + byte, other * BLOCK + byte);
@@ -578,6 +611,10 @@ fn past_limit(prng: &mut Prng, draft: &Draft) -> Damaged {
             draft.lexicons[last].resize(2_822 - rest, entry);
         }
     }
+    // A block too many would be refused for its length.
+    if Place::of(&draft).blocks > 128 {
+        draft.sets.clear();
+    }
     certain(draft.image(), 3)
 }
 
@@ -588,16 +625,16 @@ fn columns(prng: &mut Prng, draft: &Draft) -> Damaged {
     let old = draft.tables[rule].columns.clone();
     let pairs = draft.pairs.clone();
     let mut certainly = true;
-    let new = match prng.below(6) {
+    let new = match prng.below(9) {
         0 => {
             let victim = prng.one_of(&pairs);
             old.into_iter()
-                .filter(|&column| !matches(column, victim))
+                .filter(|&column| !matches(&draft.sets, column, victim))
                 .collect()
         }
         1 => old
             .into_iter()
-            .filter(|&column| !matches(column, (BOUNDARY, BOUNDARY)))
+            .filter(|&column| !matches(&draft.sets, column, (BOUNDARY, BOUNDARY)))
             .collect(),
         2 => {
             let mut new = old;
@@ -605,7 +642,7 @@ fn columns(prng: &mut Prng, draft: &Draft) -> Damaged {
                 let last = prng.below(16);
                 new.remove(last);
             }
-            match columns_taken(&new, &pairs) {
+            match columns_taken(&draft.sets, &new, &pairs) {
                 Some(taken) => {
                     let twin = new[prng.one_of(&taken)];
                     new.insert(prng.below(new.len() + 1), twin);
@@ -630,6 +667,7 @@ fn columns(prng: &mut Prng, draft: &Draft) -> Damaged {
             prng.shuffle(&mut new);
             new
         }
+        5..=7 => set_damage::columns(prng, &mut draft, &old),
         _ => pairs.iter().take(16).copied().collect(),
     };
     let new: Vec<(u8, u8)> = if new.is_empty() { vec![(0, 0)] } else { new };
@@ -639,7 +677,12 @@ fn columns(prng: &mut Prng, draft: &Draft) -> Damaged {
         finals: 80,
         staying: 30,
     };
-    draft.tables[rule] = with_columns(prng, &draft.pairs, new, states, &temper);
+    let stock = Stock {
+        letters: draft.letters.len(),
+        pairs: &draft.pairs,
+        sets: &draft.sets,
+    };
+    draft.tables[rule] = with_columns(prng, &stock, new, states, &temper);
     let refusal = certainly.then_some(7);
     Damaged {
         image: draft.image(),
@@ -680,10 +723,10 @@ fn unspelled(prng: &mut Prng, draft: &Draft) -> Draft {
         _ => form.push(letter),
     }
     // A rule that the changed pairs do not fit would be refused first.
-    let pairs = &draft.pairs;
+    let (sets, pairs) = (&draft.sets, &draft.pairs);
     draft
         .tables
-        .retain(|table| columns_taken(&table.columns, pairs).is_some());
+        .retain(|table| columns_taken(sets, &table.columns, pairs).is_some());
     draft
 }
 
@@ -739,7 +782,7 @@ fn some_entry(prng: &mut Prng, entries: usize) -> usize {
 /// Changes at the edge of what is refused, none of them over it.
 fn harmless(prng: &mut Prng, draft: &Draft) -> Damaged {
     let mut draft = draft.clone();
-    match prng.below(6) {
+    match prng.below(8) {
         0 => {
             let number = prng.below(draft.letters.len());
             let point = prng.one_of(&[1, 55_295, 57_344, 65_535]);
@@ -780,6 +823,13 @@ fn harmless(prng: &mut Prng, draft: &Draft) -> Damaged {
             let mut image = draft.image();
             let _ = seal(&mut image);
             return certain(image, 0);
+        }
+        5 => disguise(prng, &mut draft),
+        6 if draft.sets.len() < MOST => {
+            // A set more, that no side names.
+            let last = draft.letters.len() as u8;
+            let set = (0..=last).filter(|&x| x == last || prng.percent(50));
+            draft.sets.push(set.collect());
         }
         _ if draft.entries().count() < 2_000 => return past_modulus(prng, &draft, false),
         _ => {}

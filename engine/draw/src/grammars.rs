@@ -1,9 +1,10 @@
 //! Small grammars are drawn in several manners, each leaning on one part of the definition.
 
 use crate::prng::Prng;
-use crate::tables::{columns, table, temper, with_columns, Temper};
+use crate::sets::{disguise, how_many, sets, MOST};
+use crate::tables::{columns, table, temper, with_columns, Stock, Temper};
 use other_engine::draft::{Draft, DraftEntry, DraftTable};
-use other_engine::grammar::{ANY, END, NULL};
+use other_engine::grammar::{Set, ANY, END, NULL};
 
 /// A manner of drawing.
 type Manner = fn(&mut Prng) -> Draft;
@@ -84,17 +85,31 @@ fn pairs(prng: &mut Prng, letters: usize, insertions: usize, deletions: usize) -
     once_each(prng, pairs)
 }
 
-fn tables(prng: &mut Prng, pairs: &[(u8, u8)], letters: usize) -> Vec<DraftTable> {
+/// Some sets or none.
+fn some_sets(prng: &mut Prng, letters: usize, pairs: &[(u8, u8)]) -> Vec<Set> {
+    let count = how_many(prng);
+    sets(prng, letters, pairs, count)
+}
+
+/// Sets, and tables whose columns may name them.
+fn rules(prng: &mut Prng, letters: usize, pairs: &[(u8, u8)]) -> (Vec<Set>, Vec<DraftTable>) {
+    let sets = some_sets(prng, letters, pairs);
+    let stock = Stock {
+        letters,
+        pairs,
+        sets: &sets,
+    };
     let rules = match prng.weighted(&[15, 35, 24, 15, 10, 1]) {
         5 => prng.between(5, 32),
         few => few,
     };
-    (0..rules)
+    let tables = (0..rules)
         .map(|_| {
             let temper = temper(prng, rules);
-            table(prng, pairs, letters, &temper)
+            table(prng, &stock, &temper)
         })
-        .collect()
+        .collect();
+    (sets, tables)
 }
 
 /// The letters that are the lexical side of some pair.
@@ -205,10 +220,12 @@ fn mixed(prng: &mut Prng) -> Draft {
         going_on_empty: 1,
     };
     let lexicons = lexicons(prng, &alphabet, &spread);
+    let (sets, tables) = rules(prng, letters, &pairs);
     Draft {
         letters: code_points(prng, letters),
-        tables: tables(prng, &pairs, letters),
         pairs,
+        sets,
+        tables,
         lexicons,
     }
 }
@@ -234,10 +251,12 @@ fn twins(prng: &mut Prng) -> Draft {
         going_on_empty: 2,
     };
     let lexicons = lexicons(prng, &alphabet, &spread);
+    let (sets, tables) = rules(prng, letters, &pairs);
     Draft {
         letters: code_points(prng, letters),
-        tables: tables(prng, &pairs, letters),
         pairs,
+        sets,
+        tables,
         lexicons,
     }
 }
@@ -272,10 +291,12 @@ fn cycles(prng: &mut Prng) -> Draft {
         let entry = entry(prng, form, END);
         lexicons[round - 1].push(entry);
     }
+    let (sets, tables) = rules(prng, letters, &pairs);
     Draft {
         letters: code_points(prng, letters),
-        tables: tables(prng, &pairs, letters),
         pairs,
+        sets,
+        tables,
         lexicons,
     }
 }
@@ -354,12 +375,17 @@ fn long(prng: &mut Prng) -> Draft {
         finals: prng.one_of(&[50, 80, 100]),
         staying: 20,
     };
-    let tables = (0..rules)
-        .map(|_| table(prng, &pairs, 5, &temper))
-        .collect();
+    let sets = some_sets(prng, 5, &pairs);
+    let stock = Stock {
+        letters: 5,
+        pairs: &pairs,
+        sets: &sets,
+    };
+    let tables = (0..rules).map(|_| table(prng, &stock, &temper)).collect();
     Draft {
         letters: code_points(prng, 5),
         pairs,
+        sets,
         tables,
         lexicons,
     }
@@ -419,10 +445,12 @@ fn many(prng: &mut Prng) -> Draft {
             lexicons[prng.between(1, 2)].push(entry);
         }
     }
+    let (sets, tables) = rules(prng, letters, &pairs);
     Draft {
         letters: code_points(prng, letters),
-        tables: tables(prng, &pairs, letters),
         pairs,
+        sets,
+        tables,
         lexicons,
     }
 }
@@ -452,6 +480,12 @@ fn narrow(prng: &mut Prng) -> Draft {
         going_on_empty: 1,
     };
     let lexicons = lexicons(prng, &alphabet, &spread);
+    let sets = some_sets(prng, letters, &pairs);
+    let stock = Stock {
+        letters,
+        pairs: &pairs,
+        sets: &sets,
+    };
     let rules = prng.between(1, 3);
     let tables = (0..rules)
         .map(|_| {
@@ -461,17 +495,18 @@ fn narrow(prng: &mut Prng) -> Draft {
                 _ => (ANY, ANY),
             };
             let temper = temper(prng, rules);
-            let mut columns = columns(prng, &pairs, letters, 4);
+            let mut columns = columns(prng, &stock, 4);
             if !columns.contains(&wide) && columns.len() < 16 {
                 columns.insert(prng.below(columns.len() + 1), wide);
             }
             let states = prng.between(1, 3);
-            with_columns(prng, &pairs, columns, states, &temper)
+            with_columns(prng, &stock, columns, states, &temper)
         })
         .collect();
     Draft {
         letters: code_points(prng, letters),
         pairs,
+        sets,
         tables,
         lexicons,
     }
@@ -502,6 +537,11 @@ fn luz(prng: &mut Prng) -> Draft {
         let place = prng.below(draft.pairs.len() + 1);
         draft.pairs.insert(place, pair);
     }
+    let count = how_many(prng);
+    if count > 0 {
+        draft.sets = sets(prng, 9, &draft.pairs, count);
+        disguise(prng, &mut draft);
+    }
     draft
 }
 
@@ -527,10 +567,12 @@ fn tiny(prng: &mut Prng) -> Draft {
         going_on_empty: 1,
     };
     let lexicons = lexicons(prng, &alphabet, &spread);
+    let (sets, tables) = rules(prng, letters, &all);
     Draft {
         letters: code_points(prng, letters),
-        tables: tables(prng, &all, letters),
         pairs: all,
+        sets,
+        tables,
         lexicons,
     }
 }
@@ -538,7 +580,11 @@ fn tiny(prng: &mut Prng) -> Draft {
 /// Rules up to the thirty-second, of which a late one alone is strict.
 fn crowd(prng: &mut Prng) -> Draft {
     let mut draft = mixed(prng);
-    let letters = draft.letters.len();
+    let stock = Stock {
+        letters: draft.letters.len(),
+        pairs: &draft.pairs,
+        sets: &draft.sets,
+    };
     let rules = prng.one_of(&[16, 17, 31, 32, 32, 32]);
     let strict = if prng.percent(60) {
         rules - 1
@@ -560,7 +606,7 @@ fn crowd(prng: &mut Prng) -> Draft {
                     staying: 50,
                 }
             };
-            table(prng, &draft.pairs, letters, &temper)
+            table(prng, &stock, &temper)
         })
         .collect();
     draft
@@ -569,16 +615,21 @@ fn crowd(prng: &mut Prng) -> Draft {
 /// Counts at their limits, all or some of them.
 fn full(prng: &mut Prng) -> Draft {
     let all = prng.percent(60);
-    at_limits(prng, all)
+    let sets = if all && prng.percent(75) {
+        MOST
+    } else {
+        how_many(prng)
+    };
+    at_limits(prng, all, sets)
 }
 
 /// All counts at their limits.
 pub fn largest(prng: &mut Prng) -> Draft {
-    at_limits(prng, true)
+    at_limits(prng, true, MOST)
 }
 
-/// Counts at their limits, with the entries spread over all lexicons or most of them in the first or last.
-fn at_limits(prng: &mut Prng, all: bool) -> Draft {
+/// Counts at their limits, all or some of them, beside so many sets, with the entries spread over all lexicons or most of them in the first or last.
+fn at_limits(prng: &mut Prng, all: bool, set_count: usize) -> Draft {
     let mut most = |count: usize, few: usize| if all || prng.percent(50) { count } else { few };
     let (letters, count, rules, lexicons, entries) = (
         most(120, 20),
@@ -598,6 +649,12 @@ fn at_limits(prng: &mut Prng, all: bool) -> Draft {
     }
     pairs.truncate(count);
     prng.shuffle(&mut pairs);
+    let sets = sets(prng, letters, &pairs, set_count);
+    let stock = Stock {
+        letters,
+        pairs: &pairs,
+        sets: &sets,
+    };
     let tables = (0..rules)
         .map(|rule| {
             let temper = Temper {
@@ -608,10 +665,10 @@ fn at_limits(prng: &mut Prng, all: bool) -> Draft {
             let drawn = if rule == 0 {
                 pairs[..15].iter().copied().chain([(ANY, ANY)]).collect()
             } else {
-                columns(prng, &pairs, letters, 16)
+                columns(prng, &stock, 16)
             };
             let states = if rule < 2 { 24 } else { prng.between(1, 24) };
-            with_columns(prng, &pairs, drawn, states, &temper)
+            with_columns(prng, &stock, drawn, states, &temper)
         })
         .collect();
     let lexical = lexical_letters(&pairs);
@@ -635,6 +692,7 @@ fn at_limits(prng: &mut Prng, all: bool) -> Draft {
     Draft {
         letters: code_points(prng, letters),
         pairs,
+        sets,
         tables,
         lexicons: spread,
     }
@@ -667,6 +725,7 @@ pub fn widest(prng: &mut Prng) -> Draft {
     lexicons.push(vec![entry(prng, forms[15].clone(), END); last]);
     Draft {
         letters: (1..=u16::from(LETTERS)).collect(),
+        sets: some_sets(prng, LETTERS.into(), &pairs),
         pairs,
         tables: Vec::new(),
         lexicons,
@@ -699,10 +758,68 @@ pub fn many_readings(prng: &mut Prng) -> Many {
         draft: Draft {
             letters: code_points(prng, letters.into()),
             pairs,
+            sets: Vec::new(),
             tables: Vec::new(),
             lexicons,
         },
         word: vec![y, z],
         path: (alone as u16).to_le_bytes().to_vec(),
+    }
+}
+
+#[cfg(test)]
+mod tests {
+    use super::{grammar, largest};
+    use crate::prng::Prng;
+    use other_engine::draft::Draft;
+    use other_engine::grammar::{BOUNDARY, NULL};
+    use other_engine::image::read;
+
+    /// Whether two sets are equal and not empty.
+    fn has_equal_sets(draft: &Draft) -> bool {
+        let sets = || draft.sets.iter().enumerate();
+        sets().any(|(place, set)| !set.is_empty() && draft.sets[..place].contains(set))
+    }
+
+    #[test]
+    fn grammars_with_sets_are_common_and_mostly_accepted() {
+        let mut prng = Prng::new(1);
+        let (mut accepted, mut with_sets, mut with_columns) = (0, 0, 0);
+        let mut met = [0; 6];
+        for _ in 0..1_000 {
+            let draft = grammar(&mut prng);
+            let Ok(grammar) = read(&draft.image()) else {
+                continue;
+            };
+            accepted += 1;
+            with_sets += usize::from(!draft.sets.is_empty());
+            with_columns += usize::from(grammar.names_sets());
+            let some = |has: fn(&Vec<u8>) -> bool| draft.sets.iter().any(has);
+            let ways = [
+                draft.sets.len() == 31,
+                some(|set| set.contains(&NULL)),
+                some(|set| set.contains(&BOUNDARY)),
+                some(|set| !set.contains(&NULL) && !set.contains(&BOUNDARY)),
+                some(|set| set.is_empty()),
+                has_equal_sets(&draft),
+            ];
+            for (count, way) in met.iter_mut().zip(ways) {
+                *count += usize::from(way);
+            }
+        }
+        assert!(accepted > 900, "{accepted}");
+        assert!((450..550).contains(&with_sets), "{with_sets}");
+        assert!(with_columns > 250, "{with_columns}");
+        assert!(met.iter().all(|&count| count > 20), "{met:?}");
+    }
+
+    #[test]
+    fn the_largest_image_has_128_blocks() {
+        let mut prng = Prng::new(1);
+        for _ in 0..3 {
+            let image = largest(&mut prng).image();
+            assert_eq!(image.len(), 65_536);
+            assert!(read(&image).is_ok());
+        }
     }
 }

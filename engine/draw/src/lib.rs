@@ -4,4 +4,6 @@ pub mod damage;
 pub mod grammars;
 pub mod inputs;
 pub mod prng;
+mod set_damage;
+mod sets;
 mod tables;

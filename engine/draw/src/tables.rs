@@ -1,8 +1,16 @@
 //! Rule tables are drawn so that nearly every one has a single narrowest column for each pair.
 
 use crate::prng::Prng;
+use crate::sets;
 use other_engine::draft::DraftTable;
-use other_engine::grammar::{columns_taken, matches, ANY, BOUNDARY};
+use other_engine::grammar::{columns_taken, matches, Set, ANY, BOUNDARY};
+
+/// What the columns of a table are drawn from.
+pub struct Stock<'a> {
+    pub letters: usize,
+    pub pairs: &'a [(u8, u8)],
+    pub sets: &'a [Set],
+}
 
 /// How hard a drawn table is on pairings.
 pub struct Temper {
@@ -33,26 +41,26 @@ pub fn temper(prng: &mut Prng, rules: usize) -> Temper {
     }
 }
 
-/// A table for these pairs.
-pub fn table(prng: &mut Prng, pairs: &[(u8, u8)], letters: usize, temper: &Temper) -> DraftTable {
+/// A table for these pairs and sets.
+pub fn table(prng: &mut Prng, stock: &Stock, temper: &Temper) -> DraftTable {
     let wanted = match prng.weighted(&[70, 25, 5]) {
         0 => prng.between(1, 5),
         1 => prng.between(3, 10),
         _ => 16,
     };
-    let columns = columns(prng, pairs, letters, wanted);
+    let columns = columns(prng, stock, wanted);
     let states = match prng.weighted(&[70, 25, 5]) {
         0 => prng.between(1, 4),
         1 => prng.between(2, 8),
         _ => 24,
     };
-    with_columns(prng, pairs, columns, states, temper)
+    with_columns(prng, stock, columns, states, temper)
 }
 
 /// A table with these columns and so many states. Of those that fail on the boundary before the first pair, and so leave no reading, most are mended.
 pub fn with_columns(
     prng: &mut Prng,
-    pairs: &[(u8, u8)],
+    stock: &Stock,
     columns: Vec<(u8, u8)>,
     states: usize,
     temper: &Temper,
@@ -75,8 +83,8 @@ pub fn with_columns(
                 .collect()
         })
         .collect();
-    let boundary = columns_taken(&columns, pairs).and_then(|taken| taken.last().copied());
-    if let Some(column) = boundary {
+    let taken = columns_taken(stock.sets, &columns, stock.pairs);
+    if let Some(column) = taken.and_then(|taken| taken.last().copied()) {
         if rows[0][column] == 0 && prng.percent(80) {
             rows[0][column] = prng.between(1, states) as u8;
         }
@@ -88,38 +96,45 @@ pub fn with_columns(
     }
 }
 
-fn side(prng: &mut Prng, letters: usize) -> u8 {
+fn side(prng: &mut Prng, stock: &Stock) -> u8 {
+    if prng.percent(40) {
+        if let Some(side) = sets::any_side(prng, stock.sets) {
+            return side;
+        }
+    }
     match prng.weighted(&[30, 12, 8, 50]) {
         0 => ANY,
         1 => 0,
         2 => BOUNDARY,
-        _ => prng.between(2, letters) as u8,
+        _ => prng.between(2, stock.letters) as u8,
     }
 }
 
-fn column(prng: &mut Prng, pairs: &[(u8, u8)], letters: usize) -> (u8, u8) {
+/// A side that matches a letter: any, a set that has it, or the letter itself.
+fn side_for(prng: &mut Prng, stock: &Stock, letter: u8) -> u8 {
+    if prng.percent(30) {
+        return ANY;
+    }
+    let set = sets::side_with(prng, stock.sets, letter);
+    set.filter(|_| prng.percent(50)).unwrap_or(letter)
+}
+
+fn column(prng: &mut Prng, stock: &Stock) -> (u8, u8) {
     if prng.percent(25) {
-        return (side(prng, letters), side(prng, letters));
+        return (side(prng, stock), side(prng, stock));
     }
     let (x, y) = if prng.percent(12) {
         (BOUNDARY, BOUNDARY)
     } else {
-        prng.one_of(pairs)
+        prng.one_of(stock.pairs)
     };
-    let x = if prng.percent(30) { ANY } else { x };
-    let y = if prng.percent(30) { ANY } else { y };
-    (x, y)
+    (side_for(prng, stock, x), side_for(prng, stock, y))
 }
 
 /// About so many columns, mended until each pair has its one narrowest.
-pub fn columns(
-    prng: &mut Prng,
-    pairs: &[(u8, u8)],
-    letters: usize,
-    wanted: usize,
-) -> Vec<(u8, u8)> {
-    let mut columns: Vec<(u8, u8)> = (0..wanted).map(|_| column(prng, pairs, letters)).collect();
-    while let Some(fault) = first_fault(&columns, pairs) {
+pub fn columns(prng: &mut Prng, stock: &Stock, wanted: usize) -> Vec<(u8, u8)> {
+    let mut columns: Vec<(u8, u8)> = (0..wanted).map(|_| column(prng, stock)).collect();
+    while let Some(fault) = first_fault(&columns, stock) {
         match fault {
             Fault::Unmatched => {
                 if columns.len() == 16 {
@@ -140,8 +155,10 @@ enum Fault {
     Tied(usize, usize),
 }
 
-fn first_fault(columns: &[(u8, u8)], pairs: &[(u8, u8)]) -> Option<Fault> {
-    let fed: Vec<(u8, u8)> = pairs
+fn first_fault(columns: &[(u8, u8)], stock: &Stock) -> Option<Fault> {
+    let matches = |column, pair| matches(stock.sets, column, pair);
+    let fed: Vec<(u8, u8)> = stock
+        .pairs
         .iter()
         .copied()
         .chain([(BOUNDARY, BOUNDARY)])

@@ -1,5 +1,6 @@
 //! A draft is a grammar as plain data, written out as the bytes of an image whether or not it keeps the limits.
 
+use crate::grammar::Set;
 use crate::image::{seal, BLOCK};
 
 /// A rule table as plain data.
@@ -23,15 +24,19 @@ pub struct DraftEntry {
 pub struct Draft {
     pub letters: Vec<u16>,
     pub pairs: Vec<(u8, u8)>,
+    /// The sets, of letters up to 127.
+    pub sets: Vec<Set>,
     pub tables: Vec<DraftTable>,
     pub lexicons: Vec<Vec<DraftEntry>>,
 }
 
+/// A block more, with as many of the bytes as it holds.
 fn push_block(image: &mut Vec<u8>, kind: u8, records: usize, bytes: &[u8]) {
     let at = image.len();
     image.resize(at + BLOCK, 0);
     image[at + 2] = kind;
     image[at + 3] = records as u8;
+    let bytes = &bytes[..bytes.len().min(506)];
     image[at + 4..at + 4 + bytes.len()].copy_from_slice(bytes);
 }
 
@@ -47,6 +52,15 @@ fn sides(pairs: &[(u8, u8)]) -> Vec<u8> {
         .iter()
         .flat_map(|&(lexical, surface)| [lexical, surface])
         .collect()
+}
+
+/// The record of a set.
+fn set_record(set: &Set) -> Vec<u8> {
+    let mut record = vec![0; 16];
+    for letter in set {
+        record[usize::from(letter / 8)] |= 1 << (letter % 8);
+    }
+    record
 }
 
 impl DraftTable {
@@ -89,11 +103,16 @@ impl Draft {
             self.tables.len(),
             self.lexicons.len(),
             entries.len(),
+            self.sets.len(),
         ];
         push_block(&mut image, 1, 1, &twos(counts));
         let letters = twos(self.letters.iter().map(|&point| usize::from(point)));
         push_block(&mut image, 2, self.letters.len(), &letters);
         push_block(&mut image, 3, self.pairs.len(), &sides(&self.pairs));
+        if !self.sets.is_empty() {
+            let sets: Vec<u8> = self.sets.iter().flat_map(set_record).collect();
+            push_block(&mut image, 7, self.sets.len(), &sets);
+        }
         for table in &self.tables {
             push_block(&mut image, 4, 1, &table.record());
         }
@@ -132,6 +151,7 @@ impl Draft {
                 (9, 3),
                 (9, 8),
             ],
+            sets: Vec::new(),
             tables: vec![DraftTable {
                 columns: vec![(9, 3), (9, 8), (2, 0), (4, 4), (255, 255)],
                 finals: vec![1, 1, 1, 1, 0],

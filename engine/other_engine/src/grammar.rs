@@ -1,13 +1,18 @@
-//! A grammar is letters, pairs, rule tables and lexicons as plain data, with the column each pair takes worked out beforehand.
+//! A grammar is letters, pairs, sets, rule tables and lexicons as plain data, with the column each pair takes worked out beforehand.
 
 /// The null letter, on either level.
 pub const NULL: u8 = 0;
 /// The word boundary, which pairs with itself only.
 pub const BOUNDARY: u8 = 1;
+/// The column side that names set 0; those after it name the sets after it.
+pub const FIRST_SET: u8 = 128;
 /// The column side that matches every letter, null and boundary included.
 pub const ANY: u8 = 255;
 /// The continuation that ends a path.
 pub const END: u8 = 255;
+
+/// The letters of a set, the null and the boundary possibly among them.
+pub type Set = Vec<u8>;
 
 /// One rule: its columns, final marks and rows of next states, as they stand in the image.
 pub struct Table {
@@ -29,6 +34,7 @@ pub struct Entry {
 pub struct Grammar {
     pub letters: Vec<u16>,
     pub pairs: Vec<(u8, u8)>,
+    pub sets: Vec<Set>,
     pub tables: Vec<Table>,
     /// The first entry of each lexicon, then the entry total.
     pub starts: Vec<usize>,
@@ -37,27 +43,45 @@ pub struct Grammar {
     numbers: Vec<Option<u8>>,
 }
 
-fn side_matches(side: u8, letter: u8) -> bool {
-    side == ANY || side == letter
+/// The number of the set that a column side names, if it names one.
+pub fn set_named(side: u8) -> Option<usize> {
+    (FIRST_SET..ANY)
+        .contains(&side)
+        .then(|| usize::from(side - FIRST_SET))
+}
+
+/// Whether a side of a column names a set.
+fn names_set(column: (u8, u8)) -> bool {
+    set_named(column.0).is_some() || set_named(column.1).is_some()
+}
+
+fn side_matches(sets: &[Set], side: u8, letter: u8) -> bool {
+    match set_named(side) {
+        Some(number) => sets.get(number).is_some_and(|set| set.contains(&letter)),
+        None => side == ANY || side == letter,
+    }
 }
 
 /// Whether a column matches a pair.
-pub fn matches(column: (u8, u8), pair: (u8, u8)) -> bool {
-    side_matches(column.0, pair.0) && side_matches(column.1, pair.1)
+pub fn matches(sets: &[Set], column: (u8, u8), pair: (u8, u8)) -> bool {
+    side_matches(sets, column.0, pair.0) && side_matches(sets, column.1, pair.1)
 }
 
 /// The column each pair and, last, the boundary pair takes: of its matching columns the one that matches fewest of all these pairs. None where some pair has no matching column, or two that match fewest.
-pub fn columns_taken(columns: &[(u8, u8)], pairs: &[(u8, u8)]) -> Option<Vec<usize>> {
+pub fn columns_taken(sets: &[Set], columns: &[(u8, u8)], pairs: &[(u8, u8)]) -> Option<Vec<usize>> {
     let mut fed = pairs.to_vec();
     fed.push((BOUNDARY, BOUNDARY));
     let breadth: Vec<usize> = columns
         .iter()
-        .map(|&column| fed.iter().filter(|&&pair| matches(column, pair)).count())
+        .map(|&column| {
+            let matched = fed.iter().filter(|&&pair| matches(sets, column, pair));
+            matched.count()
+        })
         .collect();
     fed.iter()
         .map(|&pair| {
             let matching: Vec<usize> = (0..columns.len())
-                .filter(|&c| matches(columns[c], pair))
+                .filter(|&c| matches(sets, columns[c], pair))
                 .collect();
             let fewest = matching.iter().map(|&c| breadth[c]).min()?;
             let mut narrowest = matching.iter().filter(|&&c| breadth[c] == fewest);
@@ -92,6 +116,7 @@ impl Grammar {
     pub fn new(
         letters: Vec<u16>,
         pairs: Vec<(u8, u8)>,
+        sets: Vec<Set>,
         tables: Vec<Table>,
         starts: Vec<usize>,
         entries: Vec<Entry>,
@@ -104,6 +129,7 @@ impl Grammar {
         Grammar {
             letters,
             pairs,
+            sets,
             tables,
             starts,
             entries,
@@ -114,6 +140,12 @@ impl Grammar {
     /// Whether every rule passes a whole pairing.
     pub fn passes(&self, pairing: &[u8]) -> bool {
         self.tables.iter().all(|table| table.passes(pairing))
+    }
+
+    /// Whether a column of some rule names a set.
+    pub fn names_sets(&self) -> bool {
+        let mut columns = self.tables.iter().flat_map(|table| &table.columns);
+        columns.any(|&column| names_set(column))
     }
 
     /// The number of the listed pair with these sides, if there is one.

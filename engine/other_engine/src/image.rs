@@ -1,6 +1,6 @@
 //! An image is turned down by the first test it fails, each run over the whole image before the next.
 
-use crate::grammar::{columns_taken, Entry, Grammar, Table, ANY, END, NULL};
+use crate::grammar::{columns_taken, set_named, Entry, Grammar, Set, Table, ANY, END, NULL};
 
 /// The length of a block.
 pub const BLOCK: usize = 512;
@@ -36,7 +36,7 @@ const TESTS: [(u8, Test); 9] = [
     (3, plan_fits),
     (4, code_points_fit),
     (5, pairs_fit),
-    (6, tables_fit),
+    (6, sets_and_tables_fit),
     (7, columns_fit),
     (8, lexicon_fits),
     (14, forms_fit),
@@ -58,7 +58,7 @@ fn block(image: &[u8], number: usize) -> &[u8] {
     &image[number * BLOCK..(number + 1) * BLOCK]
 }
 
-/// The six numbers of block 0's one record.
+/// The seven numbers of block 0's one record.
 struct Counts {
     form: usize,
     letters: usize,
@@ -66,6 +66,18 @@ struct Counts {
     rules: usize,
     lexicons: usize,
     entries: usize,
+    sets: usize,
+}
+
+impl Counts {
+    /// The block of the first rule, or of the lexicon counts where there is no rule.
+    fn first_rule(&self) -> usize {
+        if self.sets == 0 {
+            3
+        } else {
+            4
+        }
+    }
 }
 
 fn counts(image: &[u8]) -> Counts {
@@ -76,6 +88,7 @@ fn counts(image: &[u8]) -> Counts {
         rules: two(image, 10),
         lexicons: two(image, 12),
         entries: two(image, 14),
+        sets: two(image, 16),
     }
 }
 
@@ -91,7 +104,7 @@ fn plan(c: &Counts) -> Vec<Plan> {
         Plan {
             kind: 1,
             records: 1,
-            width: 12,
+            width: 14,
         },
         Plan {
             kind: 2,
@@ -104,6 +117,13 @@ fn plan(c: &Counts) -> Vec<Plan> {
             width: 2,
         },
     ];
+    if c.sets > 0 {
+        all.push(Plan {
+            kind: 7,
+            records: c.sets,
+            width: 16,
+        });
+    }
     all.extend((0..c.rules).map(|_| Plan {
         kind: 4,
         records: 1,
@@ -148,6 +168,7 @@ fn plan_fits(image: &[u8]) -> bool {
         || c.rules > 32
         || !(1..=64).contains(&c.lexicons)
         || !(1..=2_800).contains(&c.entries)
+        || c.sets > 31
     {
         return false;
     }
@@ -194,17 +215,43 @@ fn pairs_fit(image: &[u8]) -> bool {
     })
 }
 
+/// The letters of a set's record: letter 8j + b where byte j has bit b.
+fn members(record: &[u8]) -> Set {
+    (0..128u8)
+        .filter(|&letter| record[usize::from(letter / 8)] >> (letter % 8) & 1 == 1)
+        .collect()
+}
+
+fn sets(image: &[u8]) -> Vec<Set> {
+    (0..counts(image).sets)
+        .map(|number| members(&block(image, 3)[4 + 16 * number..][..16]))
+        .collect()
+}
+
+fn sets_fit(image: &[u8]) -> bool {
+    let last = counts(image).letters;
+    let mut members = sets(image).into_iter().flatten();
+    members.all(|letter| usize::from(letter) <= last)
+}
+
 /// The record of one rule: 506 bytes.
-fn table_record(image: &[u8], rule: usize) -> &[u8] {
-    &block(image, 3 + rule)[4..510]
+fn table_record<'a>(image: &'a [u8], c: &Counts, rule: usize) -> &'a [u8] {
+    &block(image, c.first_rule() + rule)[4..510]
 }
 
-fn tables_fit(image: &[u8]) -> bool {
+fn sets_and_tables_fit(image: &[u8]) -> bool {
     let c = counts(image);
-    (0..c.rules).all(|rule| table_fits(table_record(image, rule), c.letters))
+    sets_fit(image) && (0..c.rules).all(|rule| table_fits(table_record(image, &c, rule), &c))
 }
 
-fn table_fits(record: &[u8], last_letter: usize) -> bool {
+fn side_fits(side: u8, c: &Counts) -> bool {
+    match set_named(side) {
+        Some(number) => number < c.sets,
+        None => side == ANY || usize::from(side) <= c.letters,
+    }
+}
+
+fn table_fits(record: &[u8], c: &Counts) -> bool {
     let columns = usize::from(record[0]);
     let states = usize::from(record[1]);
     if !(1..=16).contains(&columns) || !(1..=24).contains(&states) {
@@ -213,9 +260,7 @@ fn table_fits(record: &[u8], last_letter: usize) -> bool {
     let marks_at = 2 + 2 * columns;
     let rows_at = marks_at + states;
     let rest_at = rows_at + states * columns;
-    record[2..marks_at]
-        .iter()
-        .all(|&side| side == ANY || usize::from(side) <= last_letter)
+    record[2..marks_at].iter().all(|&side| side_fits(side, c))
         && record[marks_at..rows_at].iter().all(|&mark| mark <= 1)
         && record[rows_at..rest_at]
             .iter()
@@ -230,27 +275,30 @@ fn table_columns(record: &[u8]) -> Vec<(u8, u8)> {
 }
 
 fn columns_fit(image: &[u8]) -> bool {
-    let pairs = pairs(image);
-    (0..counts(image).rules)
-        .all(|rule| columns_taken(&table_columns(table_record(image, rule)), &pairs).is_some())
+    let c = counts(image);
+    let (sets, pairs) = (sets(image), pairs(image));
+    (0..c.rules).all(|rule| {
+        let columns = table_columns(table_record(image, &c, rule));
+        columns_taken(&sets, &columns, &pairs).is_some()
+    })
 }
 
 fn lexicon_counts(image: &[u8]) -> Vec<usize> {
     let c = counts(image);
-    let block = block(image, 3 + c.rules);
+    let block = block(image, c.first_rule() + c.rules);
     (0..c.lexicons).map(|i| two(block, 4 + 2 * i)).collect()
 }
 
 /// The record of one entry: 16 bytes.
-fn entry_record(image: &[u8], rules: usize, entry: usize) -> &[u8] {
+fn entry_record<'a>(image: &'a [u8], c: &Counts, entry: usize) -> &'a [u8] {
     let at = 4 + 16 * (entry % 31);
-    &block(image, 4 + rules + entry / 31)[at..at + 16]
+    &block(image, c.first_rule() + c.rules + 1 + entry / 31)[at..at + 16]
 }
 
 fn lexicon_fits(image: &[u8]) -> bool {
     let c = counts(image);
     lexicon_counts(image).iter().sum::<usize>() == c.entries
-        && (0..c.entries).all(|entry| entry_fits(entry_record(image, c.rules, entry), &c))
+        && (0..c.entries).all(|entry| entry_fits(entry_record(image, &c, entry), &c))
 }
 
 fn entry_fits(record: &[u8], c: &Counts) -> bool {
@@ -273,7 +321,7 @@ fn forms_fit(image: &[u8]) -> bool {
     let c = counts(image);
     let lexical: Vec<u8> = pairs(image).iter().map(|pair| pair.0).collect();
     (0..c.entries).all(|entry| {
-        form(entry_record(image, c.rules, entry))
+        form(entry_record(image, &c, entry))
             .iter()
             .all(|letter| lexical.contains(letter))
     })
@@ -281,10 +329,10 @@ fn forms_fit(image: &[u8]) -> bool {
 
 fn decode(image: &[u8]) -> Grammar {
     let c = counts(image);
-    let pairs = pairs(image);
+    let (sets, pairs) = (sets(image), pairs(image));
     let tables = (0..c.rules)
         .map(|rule| {
-            let record = table_record(image, rule);
+            let record = table_record(image, &c, rule);
             let columns = table_columns(record);
             let states = usize::from(record[1]);
             let marks_at = 2 + 2 * columns.len();
@@ -295,7 +343,7 @@ fn decode(image: &[u8]) -> Grammar {
                     .chunks(columns.len())
                     .map(<[u8]>::to_vec)
                     .collect(),
-                takes: columns_taken(&columns, &pairs).expect("test 7 has passed"),
+                takes: columns_taken(&sets, &columns, &pairs).expect("test 7 has passed"),
                 columns,
             }
         })
@@ -306,7 +354,7 @@ fn decode(image: &[u8]) -> Grammar {
     }
     let entries = (0..c.entries)
         .map(|entry| {
-            let record = entry_record(image, c.rules, entry);
+            let record = entry_record(image, &c, entry);
             Entry {
                 form: form(record).to_vec(),
                 continuation: record[13],
@@ -314,5 +362,5 @@ fn decode(image: &[u8]) -> Grammar {
             }
         })
         .collect();
-    Grammar::new(code_points(image), pairs, tables, starts, entries)
+    Grammar::new(code_points(image), pairs, sets, tables, starts, entries)
 }

@@ -10,5 +10,5 @@ pub mod pairings;
 pub mod paths;
 pub mod reading;
 
-pub use grammar::{Entry, Grammar, Table};
+pub use grammar::{Entry, Grammar, Set, Table};
 pub use reading::{Reading, Stop};

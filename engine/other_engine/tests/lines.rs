@@ -28,6 +28,7 @@ fn equal_entries(count: usize) -> Known {
     let draft = Draft {
         letters: vec![35, 97],
         pairs: vec![(2, 2)],
+        sets: Vec::new(),
         tables: Vec::new(),
         lexicons: vec![vec![entry; count]],
     };
@@ -175,6 +176,7 @@ fn a_word_with_too_much_to_list_is_told() {
     let draft = Draft {
         letters: vec![35, 97],
         pairs: vec![(0, 2)],
+        sets: Vec::new(),
         tables: Vec::new(),
         lexicons: vec![vec![entry(0), entry(0), entry(0), entry(255)]],
     };

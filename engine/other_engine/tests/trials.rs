@@ -34,6 +34,7 @@ fn plain(letters: u16, pairs: &[(u8, u8)], lexicons: Vec<Vec<DraftEntry>>) -> Dr
     Draft {
         letters: (97..97 + letters).collect(),
         pairs: pairs.to_vec(),
+        sets: Vec::new(),
         tables: Vec::new(),
         lexicons,
     }
@@ -683,7 +684,10 @@ fn an_image_at_every_limit_is_accepted() {
     pairs.extend((2..=120).map(|x| (x, 0)));
     pairs.extend((2..=13).map(|x| (0, x)));
     let table = DraftTable {
-        columns: (2..=16).map(|x| (x, x)).chain([(255, 255)]).collect(),
+        columns: (2..=15)
+            .map(|x| (x, x))
+            .chain([(158, 158), (255, 255)])
+            .collect(),
         finals: vec![1; 24],
         rows: vec![vec![24; 16]; 24],
     };
@@ -693,22 +697,35 @@ fn an_image_at_every_limit_is_accepted() {
     let draft = Draft {
         letters,
         pairs,
+        sets: vec![(16..=120).collect(); 31],
         tables: vec![table; 32],
         lexicons,
     };
     assert_eq!(draft.pairs.len(), 250);
     assert_eq!(draft.entries().count(), 2_800);
     let image = draft.image();
-    assert_eq!(image.len(), 127 * 512);
+    assert_eq!(image.len(), 65_536);
     assert_eq!(refusal(&image), 0);
-    for past in 0..5 {
+    // The columns that name a set are left without it.
+    let without_sets = Draft {
+        sets: Vec::new(),
+        ..draft.clone()
+    };
+    assert_eq!(without_sets.image().len(), 127 * 512);
+    assert_eq!(refusal(&without_sets.image()), 6);
+    for past in 0..6 {
         let mut draft = draft.clone();
         match past {
             0 => draft.letters.push(121),
             1 => draft.pairs.push((0, 14)),
-            2 => draft.tables.push(draft.tables[0].clone()),
-            3 => draft.lexicons.push(Vec::new()),
-            _ => draft.lexicons[63].push(entry(&[], 255)),
+            2 => draft.lexicons.push(Vec::new()),
+            3 => draft.lexicons[63].push(entry(&[], 255)),
+            4 => draft.sets.push(Vec::new()),
+            // With the sets this would be a block too many, and refused for its length.
+            _ => {
+                draft = without_sets.clone();
+                draft.tables.push(draft.tables[0].clone());
+            }
         }
         assert_eq!(refusal(&draft.image()), 3);
     }

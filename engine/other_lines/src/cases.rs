@@ -56,6 +56,7 @@ fn about_as_many_as_rows(prng: &mut Prng) -> Draft {
     Draft {
         letters: vec![35, 97, 98],
         pairs: vec![(2, 2), (3, 3)],
+        sets: Vec::new(),
         tables: Vec::new(),
         lexicons: vec![vec![entry(&form, END); count], vec![entry(&[3], END)]],
     }
@@ -228,6 +229,7 @@ mod tests {
         let draft = Draft {
             letters: vec![35, 97],
             pairs: vec![(0, 2)],
+            sets: Vec::new(),
             tables: Vec::new(),
             lexicons: vec![vec![entry(0), entry(0), entry(0), entry(255)]],
         };
