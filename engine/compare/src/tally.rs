@@ -1,6 +1,6 @@
 //! Replies are counted by kind of call, so that a run shows what it has met and what it has not.
 
-use other_engine::grammar::{Grammar, NULL};
+use other_engine::grammar::{set_named, Grammar, BOUNDARY, NULL};
 use other_engine::Reading;
 use std::fmt::Write;
 
@@ -55,8 +55,8 @@ impl Kind {
     }
 }
 
-/// What the rows of a listing can have at its limit, or past a number of bits that might be lost.
-const LIMITS: [&str; 9] = [
+/// What the rows of a listing can have at its limit, past a number of bits that might be lost, or by a column that names a set.
+const LIMITS: [&str; 13] = [
     "16 entries",
     "40 pairs",
     "32 letters",
@@ -64,18 +64,39 @@ const LIMITS: [&str; 9] = [
     "8 surface nulls",
     "pair 249",
     "the largest image",
+    "the null in a set",
+    "the boundary in a set",
+    "set 30",
+    "a set column",
     "entry 2048 in row 0",
     "65536 rows",
 ];
 /// The first of the limits that analysis and generation should each have reached.
-const OF_EACH: usize = 7;
+const OF_EACH: usize = 10;
+
+/// The sets named by the columns that the pairs of a row and the boundary pair take, each with the letter that it was found to have.
+fn sets_asked(grammar: &Grammar, row: &Reading) -> Vec<(usize, u8)> {
+    let boundary = grammar.pairs.len();
+    let pairs = row.pairing.iter().map(|&pair| usize::from(pair));
+    let mut asked = Vec::new();
+    for pair in pairs.chain([boundary]) {
+        let sides = grammar.pairs.get(pair).copied();
+        let (lexical, surface) = sides.unwrap_or((BOUNDARY, BOUNDARY));
+        for table in &grammar.tables {
+            let column = table.columns[table.takes[pair]];
+            asked.extend(set_named(column.0).map(|set| (set, lexical)));
+            asked.extend(set_named(column.1).map(|set| (set, surface)));
+        }
+    }
+    asked
+}
 
 /// How many replies of each kind of call have been met, and how many listings by each with a row at a limit.
 #[derive(Default)]
 pub struct Tally {
     replies: [[u64; 3]; 6],
     refusals: [[u64; 15]; 6],
-    limits: [[u64; 9]; 2],
+    limits: [[u64; 13]; 2],
 }
 
 impl Tally {
@@ -89,7 +110,7 @@ impl Tally {
 
     /// Counts the limits that the rows written by a listing reach, the first of them at least.
     pub fn count_limits(&mut self, kind: Kind, grammar: &Grammar, rows: &[Reading]) {
-        let mut reached = [false; 9];
+        let mut reached = [false; 13];
         for reading in rows.iter().take(50) {
             let sides = || {
                 reading
@@ -105,6 +126,12 @@ impl Tally {
             reached[3] |= sides().filter(|s| s.0 == NULL).count() == 8;
             reached[4] |= surface_nulls == 8;
             reached[5] |= reading.pairing.contains(&249);
+            for (set, letter) in sets_asked(grammar, reading) {
+                reached[7] |= letter == NULL;
+                reached[8] |= letter == BOUNDARY;
+                reached[9] |= set == 30;
+                reached[10] = true;
+            }
         }
         let counts = [
             grammar.letters.len(),
@@ -112,12 +139,13 @@ impl Tally {
             grammar.tables.len(),
             grammar.starts.len() - 1,
             grammar.entries.len(),
+            grammar.sets.len(),
         ];
-        reached[6] = !rows.is_empty() && counts == [120, 250, 32, 64, 2_800];
-        reached[7] = rows
+        reached[6] = !rows.is_empty() && counts == [120, 250, 32, 64, 2_800, 31];
+        reached[11] = rows
             .first()
             .is_some_and(|row| row.path.iter().any(|&entry| entry >= 2_048));
-        reached[8] = rows.len() >= 65_536;
+        reached[12] = rows.len() >= 65_536;
         for (count, reached) in self.limits[kind as usize].iter_mut().zip(reached) {
             *count += u64::from(reached);
         }

@@ -33,6 +33,8 @@ impl Place {
 pub struct Case {
     pub place: Place,
     pub input: Vec<u8>,
+    /// Whether the image is accepted and a column of it names a set.
+    pub names_sets: bool,
     /// What is printed for each line.
     pub answers: Vec<String>,
     /// Lines left out because their words are too big.
@@ -187,6 +189,7 @@ pub fn case(prng: &mut Prng) -> Case {
     Case {
         place,
         input,
+        names_sets: known.is_ok_and(|grammar| grammar.names_sets()),
         answers,
         skipped,
         piece,

@@ -6,12 +6,13 @@ const REPLIES: [&str; 5] = ["all", "more", "none", "refused", "unread"];
 /// The refusals a line can get, in the order of their tests.
 const REFUSALS: [usize; 11] = [1, 2, 3, 4, 5, 6, 7, 8, 14, 9, 10];
 
-/// How often each reply, and each refusal by its number, was met, and how often a first row with an entry that needs more than eleven bits.
+/// How often each reply, and each refusal by its number, was met, how often a first row with an entry that needs more than eleven bits, and how often rows by a grammar with a column that names a set.
 #[derive(Default)]
 pub struct Tally {
     replies: [u64; 5],
     refusals: [u64; 15],
     late_entries: u64,
+    by_sets: u64,
 }
 
 /// Whether the first row of an answer has an entry from 2,048 on.
@@ -23,8 +24,8 @@ fn has_late_entry(text: &str) -> bool {
 }
 
 impl Tally {
-    /// Counts the reply that a text begins with.
-    pub fn count(&mut self, text: &str) {
+    /// Counts the reply that a text begins with, by a grammar with such a column or not.
+    pub fn count(&mut self, text: &str, names_sets: bool) {
         let mut words = text.split_ascii_whitespace();
         let reply = words.next();
         let number = words.next().and_then(|number| number.parse().ok());
@@ -36,6 +37,8 @@ impl Tally {
             self.refusals[k] += 1;
         }
         self.late_entries += u64::from(has_late_entry(text));
+        let rows = matches!(reply, Some("all" | "more"));
+        self.by_sets += u64::from(rows && names_sets);
     }
 
     /// All replies together.
@@ -48,11 +51,12 @@ impl Tally {
         let counted = |(name, count): (&&str, &u64)| format!("{name} {count}");
         let replies: Vec<String> = REPLIES.iter().zip(&self.replies).map(counted).collect();
         let refusals = REFUSALS.map(|k| format!("{k}:{}", self.refusals[k]));
-        let late = self.late_entries;
         format!(
-            "{}; refused {}; entry 2048 in row 0: {late}",
+            "{}; refused {}; entry 2048 in row 0: {}; rows by a set column's grammar: {}",
             replies.join(" "),
-            refusals.join(" ")
+            refusals.join(" "),
+            self.late_entries,
+            self.by_sets
         )
     }
 
@@ -61,10 +65,11 @@ impl Tally {
         let replies = REPLIES.iter().zip(self.replies).filter(|(_, n)| *n == 0);
         let refusals = REFUSALS.iter().filter(|&&k| self.refusals[k] == 0);
         let late = (self.late_entries == 0).then_some("entry 2048 in row 0");
+        let sets = (self.by_sets == 0).then_some("rows by a set column's grammar");
         replies
             .map(|(name, _)| name.to_string())
             .chain(refusals.map(|k| format!("refused {k}")))
-            .chain(late.map(str::to_string))
+            .chain(late.into_iter().chain(sets).map(str::to_string))
             .collect()
     }
 }
