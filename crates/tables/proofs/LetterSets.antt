@@ -1,8 +1,9 @@
--- Sets: a bit by a table of powers, a set as it stands in the image, and what a side sees, by which it is compared as one that names no set.
-use Prim.Native.Nat.{ℕ, zero, suc, _+_, _-_, _/_, _%_, _<_, _≤_}
+-- Sets: a set as it stands in the image, the test of its letters, and what a side sees, by which it is compared as one that names no set.
+use Prim.Native.Nat.{ℕ, _+_, _*_, _-_, _/_, _%_, _<_, _≤_, _^_}
 use native.Mathlib.Omega.{arith}
+use native.Mathlib.Decide.{ℕ-discrete, decLe}
 use mathlib.Core.Bool.{Bool, true, false, _&&_, _||_, not, cond, true≢false}
-use mathlib.Core.Path.{_≡_, refl, sym, ap, ap₂, _∙_}
+use mathlib.Core.Path.{_≡_, refl, sym, ap, ap₂, _∙_, subst}
 use mathlib.Core.List.{List, [], _∷_, map, List·Memᴰ, List·Memᴰ·head, List·Memᴰ·tail}
 use lib.ListN.{length, getD, length-map, List·getD-eq-default}
 use lib.Dec.{T, leb, eqb}
@@ -10,42 +11,14 @@ use borrow.Author.Tests.{le-leb, lt-leb, eq-eqb, ne-eqb}
 use Rattle.model.specs.Lists.{below, every, count, within, byte, bit}
 use Rattle.model.specs.Blocks.{Header, header, kinds, recordStart, recordAt}
 use Rattle.model.specs.RuleTables.{Pair, Sides, letterSets, inSet, isSet, namesSet, matchesSide, matches}
-use Rattle.model.proofs.Booleans.{within-out, of-true}
-use Rattle.model.proofs.Lists.{bit-none, below-from, getD-map-below, length-map-below}
+use Rattle.model.proofs.Booleans.{within-out, of-true, true-of, false-of, not-both}
+use Rattle.model.proofs.Lists.{bit-none, below-has, below-from, every-in, every-at, getD-map-below, length-map-below}
 use Rattle.image.specs.Laid.{Laid}
 use Rattle.image.proofs.Records.{record-inside, record-byte, record-length}
+use Rattle.tables.proofs.Bits.{halved, high-none, none-of, low-of}
 use Rattle.tables.specs.Sides.{meetsSide, meets}
 use Rattle.tables.specs.Seen.{seenBy, Seen}
 use Rattle.tables.specs.Passes.{pairIn, listed, narrower, lesserOf, Passed, PassedBy}
-
-abbrev pub powers : List ℕ
-powers = 1 ∷ 2 ∷ 4 ∷ 8 ∷ 16 ∷ 32 ∷ 64 ∷ 128 ∷ []
-
-pub power-some : (i : ℕ) → i < 8 → 1 ≤ getD powers i 0
-power-some zero h = omega arith
-power-some (suc zero) h = omega arith
-power-some (suc (suc zero)) h = omega arith
-power-some (suc (suc (suc zero))) h = omega arith
-power-some (suc (suc (suc (suc zero)))) h = omega arith
-power-some (suc (suc (suc (suc (suc zero))))) h = omega arith
-power-some (suc (suc (suc (suc (suc (suc zero)))))) h = omega arith
-power-some (suc (suc (suc (suc (suc (suc (suc zero))))))) h = omega arith
-power-some (suc (suc (suc (suc (suc (suc (suc (suc i)))))))) h = absurd (omega arith)
-
-lowest : {m n : ℕ} → m ≡ n → eqb (m % 2) 1 ≡ eqb (n % 2) 1
-lowest e = ap (λ (x : ℕ). eqb (x % 2) 1) e
-
--- a number divided by a power has the bit as its lowest
-pub power-bit : (n i : ℕ) → i < 8 → eqb (n / getD powers i 0 % 2) 1 ≡ bit n i
-power-bit n zero h = let e : n / 1 ≡ n = omega arith in lowest e
-power-bit n (suc zero) h = refl
-power-bit n (suc (suc zero)) h = let e : n / 4 ≡ n / 2 / 2 = omega arith in lowest e
-power-bit n (suc (suc (suc zero))) h = let e : n / 8 ≡ n / 2 / 2 / 2 = omega arith in lowest e
-power-bit n (suc (suc (suc (suc zero)))) h = let e : n / 16 ≡ n / 2 / 2 / 2 / 2 = omega arith in lowest e
-power-bit n (suc (suc (suc (suc (suc zero))))) h = let e : n / 32 ≡ n / 2 / 2 / 2 / 2 / 2 = omega arith in lowest e
-power-bit n (suc (suc (suc (suc (suc (suc zero)))))) h = let e : n / 64 ≡ n / 2 / 2 / 2 / 2 / 2 / 2 = omega arith in lowest e
-power-bit n (suc (suc (suc (suc (suc (suc (suc zero))))))) h = let e : n / 128 ≡ n / 2 / 2 / 2 / 2 / 2 / 2 / 2 = omega arith in lowest e
-power-bit n (suc (suc (suc (suc (suc (suc (suc (suc i)))))))) h = absurd (omega arith)
 
 -- the sets of an image
 module _ {image : List ℕ} {h : Header} (laid : Laid image h) (i : ℕ) where
@@ -72,6 +45,14 @@ module _ {image : List ℕ} {h : Header} (laid : Laid image h) (i : ℕ) where
       ∙ bit-none (a % 8)
 
   -- a byte of a set is that byte of the image
+  pub set-byte : (j : ℕ) → j < 16 → byte (recordAt image 7 i) j ≡ byte image (recordStart h 7 i + j)
+  unfolding kinds
+  set-byte j k = record-byte laid 7 i j k
+
+  pub byte-inside : (j : ℕ) → i < h .sets → j < 16 → recordStart h 7 i + j < length image
+  unfolding kinds
+  byte-inside j k l = record-inside laid 7 i j k l
+
   pub set-inside : (a : ℕ) → i < h .sets → a < 128 → recordStart h 7 i + a / 8 < length image
   unfolding kinds
   set-inside a k l = record-inside laid 7 i (a / 8) k (omega arith)
@@ -92,16 +73,47 @@ module _ (image : List ℕ) (h : Header) (laid : Laid image h) where
       over f [] = refl
       over f (x ∷ xs) = ap (λ (b : Bool). f (recordAt image 7 x) && b) (over f xs)
 
--- a letter is no letter above L, or is one
-module _ (letters : ℕ) (set : List ℕ) where
-  abbrev pub allows : ℕ → Bool
+-- test 6 of a set: by the byte that has letter L and by those after it
+module _ (letters : ℕ) (set : List ℕ) (most : letters < 128) where
+  abbrev allows : ℕ → Bool
   allows a = leb a letters || not (inSet set a)
 
-  pub allows-low : (a : ℕ) → a ≤ letters → allows a ≡ true
-  allows-low a h = ap (λ (b : Bool). b || not (inSet set a)) (le-leb a letters h)
+  abbrev last : ℕ
+  last = byte set (letters / 8)
 
-  pub allows-high : (a : ℕ) → letters < a → allows a ≡ not (inSet set a)
-  allows-high a h = ap (λ (b : Bool). b || not (inSet set a)) (lt-leb a letters h)
+  -- no bit above L where the byte of L has none, and every byte after it is 0
+  pub set-right : halved last (letters % 8) ≤ 1 → ((j : ℕ) → letters / 8 < j → j < 16 → byte set j ≡ 0) → isSet letters set ≡ true
+  unfolding isSet inSet
+  set-right low none = true-of (every allows (below 128)) (every-in allows (below 128) (λ a m. of-true (allows a) (each a (below-from 128 a m) (decLe a letters) (ℕ-discrete (a / 8) (letters / 8)))))
+    where
+      each : (a : ℕ) → a < 128 → Dec (a ≤ letters) → Dec (a / 8 ≡ letters / 8) → allows a ≡ true
+      each a h (yes k) d = ap (λ (b : Bool). b || not (inSet set a)) (le-leb a letters k)
+      each a h (no k) (yes e) =
+          ap (λ (b : Bool). b || not (inSet set a)) (lt-leb a letters (omega arith))
+          ∙ ap not (ap (λ (j : ℕ). bit (byte set j) (a % 8)) e ∙ high-none last (letters % 8) (a % 8) low (omega arith))
+      each a h (no k) (no e) =
+          ap (λ (b : Bool). b || not (inSet set a)) (lt-leb a letters (omega arith))
+          ∙ ap not (ap (λ (n : ℕ). bit n (a % 8)) (none (a / 8) (omega arith) (omega arith)) ∙ bit-none (a % 8))
+
+  -- and back: a set that passes has no bit above L
+  module _ (right : T (isSet letters set)) where
+    none-above : (j i : ℕ) → j < 16 → i < 8 → letters < 8 * j + i → bit (byte set j) i ≡ false
+    unfolding isSet inSet
+    none-above j i h k l =
+        let a = 8 * j + i in
+        let q : a / 8 ≡ j = omega arith in
+        let r : a % 8 ≡ i = omega arith in
+        let t = every-at allows (below 128) (below-has 128 a (omega arith)) right in
+        false-of (bit (byte set j) i)
+        (λ b.
+        let c : inSet set a ≡ bit (byte set j) i = ap₂ (λ (x y : ℕ). bit (byte set x) y) q r in
+        not-both (inSet set a) (subst T (sym c) b) (subst T (ap (λ (x : Bool). x || not (inSet set a)) (lt-leb a letters l)) t))
+
+    pub last-low : last < 2 ^ 8 → halved last (letters % 8) ≤ 1
+    last-low few = low-of 8 last (letters % 8) few (omega arith) (λ i h k. none-above (letters / 8) i (omega arith) k (omega arith))
+
+    pub rest-none : (j : ℕ) → letters / 8 < j → j < 16 → byte set j < 2 ^ 8 → byte set j ≡ 0
+    rest-none j h k few = none-of 8 (byte set j) few (λ i l. none-above j i k l (omega arith))
 
 -- what a side sees
 module _ (sets : List (List ℕ)) where

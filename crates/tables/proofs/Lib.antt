@@ -6,6 +6,7 @@ pub mod Breadths
 pub mod Laws
 pub mod Unique
 pub mod Passes
+pub mod Bits
 pub mod LetterSets
 pub mod RowByRow
 pub mod Rows

@@ -25,7 +25,7 @@ fn has_bit(byte: u8, i: usize) -> bool
     requires { ⌜ i < 8 ⌝ }
     ensures { λ r. ⌜ r ≡ bit byte i ⌝ }
 {
-    byte / POWER[i] % 2 == 1
+    byte & POWER[i] != 0
 }
 
 // Whether set i has a letter. A set that is missing has none.
@@ -73,12 +73,15 @@ fn seen_letter(image: &[u8], h: Header, side: u8, letter: u8) -> u8
     UNSEEN
 }
 
-// What a side sees of the first letters.
+// What a side sees of the first letters: where it names no set, all as they are.
 pub fn seen(image: &[u8], h: Header, side: u8, letters: &[u8; 256], n: usize) -> [u8; 256]
     requires { ⌜ Laid (now image) (headerOf h) ⌝ }
     requires { ⌜ n ≤ 256 ⌝ }
     ensures { λ r. ⌜ Seen (letterSets (now (image .entry))) side (now (letters .entry)) n r ⌝ }
 {
+    if !names_set(side) {
+        return *letters;
+    }
     let mut out = [UNSEEN; 256];
     let mut p: usize = 0;
     while p < n {
@@ -88,18 +91,24 @@ pub fn seen(image: &[u8], h: Header, side: u8, letters: &[u8; 256], n: usize) ->
     out
 }
 
-// Set i has no letter above L.
+// Set i has no letter above L: no bit after L's in its byte, and none in the bytes after it.
 fn is_set(image: &[u8], h: Header, i: usize) -> bool
     requires { ⌜ Laid (now image) (headerOf h) ⌝ }
     requires { ⌜ i < headerOf h .sets ⌝ }
     ensures { λ r. ⌜ r ≡ isSet (h .letters) (recordAt (now (image .entry)) 7 i) ⌝ }
 {
-    let mut a = h.letters + 1;
-    while a < 128 {
-        if has_letter(image, h, i, a as u8) {
+    let from = kinds::record_start(h, 7, i);
+    let last = h.letters / 8;
+    let power = POWER[h.letters % 8] as usize;
+    if image::byte_at(image, from + last) / power > 1 {
+        return false;
+    }
+    let mut j = last + 1;
+    while j < 16 {
+        if image::byte_at(image, from + j) != 0 {
             return false;
         }
-        a += 1;
+        j += 1;
     }
     true
 }

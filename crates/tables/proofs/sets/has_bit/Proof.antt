@@ -1,17 +1,14 @@
 -- `has_bit` meets its contract, by a table of powers.
 use borrow.Author.Needs.{needs}
-use Rattle.tables.proofs.LetterSets.{power-some, power-bit}
+use Rattle.tables.proofs.Bits.{power-bit}
 use Rattle.tables.proofs.sets.has_bit.Statement.{statement}
 use Rattle.tables.proofs.sets.has_bit.Tie as tie
 
 array-read-result : tie.Need-array-read-result
 array-read-result c = search needs
 
-div-result : tie.Need-div-result
-div-result c = power-some (c .args .i) (c .pre)
-
 returns : tie.Need-returns
 returns c = power-bit (c .args .byte) (c .args .i) (c .pre)
 
 pub has-bit-spec : {M : Type 1} → statement M
-has-bit-spec = tie.close (tie.spec array-read-result div-result returns)
+has-bit-spec = tie.close (tie.spec array-read-result returns)

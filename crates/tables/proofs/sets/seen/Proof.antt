@@ -2,11 +2,13 @@
 use borrow.Author.Needs.{needs}
 use native.Mathlib.Omega.{arith}
 use Prim.Native.Nat.{ℕ, _-_, _≤_}
-use mathlib.Core.Path.{_≡_, refl, _∙_}
+use mathlib.Core.Path.{_≡_, refl, sym, _∙_}
 use lib.ListN.{length, length-set}
 use Rattle.model.specs.Lists.{byte}
 use Rattle.model.specs.RuleTables.{letterSets}
 use Rattle.tables.specs.Seen.{seenBy}
+use Rattle.tables.proofs.Lists.{fails}
+use Rattle.tables.proofs.LetterSets.{plain-sees}
 use Rattle.tables.proofs.Passes.{Written, written-none, written-more}
 use Rattle.tables.proofs.sets.seen.Statement.{statement}
 use Rattle.tables.proofs.sets.seen.Tie as tie
@@ -16,6 +18,15 @@ Inv-loop image h side letters n out₀ p₀ out p = (p ≤ n) × (length out ≡
 
 abbrev μ-loop : tie.MeasureT-loop
 μ-loop image h side letters n out₀ p₀ out p = n - p
+
+names-set-requires : tie.Need-names-set-requires Inv-loop μ-loop
+names-set-requires c κs = search needs
+
+returns : tie.Need-returns Inv-loop μ-loop
+returns c =
+    let m = c .before .before in
+    let a = m .before .before .args in
+    record { each = λ p h. sym (plain-sees (letterSets (a .image .now)) (a .side) (fails (m .names-set .result) (m .names-set .ensures) (c .before .if1 .taken)) (byte (a .letters .now) p)) }
 
 loop-holds : tie.Need-loop-holds Inv-loop μ-loop
 loop-holds c = (omega arith, refl, written-none _ _)
@@ -40,8 +51,8 @@ loop-again c =
     let l = c .before .before .before .loop in
     (omega arith, length-set (l .out) (l .p) (c .seen-letter .result) ∙ l .inv .1, written-more (l .inv .2) (c .seen-letter .result) (omega (arith, l .inv .2 .size, l .inv .1)) (c .seen-letter .ensures))
 
-returns : tie.Need-returns Inv-loop μ-loop
-returns c = let l = c .before .loop in record { each = λ p h. l .inv .2 .done p (omega arith) }
+returns-2 : tie.Need-returns-2 Inv-loop μ-loop
+returns-2 c = let l = c .before .loop in record { each = λ p h. l .inv .2 .done p (omega arith) }
 
 pub seen-spec : {M : Type 1} → statement M
 seen-spec =
@@ -49,6 +60,8 @@ seen-spec =
     (tie.spec
     Inv-loop
     μ-loop
+    names-set-requires
+    returns
     loop-holds
     element-copy-out-seen-letter
     seen-letter-requires
@@ -56,4 +69,4 @@ seen-spec =
     add-p
     loop-less
     loop-again
-    returns)
+    returns-2)
