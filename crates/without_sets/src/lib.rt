@@ -1,0 +1,1 @@
+// Theorems alone: images without sets are what they were before there were any.
