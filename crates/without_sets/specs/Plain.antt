@@ -1,7 +1,9 @@
--- Document 01 without what document 02, (c), adds: a header of five counts, no block of sets, and column sides that are letters or any.
+-- Document 01 without what document 02, (c), adds: a header of five counts, no block of sets, and column sides that are letters or any. What else an image is
+-- asked and read for, it is by its records, which stand where they stood (`plain-record`); those of an image with sets are never asked for, since 3 comes first
+-- (`sets-were-3`).
 use Prim.Native.Nat.{ℕ, _+_, _*_, _-_, _/_, _%_, min}
 use mathlib.Core.Bool.{Bool, _&&_, _||_, not}
-use mathlib.Core.List.{List, [], _∷_, _++_, map}
+use mathlib.Core.List.{List, [], _∷_, map}
 use lib.ListN.{getD, take, drop}
 use lib.Dec.{leb, ltb, eqb}
 use Rattle.model.specs.Lists.{below, every, count, first, sum, within, isZero}
