@@ -21,8 +21,8 @@
  * Every reply is one number r. r % 4 == 3 is a refusal, numbered r / 4. The tests, in the order in which they are made:
  *    1  image length 0, over 65,536, or no multiple of 512
  *    2  a check or block number is wrong
- *    3  form, counts, block total, kinds, record counts or unused block bytes are not as laid down, over 31 sets, or a block
- *       of sets missing or without sets
+ *    3  form, counts, block total, kinds, record counts or unused block bytes are not as laid down; over 31 sets; the block
+ *       of sets missing, or there though no set is counted
  *    4  a code point is 0, 55296-57343, or repeated
  *    5  a pair breaks its rule or is repeated
  *    6  a rule table's counts, column sides, marks or next states are out of range, a side names a missing set, or a byte

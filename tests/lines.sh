@@ -1,5 +1,5 @@
 #!/usr/bin/env bash
-# The line program: the trials in tests/trials (an image, its input and what has to be printed), no image and one that is too long, a line without end
+# The line program: the trials in tests/trials (an image, its input and what has to be printed), a sample by sets, no image and one that is too long, a line without end
 # at constant memory, a standard output that closes, and reads and writes that fail, stop short or are interrupted.
 set -eu
 cd "$(dirname "$0")/.."
@@ -17,6 +17,11 @@ for input in "$root"/tests/trials/*.in; do
     "$root/target/bin/lines" <"$input" | diff - "$trial.out"
     echo "$(basename "$trial"): as stored"
 done
+
+# quichua's rules speak of sets, and its words get the answers that they got when each letter of a set had its own column
+"$CARGO_TARGET_DIR/release/assemble" "$root/grammars/quichua.txt" grammar.img
+[ "$("$root/target/bin/lines" <"$root/grammars/quichua.words" | cksum)" = "3603404497 33815" ]
+echo "quichua by sets: as by letters"
 
 # an image that is too long, by a byte and by far, and none at all
 head -c 65537 /dev/zero >grammar.img

@@ -51,7 +51,7 @@ pub fn read(sections: &[Section], sides: Sides, pairs: &[Pair], faults: &mut Fau
 fn read_rule(section: &Section, sides: Sides, pairs: &[Pair]) -> Result<Rule, Fault> {
     let heading = read_heading(section)?;
     let [lexical, surface, rows @ ..] = &section.body[..] else {
-        let what = "a rule has a row of lexical letters and a row of surface letters";
+        let what = "a rule has a row of lexical sides and a row of surface sides";
         return Err(Fault::new(section.last_line(), what));
     };
     let columns = read_columns(lexical, surface, &heading, sides)?;
@@ -93,7 +93,7 @@ fn read_columns(lexical: &Line, surface: &Line, heading: &Heading, sides: Sides)
 fn read_sides(line: &Line, level: &str, heading: &Heading, sides: Sides) -> Result<Vec<u8>, Fault> {
     if line.words.len() != heading.columns {
         let (found, said) = (line.words.len(), heading.columns);
-        let what = format!("{found} {level} letters where the rule has {said} columns");
+        let what = format!("{found} {level} sides where the rule has {said} columns");
         return Err(Fault::new(line.number, what));
     }
     line.words.iter().map(|&word| read_side(word, line.number, sides)).collect()

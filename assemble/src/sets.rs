@@ -90,7 +90,7 @@ fn read_letters(section: &Section, set: &str, alphabet: &Alphabet, faults: &mut 
         let letter = read_letter(word, line, alphabet).and_then(|letter| {
             if letters.contains(&letter) {
                 let character = name(alphabet.character(letter));
-                return Err(Fault::new(line, format!("letter {character} is in set {set} already")));
+                return Err(Fault::new(line, format!("{character} is in set {set} already")));
             }
             Ok(letter)
         });

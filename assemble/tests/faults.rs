@@ -178,9 +178,9 @@ fn of_sets() {
         ("SUBSET SUBSET e", 8, "SUBSET cannot name a set: it is a keyword"),
         ("SUBSET Front e\nSUBSET Front e", 9, "a second set Front; the first is in line 8"),
         ("SUBSET Front e\nSUBSET Low u\nSUBSET Front", 10, "a second set Front; the first is in line 8"),
-        ("SUBSET Front e\n  u e", 9, "letter e (U+0065) is in set Front already"),
-        ("SUBSET Front 0 0", 8, "letter 0 (U+0030) is in set Front already"),
-        ("SUBSET Front # e #", 8, "letter # (U+0023) is in set Front already"),
+        ("SUBSET Front e\n  u e", 9, "e (U+0065) is in set Front already"),
+        ("SUBSET Front 0 0", 8, "0 (U+0030) is in set Front already"),
+        ("SUBSET Front # e #", 8, "# (U+0023) is in set Front already"),
         ("SUBSET Front e\n\n  k", 10, "k (U+006B) is no letter of the alphabet"),
         ("SUBSET Front e @", 8, "@ stands for any letter, which only a rule's column may"),
         ("SUBSET Front \"e\"", 8, "a letter stands without quotation marks"),
@@ -201,7 +201,7 @@ fn all_faults_of_sets_are_told_and_hide_those_of_pairs() {
     let stderr = "\
 grammar.txt:8: c cannot name a set: it is a letter
 grammar.txt:9: k (U+006B) is no letter of the alphabet
-grammar.txt:9: letter e (U+0065) is in set Front already
+grammar.txt:9: e (U+0065) is in set Front already
 grammar.txt:10: set Low has no letters
 ";
     assert_eq!(ran, Ran { code: Some(1), stdout: String::new(), stderr: stderr.to_string() });
@@ -230,7 +230,7 @@ fn of_pairs() {
 #[test]
 fn of_rule_tables() {
     let heading = "RULE takes a name in quotation marks, the count of states, and of columns";
-    let letters = "a rule has a row of lexical letters and a row of surface letters";
+    let letters = "a rule has a row of lexical sides and a row of surface sides";
     let side = "a side of a column is one character or the name of a set";
     let next = "a next state is a number from 0 to 5";
     check(
@@ -244,8 +244,8 @@ fn of_rule_tables() {
             ("RULE \"Z\" 5 5", "RULE \"Z\" 99999999999999999999 5", 11, heading),
             ("RULE \"Z\" 5 5", "RULE \"Z\" 4 5", 18, "a row more than the rule's 4 states"),
             ("RULE \"Z\" 5 5", "RULE \"Z\" 6 5", 18, "5 rows where the rule has 6 states"),
-            ("RULE \"Z\" 5 5", "RULE \"Z\" 5 4", 12, "5 lexical letters where the rule has 4 columns"),
-            ("c z 0 e @", "c z 0 e", 13, "4 surface letters where the rule has 5 columns"),
+            ("RULE \"Z\" 5 5", "RULE \"Z\" 5 4", 12, "5 lexical sides where the rule has 4 columns"),
+            ("c z 0 e @", "c z 0 e", 13, "4 surface sides where the rule has 5 columns"),
             ("c z 0 e @", "c z 0 e k", 13, "k (U+006B) is no letter of the alphabet, and no set is called so"),
             ("Z Z + e @", "Z Z + e any", 12, &format!("no set is called any; {side}")),
             ("c z 0 e @", "c z 0 e e\u{301}", 13, &format!("no set is called e\u{301}; {side}")),

@@ -1,12 +1,11 @@
 -- From tests 1 and 3 to facts: the limits, and that an image is laid out.
-use Prim.Native.Nat.{ℕ, _+_, _*_, _/_, _≤_}
+use Prim.Native.Nat.{ℕ, _*_, _≤_}
 use native.Mathlib.Omega.{arith}
 use native.Mathlib.Decide.{decLe}
 use mathlib.Core.Bool.{Bool, true, false, _&&_}
 use mathlib.Core.Path.{_≡_, refl, sym, ap, _∙_}
 use mathlib.Core.List.{List}
-use lib.ListN.{length}
-use lib.Dec.{T, leb, eqb, eqb→eq}
+use lib.Dec.{leb, eqb, eqb→eq}
 use borrow.Author.Tests.{eq-eqb, ne-eqb, le-leb, lt-leb}
 use Rattle.model.specs.Lists.{below, every, within}
 use Rattle.model.specs.Blocks.{Header, header, block, blockCount, blockTotal, withinLimits, laidOut}

@@ -1,13 +1,13 @@
 -- Laws of blocks: the weighted sum, a byte more, and a block's bytes as bytes of the image.
-use Prim.Native.Nat.{ℕ, zero, suc, _+_, _*_, _<_, _≤_}
+use Prim.Native.Nat.{ℕ, zero, suc, _+_, _*_, _<_}
 use native.Mathlib.Nat.{add-assoc, add-suc, suc-add, add-zero, zero-add}
 use native.Mathlib.Numerals.{add-one}
-use mathlib.Core.Path.{_≡_, refl, sym, ap, ap₂, _∙_}
-use mathlib.Core.List.{List, [], _∷_, _++_}
-use lib.ListN.{length, getD, take, drop}
+use mathlib.Core.Path.{_≡_, sym, ap, ap₂, _∙_}
+use mathlib.Core.List.{List, [], _∷_}
+use lib.ListN.{length, take, drop}
 use lib.Seq.{getD-take, getD-drop}
 use native.Mathlib.Omega.{arith}
-use Rattle.model.specs.Lists.{byte, number, part}
+use Rattle.model.specs.Lists.{byte, number}
 use Rattle.model.specs.Blocks.{Header, header, block, weightedSum}
 
 sum-more : (k i : ℕ) (l : List ℕ) → i < length l → weightedSum k (take (suc i) l) ≡ weightedSum k (take i l) + suc (k + i) * byte l i

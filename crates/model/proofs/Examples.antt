@@ -1,5 +1,5 @@
 -- Document 01's table of refusals, its small example for each number and its neighbours, and those of 14; its other trials; and its traps.
-use Prim.Native.Nat.{ℕ, _+_}
+use Prim.Native.Nat.{ℕ}
 use mathlib.Core.Path.{_≡_, refl}
 use mathlib.Core.List.{List, [], _∷_, _++_, map}
 use lib.ListN.{length, take, replicate, set}

@@ -1,5 +1,5 @@
--- Document 01, "When a call is turned down", with what document 02, (c), adds to 3 and 6, and the answer that (b) adds: the tests 1 to 14, and the first that fails, in the order in which
--- they are made.
+-- Document 01, "When a call is turned down", with what document 02, (c), adds to 3 and 6, and the answer that (b) adds: the tests 1 to 14, and the first that
+-- fails, in the order in which they are made.
 use Prim.Native.Nat.{ℕ, _%_}
 use mathlib.Core.Bool.{Bool, true, false, _&&_}
 use mathlib.Core.List.{List, [], _∷_, _++_, map}

@@ -117,7 +117,7 @@ module _ (t : List ℕ) where
 
 -- the letters that a side matches, by the sets of the image
 module _ (sets : List (List ℕ)) where
-  -- "255 for any, which matches the null and the boundary too"; and a set matches the letters that it has: it "may hold the null (bit 0) and the boundary (bit 1)"
+  -- "255 for any, which matches the null and the boundary too"; and a set the letters that it has, which "may hold the null (bit 0) and the boundary (bit 1)"
   unfoldable pub matchesSide : ℕ → ℕ → Bool
   matchesSide side letter = cond (namesSet side) (inSet (getD sets (side - 128) []) letter) (eqb side 255 || eqb side letter)
 

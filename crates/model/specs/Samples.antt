@@ -90,9 +90,9 @@ setsWith sets table =
     imageWith (map setBytes sets) (35 ∷ 97 ∷ 101 ∷ 105 ∷ 110 ∷ 113 ∷ 114 ∷ 121 ∷ 43 ∷ []) (2 ∷ 2 ∷ 3 ∷ 3 ∷ 4 ∷ 3 ∷ 4 ∷ 4 ∷ 5 ∷ 5 ∷ 6 ∷ 6 ∷ 9 ∷ 0 ∷ []) table
     ((entryBytes (4 ∷ 6 ∷ []) 255 0 ∷ entryBytes (4 ∷ 5 ∷ 6 ∷ []) 255 1 ∷ entryBytes (4 ∷ 2 ∷ []) 255 2 ∷ []) ∷ [])
 
--- document 02, (c): "The Quichua grammar of source document 001 speaks of postvelars and transparent sounds". Its rule 3, i:i /<= _ Ftr:@ CPos:@, over the transparent
--- y n r and the postvelar q. Columns i:e, i:i, Ftr:any, CPos:any, any:any; rows 1: 2 5 1 1 1; 2: 2 0 3 4 1; 3: 2 5 3 4 1; 4: 2 5 1 1 1; 5: 2 5 6 0 1; 6: 2 5 1 0 1;
--- all final.
+-- document 02, (c): "The Quichua grammar of source document 001 speaks of postvelars and transparent sounds". Its rule 3, i:i /<= _ Ftr:@ CPos:@, over the
+-- transparent y n r and the postvelar q. Columns i:e, i:i, Ftr:any, CPos:any, any:any; rows 1: 2 5 1 1 1; 2: 2 0 3 4 1; 3: 2 5 3 4 1; 4: 2 5 1 1 1;
+-- 5: 2 5 6 0 1; 6: 2 5 1 0 1; all final.
 unfoldable pub setsImage : List ℕ
 setsImage =
     setsWith ((8 ∷ 5 ∷ 7 ∷ []) ∷ (6 ∷ []) ∷ [])

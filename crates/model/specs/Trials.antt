@@ -102,7 +102,7 @@ pub record Starred : Type 0 where
   pub sets-ii-a : passes (grammarOf setsImage) (3 ∷ 0 ∷ []) ≡ true
   pub sets-readings : allReadings setsImage (analysis (3 ∷ 6 ∷ [])) ≡ reading (0 ∷ []) (2 ∷ 5 ∷ []) ∷ []
   pub sets-none : listingReply setsImage (analysis (4 ∷ 6 ∷ [])) 64 ≡ Reply.none
-  -- "A set may hold the null (bit 0) and the boundary (bit 1)": columns any:{null}, {boundary}:{boundary}, any:any; the columns that the pairs and the boundary take
+  -- "A set may hold the null (bit 0) and the boundary (bit 1)": the columns that the pairs and the boundary take, of any:{null}, {boundary}:{boundary}, any:any
   pub null-and-boundary : columnsOf (setsWith ((0 ∷ []) ∷ (1 ∷ []) ∷ []) (3 ∷ 1 ∷ 255 ∷ 128 ∷ 129 ∷ 129 ∷ 255 ∷ 255 ∷ 1 ∷ 1 ∷ 1 ∷ 1 ∷ [])) 0 ≡ 2 ∷ 2 ∷ 2 ∷ 2 ∷ 2 ∷ 2 ∷ 0 ∷ 1 ∷ []
   -- "narrowness still counts pairs": {n q}:any and {q a}:any both match two pairs, q:q among them
   pub tie-of-sets : imageVerdict (setsWith ((5 ∷ 6 ∷ []) ∷ (6 ∷ 2 ∷ []) ∷ []) (3 ∷ 1 ∷ 128 ∷ 255 ∷ 129 ∷ 255 ∷ 255 ∷ 255 ∷ 1 ∷ 1 ∷ 1 ∷ 1 ∷ [])) ≡ Verdict.refused 7

@@ -1,7 +1,7 @@
 -- Bits of a number: one by a table of powers, and the numbers that have none from some bit on.
 use Prim.Native.Nat.{ℕ, zero, suc, _+_, _*_, _/_, _%_, _<_, _≤_, _^_, min}
 use native.Mathlib.Omega.{arith}
-use mathlib.Core.Bool.{Bool, true, false, not, true≢false}
+use mathlib.Core.Bool.{Bool, false, not, true≢false}
 use mathlib.Core.Path.{_≡_, refl, sym, ap, ap₂, _∙_}
 use mathlib.Core.List.{List, [], _∷_}
 use lib.ListN.{getD}
@@ -78,7 +78,7 @@ power-most (suc (suc (suc (suc (suc (suc zero)))))) = omega arith
 power-most (suc (suc (suc (suc (suc (suc (suc zero))))))) = omega arith
 power-most (suc (suc (suc (suc (suc (suc (suc (suc k)))))))) = omega arith
 
--- is divided by a power
+-- a number halved k times is the number divided by power k
 pub power-halved : (n k : ℕ) → k < 8 → n / getD powers k 0 ≡ halved n k
 power-halved n zero h = omega arith
 power-halved n (suc zero) h = refl

@@ -4,12 +4,12 @@ use native.Mathlib.Omega.{arith}
 use native.Mathlib.Decide.{ℕ-discrete, decLt}
 use mathlib.Core.Bool.{Bool, true, false, cond, not}
 use mathlib.Core.Path.{_≡_, refl, sym, ap, ap₂, _∙_}
-use mathlib.Core.List.{List, map}
-use lib.ListN.{length, getD, set, length-set}
+use mathlib.Core.List.{List}
+use lib.ListN.{length, set, length-set}
 use lib.Seq.{ext-getD, getD-set-same, getD-set-other}
 use lib.Dec.{ltb, eqb}
 use borrow.Author.Tests.{lt-ltb, le-ltb, eq-eqb, ne-eqb}
-use Rattle.model.specs.Lists.{below, every, byte}
+use Rattle.model.specs.Lists.{every, byte}
 use Rattle.model.specs.Blocks.{header}
 use Rattle.model.specs.RuleTables.{Pair, boundaryPair, letterSets, pairsAndBoundary, columnCount, columnFor}
 use Rattle.model.proofs.Lists.{length-map-below, getD-map-below, map-from, every-same}
@@ -17,7 +17,7 @@ use Rattle.tables.specs.Sides.{pairNumber}
 use Rattle.tables.specs.Breadths.{columnsBy}
 use Rattle.tables.specs.Passes.{listed, narrower, lesserOf, Chosen, front}
 use Rattle.tables.proofs.Pairs.{length-pairsAndBoundary}
-use Rattle.tables.proofs.Choice.{NarrowestSoFar, pass-unmatched, pass-narrower, pass-tie, pass-broader, pass-read}
+use Rattle.tables.proofs.Choice.{NarrowestSoFar, pass-unmatched, pass-narrower, pass-tie, pass-broader}
 use Rattle.tables.proofs.Breadths.{taken-most, length-columns, columnPast, columns-at}
 
 -- an array whose first p places were written, the others as they were

@@ -1,5 +1,5 @@
 -- Images without sets keep their meaning and their verdict: what was accepted before there were sets has none and stands for the same grammar, and an image
--- that has some was refused with 3.
+-- that has some was refused, with 3 where 1 and 2 let it pass.
 use Prim.Native.Nat.{ℕ, zero, suc, _+_, _*_, _/_, _%_, _<_, _≤_}
 use native.Mathlib.Omega.{arith}
 use mathlib.Core.Bool.{Bool, true, false, _&&_, not}
@@ -97,7 +97,7 @@ module _ (image : List ℕ) where
       unfolding withinLimits
       few-letters =
           let h = header image in
-          let u = and-out (within 2 120 (h .letters) && within 1 250 (h .pairs) && within 0 32 (h .rules) && within 1 64 (h .lexicons) && within 1 2800 (h .entries)) (within 0 31 (h .sets)) limits in
+          let u = and-out (plainLimits h) (within 0 31 (h .sets)) limits in
           let v = out5 (within 2 120 (h .letters)) (within 1 250 (h .pairs)) (within 0 32 (h .rules)) (within 1 64 (h .lexicons)) (within 1 2800 (h .entries)) (u .0) in
           within-out 2 120 (h .letters) (v .0) .1
 

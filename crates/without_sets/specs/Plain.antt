@@ -1,6 +1,5 @@
--- Document 01 without what document 02, (c), adds: a header of five counts, no block of sets, and column sides that are letters or any. What else an image is
--- asked and read for, it is by its records, which stand where they stood (`plain-record`); those of an image with sets are never asked for, since 3 comes first
--- (`sets-were-3`).
+-- Document 01 without what document 02, (c), adds: a header of five counts, no block of sets, and column sides that are letters or any. All else is read
+-- from records, which stand where they stood (`plain-record`); an image with sets gets no further than 3 (`sets-were-3`).
 use Prim.Native.Nat.{ℕ, _+_, _*_, _-_, _/_, _%_, min}
 use mathlib.Core.Bool.{Bool, _&&_, _||_, not}
 use mathlib.Core.List.{List, [], _∷_, map}

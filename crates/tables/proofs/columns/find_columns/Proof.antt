@@ -1,18 +1,16 @@
 -- `find_columns` meets its contract: the columns passed, for each pair.
 use borrow.Author.Needs.{needs}
 use native.Mathlib.Omega.{arith}
-use mathlib.Core.Bool.{Bool, cond}
 use mathlib.Core.List.{List}
 use mathlib.Core.Path.{_≡_, refl, sym, ap, ap₂, subst, _∙_}
 use Prim.Native.Nat.{ℕ, _+_, _<_, _≤_, _-_}
-use lib.ListN.{length, getD, length-replicate, getD-replicate}
+use lib.ListN.{length, getD, getD-replicate}
 use Rattle.model.specs.Lists.{byte, count}
-use Rattle.model.specs.Blocks.{header}
-use Rattle.model.specs.RuleTables.{Pair, Sides, boundaryPair, letterSets, pairsAndBoundary, column, columnCount, matches, breadth, columnFor}
+use Rattle.model.specs.RuleTables.{Pair, Sides, boundaryPair, letterSets, pairsAndBoundary, column, matches, breadth}
 use Rattle.model.proofs.Lists.{getD-map-below}
 use Rattle.letters.proofs.Laws.{laid-pairs}
 use Rattle.tables.specs.Sides.{sidesOf, pairNumber}
-use Rattle.tables.specs.Passes.{pairIn, listed, narrower, lesserOf}
+use Rattle.tables.specs.Passes.{pairIn, listed}
 use Rattle.tables.proofs.Choice.{NarrowestSoFar, pass-none, pass-read, pass-all, narrowest}
 use Rattle.tables.proofs.Breadths.{matching, broad, breadth-most, narrowest-is}
 use Rattle.tables.proofs.Passes.{pass-kept}

@@ -1,6 +1,5 @@
 -- `keep_column` meets its contract: by the letters as they are where no side names a set, else as the sides see them.
 use borrow.Author.Needs.{needs}
-use mathlib.Core.Path.{sym, _∙_}
 use Rattle.model.specs.RuleTables.{letterSets, matches}
 use Rattle.tables.specs.Sides.{sidesOf, meets}
 use Rattle.tables.specs.Passes.{pairIn}

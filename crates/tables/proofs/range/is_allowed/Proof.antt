@@ -1,5 +1,4 @@
 -- `is_allowed` meets its contract: by the bound, and then by whether a side is asked for: 255, or one that names a set.
-use borrow.Author.Needs.{needs}
 use borrow.Author.Tests.{not-true, not-false}
 use mathlib.Core.Path.{sym}
 use Rattle.tables.proofs.Bounds.{allowed-most, allowed-none, allowed-any, allowed-below, allowed-set}

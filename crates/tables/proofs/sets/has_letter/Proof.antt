@@ -2,10 +2,9 @@
 use borrow.Author.Needs.{needs}
 use native.Mathlib.Omega.{arith}
 use Prim.Native.Nat.{ℕ, _+_, _/_, _%_}
-use mathlib.Core.Path.{_≡_, sym, ap, _∙_}
+use mathlib.Core.Path.{sym, ap, _∙_}
 use Rattle.model.specs.Lists.{byte, bit}
 use Rattle.model.specs.Blocks.{kinds}
-use Rattle.image.specs.Header.{headerOf}
 use Rattle.tables.proofs.LetterSets.{set-missing, set-past, set-inside, set-bit}
 use Rattle.tables.proofs.sets.has_letter.Statement.{statement}
 use Rattle.tables.proofs.sets.has_letter.Tie as tie

@@ -1,7 +1,7 @@
 -- `has_set` meets its contract: the lexical side, and then the surface side.
 use borrow.Author.Needs.{needs}
 use mathlib.Core.Bool.{Bool, _||_}
-use mathlib.Core.Path.{_≡_, sym, ap, _∙_}
+use mathlib.Core.Path.{sym, ap, _∙_}
 use Rattle.model.specs.RuleTables.{namesSet}
 use Rattle.tables.proofs.sets.has_set.Statement.{statement}
 use Rattle.tables.proofs.sets.has_set.Tie as tie

@@ -1,10 +1,9 @@
 -- `is_set` meets its contract: the byte that has letter L, and then those after it, of which none passed has a bit.
-use borrow.Author.Needs.{needs}
 use native.Mathlib.Omega.{arith}
 use Prim.Native.Nat.{ℕ, _+_, _-_, _/_, _%_, _<_, _≤_}
 use mathlib.Core.List.{List}
 use native.Mathlib.Decide.{ℕ-discrete}
-use mathlib.Core.Path.{_≡_, refl, sym, ap, _∙_}
+use mathlib.Core.Path.{_≡_, sym, ap, _∙_}
 use lib.ListN.{length}
 use Rattle.model.specs.Lists.{byte}
 use Rattle.model.specs.Blocks.{kinds, recordStart, recordAt}

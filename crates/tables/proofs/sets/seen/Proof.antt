@@ -1,7 +1,7 @@
 -- `seen` meets its contract: the letters passed are as the side sees them.
 use borrow.Author.Needs.{needs}
 use native.Mathlib.Omega.{arith}
-use Prim.Native.Nat.{ℕ, _-_, _≤_}
+use Prim.Native.Nat.{_-_, _≤_}
 use mathlib.Core.Path.{_≡_, refl, sym, _∙_}
 use lib.ListN.{length, length-set}
 use Rattle.model.specs.Lists.{byte}

@@ -2,7 +2,7 @@
 use borrow.Author.Needs.{needs}
 use native.Mathlib.Omega.{arith}
 use mathlib.Core.Bool.{Bool, cond}
-use mathlib.Core.Path.{_≡_, sym, ap, _∙_}
+use mathlib.Core.Path.{sym, ap, _∙_}
 use Rattle.model.specs.RuleTables.{letterSets}
 use Rattle.tables.proofs.Lists.{fails, passes}
 use Rattle.tables.proofs.LetterSets.{plain-sees, set-sees, named-least}
@@ -19,7 +19,7 @@ returns c =
     sym (plain-sees (letterSets (a .image .now)) (a .side) (fails (m .names-set .result) (m .names-set .ensures) (c .if1 .taken)) (a .letter))
 
 sub-has-letter : tie.Need-sub-has-letter
-sub-has-letter c = let m = c .before in let a = m .before .before .args in named-least (letterSets (a .image .now)) (a .side) (passes (m .names-set .result) (m .names-set .ensures) (c .if1 .left))
+sub-has-letter c = let m = c .before in let a = m .before .before .args in omega (arith, named-least (letterSets (a .image .now)) (a .side) (passes (m .names-set .result) (m .names-set .ensures) (c .if1 .left)))
 
 cast-has-letter : tie.Need-cast-has-letter
 cast-has-letter c = search needs
