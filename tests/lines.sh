@@ -1,6 +1,6 @@
 #!/usr/bin/env bash
-# The line program: the trials in tests/trials (an image, its input and what has to be printed), a sample by sets, no image and one that is too long, a line without end
-# at constant memory, a standard output that closes, and reads and writes that fail, stop short or are interrupted.
+# The line program: the trials in tests/trials (an image, its input and what has to be printed), a sample by sets, no image and one that is too long,
+# a line without end at constant memory, a standard output that closes, and reads and writes that fail, stop short or are interrupted.
 set -eu
 cd "$(dirname "$0")/.."
 root=$PWD

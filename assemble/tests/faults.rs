@@ -40,8 +40,7 @@ const IMAGE: &[u8] = b"an image from before";
 type Case<'a> = (&'a str, &'a str, usize, &'a str);
 
 fn edited(from: &str, to: &str) -> String {
-    assert_eq!(GRAMMAR.matches(from).count(), 1, "{from:?} stands once in the grammar");
-    GRAMMAR.replace(from, to)
+    support::edited(GRAMMAR, from, to)
 }
 
 /// Runs the program on a text beside an image from before, and sees that the image stays.

@@ -3,8 +3,8 @@
 mod support;
 
 use assemble::{list_entries, list_pairs, read_grammar};
-use support::assembled;
-use support::check::{counts, entries, lexicon_counts, refusal, seal};
+use support::accepted;
+use support::check::{counts, entries, lexicon_counts, seal};
 
 const GRAMMAR: &str = "\
 BOUNDARY #
@@ -24,22 +24,14 @@ LEXICON Ending
 END
 ";
 
-/// The image of a text, which the check has to accept.
-fn image(text: &str) -> Vec<u8> {
-    let image = assembled(text).unwrap();
-    assert_eq!(refusal(&image), None);
-    image
-}
-
 fn edited(from: &str, to: &str) -> String {
-    assert_eq!(GRAMMAR.matches(from).count(), 1, "{from:?} stands once in the grammar");
-    GRAMMAR.replace(from, to)
+    support::edited(GRAMMAR, from, to)
 }
 
 #[test]
 fn declarations_stand_in_any_order() {
     let text = edited("BOUNDARY #\nNULL 0\nANY @\nALPHABET + a b\n", "ALPHABET + a b\nANY @\nBOUNDARY #\nNULL 0\n");
-    assert!(image(&text) == image(GRAMMAR));
+    assert!(accepted(&text) == accepted(GRAMMAR));
 }
 
 #[test]
@@ -47,7 +39,7 @@ fn blanks_and_comments_mean_nothing() {
     let text = edited("ALPHABET + a b", "\tALPHABET;letters\n +\n\n  a\tb;\"")
         .replace("PAIRS +:0 a:a", "PAIRS\n+:0   a:a\n")
         .replace("ab Ending", "; RULE\n  ab\t\tEnding");
-    assert!(image(&text) == image(GRAMMAR));
+    assert!(accepted(&text) == accepted(GRAMMAR));
 }
 
 #[test]
@@ -61,10 +53,10 @@ fn a_comment_does_not_begin_inside_quotation_marks() {
 fn boundary_null_and_any_may_be_other_characters() {
     let text: String = GRAMMAR.replace("500", "five hundred");
     let text = text.replace('#', "$").replace('0', "-").replace('@', "*").replace("five hundred", "500");
-    let mut right = image(GRAMMAR);
+    let mut right = accepted(GRAMMAR);
     right[512 + 4] = b'$';
     seal(&mut right);
-    assert!(image(&text) == right);
+    assert!(accepted(&text) == right);
 }
 
 #[test]
@@ -77,7 +69,7 @@ fn a_colon_may_be_a_letter() {
 #[test]
 fn lexicons_may_be_empty_or_follow_themselves() {
     let text = edited("LEXICON Stem\n", "LEXICON Empty\nLEXICON Stem\nb Stem\n");
-    let image = image(&text);
+    let image = accepted(&text);
     assert_eq!(lexicon_counts(&image), [0, 2, 2]);
     let continuations: Vec<u8> = entries(&image).iter().map(|entry| entry[13]).collect();
     assert_eq!(continuations, [1, 2, 255, 255]);
@@ -86,13 +78,13 @@ fn lexicons_may_be_empty_or_follow_themselves() {
 #[test]
 fn a_grammar_may_have_no_rule() {
     let text = edited("RULE \"free\" 1 2\n   # @\n   # @\n1: 1 1\n", "");
-    assert_eq!(counts(&image(&text)).rules, 0);
+    assert_eq!(counts(&accepted(&text)).rules, 0);
 }
 
 #[test]
 fn a_gloss_is_the_entry_s_own_number_unless_it_is_a_number() {
     let text = edited("0 #\n", "0 #\nb # \"\"\n");
-    let image = image(&text);
+    let image = accepted(&text);
     let glosses: Vec<u16> = entries(&image).iter().map(|entry| u16::from_le_bytes([entry[14], entry[15]])).collect();
     assert_eq!(glosses, [0, 1, 2, 500]);
 }

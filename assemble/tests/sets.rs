@@ -3,8 +3,8 @@
 mod support;
 
 use assemble::{list_sets, read_grammar};
-use support::assembled;
 use support::check::{counts, refusal, seal, sets, tables};
+use support::{accepted, assembled};
 
 const GRAMMAR: &str = "\
 BOUNDARY #
@@ -25,16 +25,8 @@ a+i #
 END
 ";
 
-/// The image of a text, which the check has to accept.
-fn image(text: &str) -> Vec<u8> {
-    let image = assembled(text).unwrap();
-    assert_eq!(refusal(&image), None);
-    image
-}
-
 fn edited(from: &str, to: &str) -> String {
-    assert_eq!(GRAMMAR.matches(from).count(), 1, "{from:?} stands once in the grammar");
-    GRAMMAR.replace(from, to)
+    support::edited(GRAMMAR, from, to)
 }
 
 /// The sides of the first rule's columns.
@@ -66,7 +58,7 @@ fn tie(pair: &str, columns: &str) -> Option<String> {
 
 #[test]
 fn the_block_of_sets_is_as_written_by_hand() {
-    let image = image(GRAMMAR);
+    let image = accepted(GRAMMAR);
     // Form 1; 7 letters, 8 pairs, 1 rule, 1 lexicon, 1 entry, 4 sets.
     assert_eq!(&image[4..20], [1, 0, 7, 0, 8, 0, 1, 0, 1, 0, 1, 0, 4, 0, 0, 0]);
     let mut block = vec![3, 0, 7, 4];
@@ -88,16 +80,16 @@ fn the_highest_letter_is_the_lowest_bit_of_the_last_byte() {
     let letters: Vec<char> = (0..113).map(|k| char::from_u32(0x100 + k).unwrap()).collect();
     let more: String = letters.iter().map(|letter| format!(" {letter}")).collect();
     let text = edited("a e i t c", &format!("a e i t c{more}")).replace("None c", &format!("None {}", letters[112]));
-    let image = image(&text);
+    let image = accepted(&text);
     assert_eq!(counts(&image).letters, 120);
     assert_eq!(image[3 * 512 + 4 + 2 * 16..][..16], [0, 0, 0, 0, 0, 0, 0, 0, 0, 0, 0, 0, 0, 0, 0, 1]);
 }
 
 #[test]
 fn sets_are_numbered_in_the_order_of_the_text() {
-    assert_eq!(sets(&image(GRAMMAR)), [vec![3, 4, 5], vec![1, 6], vec![7], vec![0]]);
+    assert_eq!(sets(&accepted(GRAMMAR)), [vec![3, 4, 5], vec![1, 6], vec![7], vec![0]]);
     let text = edited("SUBSET V a e i\nSUBSET Ends # t\n", "SUBSET Ends # t\nSUBSET V a e i\n");
-    let image = image(&text);
+    let image = accepted(&text);
     assert_eq!(sets(&image)[..2], [vec![1, 6], vec![3, 4, 5]]);
     assert_eq!(sides(&image), [129, 255, 128, 255, 255, 255]);
 }
@@ -106,14 +98,14 @@ fn sets_are_numbered_in_the_order_of_the_text() {
 fn sets_stand_before_or_after_the_pairs() {
     let pairs = "PAIRS +:0 0:t a:a e:e i:i i:e t:t t:c\n";
     let (none, after) = (edited(pairs, ""), "SUBSET Gone 0\n");
-    assert!(image(&none.replace(after, &format!("{after}{pairs}"))) == image(GRAMMAR));
-    assert!(image(&none.replace("SUBSET V", &format!("{pairs}SUBSET V"))) == image(GRAMMAR));
+    assert!(accepted(&none.replace(after, &format!("{after}{pairs}"))) == accepted(GRAMMAR));
+    assert!(accepted(&none.replace("SUBSET V", &format!("{pairs}SUBSET V"))) == accepted(GRAMMAR));
 }
 
 #[test]
 fn letters_stand_on_as_many_lines_as_you_like_in_any_order() {
     for letters in ["V i a e", "V\n a\n\n e i", "V a ; the first\n e\n i"] {
-        assert!(image(&edited("V a e i", letters)) == image(GRAMMAR), "{letters:?}");
+        assert!(accepted(&edited("V a e i", letters)) == accepted(GRAMMAR), "{letters:?}");
     }
 }
 
@@ -128,7 +120,7 @@ fn a_set_is_listed_as_the_text_writes_it() {
 fn without_sets_the_image_has_no_block_of_them() {
     let sets = ["SUBSET V a e i\n", "SUBSET Ends # t\n", "SUBSET None c\n", "SUBSET Gone 0\n"];
     let text = sets.iter().fold(with_columns("a @", "@ @"), |text, set| text.replace(set, ""));
-    let image = image(&text);
+    let image = accepted(&text);
     assert_eq!((image.len(), counts(&image).sets), (6 * 512, 0));
     assert_eq!(image[3 * 512 + 2], 4);
 }
@@ -138,7 +130,7 @@ fn without_sets_the_image_has_no_block_of_them() {
 fn a_name_is_any_word_that_nothing_else_in_a_column_is() {
     for name in ["V", "1:", "v", "\u{10000}", "Vowels", "e\u{301}", "Pairs", "::", "-"] {
         let text = edited("SUBSET V a", &format!("SUBSET {name} a")).replace("\nV Ends", &format!("\n{name} Ends"));
-        assert!(image(&text) == image(GRAMMAR), "{name}");
+        assert!(accepted(&text) == accepted(GRAMMAR), "{name}");
     }
 }
 

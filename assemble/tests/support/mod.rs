@@ -27,6 +27,19 @@ pub fn assembled(text: &str) -> Result<Vec<u8>, Vec<Fault>> {
     read_grammar(text.as_bytes()).map(|grammar| sealed_image(&grammar)).map_err(|faults| faults.by_line())
 }
 
+/// The image of a text, which the check has to accept.
+pub fn accepted(text: &str) -> Vec<u8> {
+    let image = assembled(text).unwrap();
+    assert_eq!(check::refusal(&image), None);
+    image
+}
+
+/// A text with one place of it changed.
+pub fn edited(text: &str, from: &str, to: &str) -> String {
+    assert_eq!(text.matches(from).count(), 1, "{from:?} stands once in the text");
+    text.replace(from, to)
+}
+
 /// Where a run that writes no file may take place.
 pub fn anywhere() -> &'static Path {
     Path::new(env!("CARGO_TARGET_TMPDIR"))

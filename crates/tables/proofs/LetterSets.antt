@@ -53,14 +53,10 @@ module _ {image : List ℕ} {h : Header} (laid : Laid image h) (i : ℕ) where
   unfolding kinds
   byte-inside j k l = record-inside laid 7 i j k l
 
-  pub set-inside : (a : ℕ) → i < h .sets → a < 128 → recordStart h 7 i + a / 8 < length image
-  unfolding kinds
-  set-inside a k l = record-inside laid 7 i (a / 8) k (omega arith)
-
   pub set-bit : (a : ℕ) → i < h .sets → a < 128 → bit (byte image (recordStart h 7 i + a / 8)) (a % 8) ≡ inSet (getD (letterSets image) i []) a
-  unfolding inSet kinds
+  unfolding inSet
   set-bit a k l =
-      ap (λ (n : ℕ). bit n (a % 8)) (sym (record-byte laid 7 i (a / 8) (omega arith)))
+      ap (λ (n : ℕ). bit n (a % 8)) (sym (set-byte (a / 8) (omega arith)))
       ∙ ap (λ (s : List ℕ). bit (byte s (a / 8)) (a % 8)) (sym (set-record k))
 
 -- the test of all sets, by their numbers

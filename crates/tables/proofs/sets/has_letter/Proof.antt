@@ -5,7 +5,7 @@ use Prim.Native.Nat.{ℕ, _+_, _/_, _%_}
 use mathlib.Core.Path.{sym, ap, _∙_}
 use Rattle.model.specs.Lists.{byte, bit}
 use Rattle.model.specs.Blocks.{kinds}
-use Rattle.tables.proofs.LetterSets.{set-missing, set-past, set-inside, set-bit}
+use Rattle.tables.proofs.LetterSets.{set-missing, set-past, byte-inside, set-bit}
 use Rattle.tables.proofs.sets.has_letter.Statement.{statement}
 use Rattle.tables.proofs.sets.has_letter.Tie as tie
 
@@ -23,7 +23,7 @@ add-has-bit : tie.Need-add-has-bit
 add-has-bit c = search needs
 
 shared-slice-read-has-bit : tie.Need-shared-slice-read-has-bit
-shared-slice-read-has-bit c = let s = c .before .before .before .before .before .before in omega (arith, c .before .record-start .ensures .0, set-inside (s .pre) (s .args .i) (s .args .letter) (c .before .before .before .if1 .left) (c .before .before .if2 .left))
+shared-slice-read-has-bit c = let s = c .before .before .before .before .before .before in omega (arith, c .before .record-start .ensures .0, byte-inside (s .pre) (s .args .i) (s .args .letter / 8) (c .before .before .before .if1 .left) (omega arith))
 
 has-bit-requires : tie.Need-has-bit-requires
 has-bit-requires c κs = search needs
