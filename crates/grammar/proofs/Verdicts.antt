@@ -13,7 +13,7 @@ use Rattle.model.specs.Lexicon.{entry, formLength}
 use Rattle.model.specs.Beside as beside
 use Rattle.model.specs.Beside.{formStart, viewAfter, formReplyAfter, viewed, formReply}
 use Rattle.model.proofs.Booleans.{of-true}
-use Rattle.model.proofs.Tests.{clash, tests-refused, tests-accepted}
+use Rattle.model.proofs.Tests.{passed, clash, tests-refused, tests-accepted}
 use Rattle.image.specs.Laid.{Limited, Laid}
 use Rattle.image.specs.Accepted.{Accepted}
 use Rattle.lexicon.proofs.Laws as entries
@@ -74,10 +74,6 @@ module _ (image : List ℕ) where
   refused-14 e f = sym (ap₂ (λ (x y : Bool). unless x 8 (unless y 14 accepted)) f (sym (e ∙ ap (λ (x : Bool). x && rightForms image) f)))
 
 -- a verdict that accepts, of tests one after the other
-passed : (b : Bool) (k : ℕ) (v : Verdict) → unless b k v ≡ accepted → (b ≡ true) × (v ≡ accepted)
-passed true k v e = (refl, e)
-passed false k v e = clash (cc)
-
 pub accepted-image : (image : List ℕ) → imageVerdict image ≡ accepted → Accepted image (header image)
 unfolding imageVerdict imageTests formatTests
 accepted-image image e =

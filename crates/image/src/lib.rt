@@ -1,8 +1,10 @@
 // An image's bytes and two-byte numbers, the check of a block, the header, and sealing.
 ghost use mathlib.Core.Path.{_≡_};
-ghost use Prim.Native.Nat.{_+_, _<_, _≤_};
+ghost use mathlib.Core.Bool.{_&&_};
+ghost use Prim.Native.Nat.{_+_, _/_, _%_, _<_, _≤_};
 ghost use lib.ListN.{length, take, drop};
-ghost use Rattle.model.specs.Lists.{every, isZero, byte, number};
+ghost use lib.Dec.{eqb};
+ghost use Rattle.model.specs.Lists.{every, within, isZero, byte, number};
 ghost use Rattle.model.specs.Blocks.{checkOf, header};
 ghost use Rattle.image.specs.Header.{headerOf};
 
@@ -23,6 +25,19 @@ pub fn number_at(bytes: &[u8], at: usize) -> usize
     ensures { λ r. ⌜ (r ≡ number (now (bytes .entry)) at) × (r < 65536) ⌝ }
 {
     byte_at(bytes, at) + 256 * byte_at(bytes, at + 1)
+}
+
+// Whether so many bytes are whole two-byte numbers, from 1 of them to `most`.
+pub fn right_count(bytes: usize, most: usize) -> bool
+    ensures { λ r. ⌜ r ≡ (eqb (bytes % 2) 0 && within 1 most (bytes / 2)) ⌝ }
+{
+    if bytes % 2 != 0 {
+        return false;
+    }
+    if bytes < 2 {
+        return false;
+    }
+    bytes / 2 <= most
 }
 
 // Whether each byte from `from` up to `end` is 0, as in the rest of a block. Every byte is looked at, so that the compiler takes many at once.

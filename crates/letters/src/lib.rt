@@ -44,7 +44,7 @@ pub fn surface_at(bytes: &[u8], at: usize) -> Surface
 }
 
 // The code point of letter i + 1: the list begins with letter 1.
-fn code_point(image: &[u8], i: usize) -> usize
+pub fn code_point(image: &[u8], i: usize) -> usize
     requires { ⌜ Laid (now image) (header (now image)) × (i < header (now image) .letters) ⌝ }
     ensures { λ r. ⌜ r ≡ getD (codePoints (now (image .entry))) i 0 ⌝ }
 {

@@ -9,13 +9,13 @@ use Rattle.model.specs.RuleTables.{columnsOf}
 use Rattle.model.specs.GrammarOf.{grammarOf}
 use Rattle.model.specs.Readings.{Reading}
 use Rattle.model.specs.Query.{analysis, generation}
-use Rattle.model.specs.Refusals.{Verdict, imageVerdict}
+use Rattle.model.specs.Refusals.{Verdict, firstFailing, imageVerdict, pointTests}
 use Rattle.model.specs.Rows.{Reply}
 use Rattle.model.specs.Calls.{Sealing, sealingReply, afterSealing, allReadings, listingReply}
 use Rattle.model.specs.Beside.{Judgement, judged, FormReply, formReply, viewed}
 use Rattle.model.specs.Lines.{Line, lineOf, linesOf, decimal, printedReply, printedLine, printed}
 use Rattle.model.specs.Samples.{entryBytes, imageOf, luzLetters, luzPairs, luzTable, luzImage, tcWith, tcImage, setsImage}
-use Rattle.model.specs.Trials.{reading}
+use Rattle.model.specs.Trials.{reading, points}
 use Rattle.model.proofs.Front.{atFront}
 use Rattle.model.proofs.Computed.{computed}
 
@@ -102,6 +102,18 @@ generated path = listingReply luzImage (generation (flatMap numberBytes path)) 6
 refusal-9 : map analysed ([] ∷ replicate 33 5 ∷ replicate 33 1 ∷ replicate 32 5 ∷ []) ≡ Reply.refused 9 ∷ Reply.refused 9 ∷ Reply.refused 9 ∷ Reply.none ∷ []
 unfolding computed
 refusal-9 = refl
+
+-- of code points: none, an odd byte, 32 and an odd byte, 33, 33 without a letter; 32 are spelled
+points-9 : map (λ p. firstFailing (pointTests luzImage p 40)) ([] ∷ (108 ∷ []) ∷ (points (replicate 32 108) ++ (0 ∷ [])) ∷ points (replicate 33 108) ∷ points (replicate 33 107) ∷ points (replicate 32 76) ∷ [])
+    ≡ Verdict.refused 9 ∷ Verdict.refused 9 ∷ Verdict.refused 9 ∷ Verdict.refused 9 ∷ Verdict.refused 9 ∷ Verdict.accepted ∷ []
+unfolding computed
+points-9 = refl
+
+-- k and no room: 23 comes first; the last surrogate, 0, 65535; + and Z are letters; room for just the word, and a byte less
+points-23-24 : (firstFailing (pointTests luzImage (points (107 ∷ [])) 0) ∷ firstFailing (pointTests luzImage (points (57343 ∷ [])) 1) ∷ firstFailing (pointTests luzImage (points (0 ∷ [])) 1) ∷ firstFailing (pointTests luzImage (points (65535 ∷ [])) 1) ∷ firstFailing (pointTests luzImage (points (43 ∷ 90 ∷ [])) 2) ∷ firstFailing (pointTests luzImage (points (43 ∷ 90 ∷ [])) 1) ∷ [])
+    ≡ Verdict.refused 23 ∷ Verdict.refused 23 ∷ Verdict.refused 23 ∷ Verdict.refused 23 ∷ Verdict.accepted ∷ Verdict.refused 24 ∷ []
+unfolding computed
+points-23-24 = refl
 
 -- letter 1, letter 0, a letter above L; letters L and 2 are read
 refusal-10 : map analysed ((1 ∷ []) ∷ (5 ∷ 0 ∷ []) ∷ (10 ∷ []) ∷ (9 ∷ []) ∷ (2 ∷ []) ∷ []) ≡ Reply.refused 10 ∷ Reply.refused 10 ∷ Reply.refused 10 ∷ Reply.none ∷ Reply.none ∷ []

@@ -13,6 +13,7 @@ pub mod Unspelled
 pub mod Converse
 pub mod Rest
 pub mod Tests
+pub mod Spelling
 pub mod Parts
 pub mod Blocks
 pub mod Rows

@@ -1,5 +1,5 @@
--- Laws of the lists' vocabulary: numbers below a bound, places and parts of a list, tests over it, maps and joins.
-use Prim.Native.Nat.{ℕ, zero, suc, _+_, _<_}
+-- Laws of the lists' vocabulary: numbers below a bound, places and parts of a list, tests over it, maps and joins, two-byte numbers.
+use Prim.Native.Nat.{ℕ, zero, suc, _+_, _*_, _/_, _<_}
 use native.Mathlib.Nat.{zero-add, suc-add}
 use native.Mathlib.Numerals.{add-one}
 use mathlib.Core.Bool.{Bool, true, false, _&&_, _||_}
@@ -11,7 +11,7 @@ use lib.Seq.{getD-at, take-nil}
 use lib.Dec.{T}
 use native.Mathlib.Omega.{arith}
 use native.Mathlib.Decide.{ℕ-discrete}
-use Rattle.model.specs.Lists.{below, given, every, any, flatMap, bit}
+use Rattle.model.specs.Lists.{below, given, every, any, flatMap, bit, number, numbers}
 use Rattle.model.proofs.Booleans.{and-out, and-in, and-exchange, left-or, right-or, left-false, right-false}
 
 pub length-below : (n : ℕ) → length (below n) ≡ n
@@ -188,6 +188,14 @@ getD-below n i h = ap (λ (l : List ℕ). getD l i 0) (sym (map-id (below n))) �
     map-id : (xs : List ℕ) → map (λ i. i) xs ≡ xs
     map-id [] = refl
     map-id (x ∷ xs) = ap {B = List ℕ} (λ l. x ∷ l) (map-id xs)
+
+-- two bytes to a number
+module _ (bs : List ℕ) where
+  pub length-numbers : length (numbers bs) ≡ length bs / 2
+  length-numbers = length-map-below (λ i. number bs (2 * i)) (length bs / 2)
+
+  pub number-in : (i : ℕ) → i < length bs / 2 → getD (numbers bs) i 0 ≡ number bs (2 * i)
+  number-in i h = getD-map-below (λ i. number bs (2 * i)) (length bs / 2) i 0 h
 
 -- a loop over the numbers below a bound that tests each
 module _ (f : ℕ → Bool) where

@@ -7,11 +7,16 @@ use mathlib.Core.Logic.{_↔_}
 use mathlib.Core.List.{List, [], _∷_, _++_}
 use lib.Dec.{T}
 use Rattle.model.specs.Lists.{every}
-use Rattle.model.specs.Refusals.{accepted, refused, unless, firstFailing}
+use Rattle.model.specs.Refusals.{Verdict, accepted, refused, unless, firstFailing}
 use Rattle.model.proofs.Booleans.{and-out}
 
 pub clash : {A : Type 0} → _≡_ {A = ℕ} 0 1 → A
 clash z = absurd (omega arith)
+
+-- a test that is passed, and those after it
+pub passed : (b : Bool) (k : ℕ) (v : Verdict) → unless b k v ≡ accepted → (b ≡ true) × (v ≡ accepted)
+passed true k v e = (refl, e)
+passed false k v e = clash (cc)
 
 -- all pass when those of each part do
 pub tests-append : (ts us : List (ℕ × Bool)) → (firstFailing (ts ++ us) ≡ accepted) ↔ ((firstFailing ts ≡ accepted) × (firstFailing us ≡ accepted))

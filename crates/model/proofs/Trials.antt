@@ -58,4 +58,13 @@ starred =
       tie-of-sets = refl;
       tie-with-letter = refl;
       letter-narrower = refl;
+      capitals-reply = refl;
+      capitals-bytes = refl;
+      capitals-short = (refl, refl);
+      Z-stays = (refl, refl);
+      z-found = refl;
+      no-letter = refl;
+      boundary-letter = refl;
+      surrogate = refl;
+      slip-spelled = refl;
     }

@@ -16,7 +16,7 @@ use Rattle.model.specs.Grammar.{Grammar}
 use Rattle.model.specs.GrammarOf.{grammarOf}
 use Rattle.model.specs.Readings.{Reading, spelled, withoutNulls, fewNulls, wordLength, pairingLength, passes, isPath, word, isReading}
 use Rattle.model.specs.Query.{Request, queryOf}
-use Rattle.model.specs.Refusals.{Verdict, accepted, refused, unless, firstFailing, isLexical, rightForms, formatTests, imageTests, imageVerdict, pathTests, pairingTests, ownTests, requestTests, judgeTests, viewTests}
+use Rattle.model.specs.Refusals.{Verdict, accepted, refused, unless, firstFailing, isLexical, rightForms, formatTests, imageTests, imageVerdict, pathTests, pairingTests, ownTests, requestTests, judgeTests, viewTests, pointTests, spellingTests}
 use Rattle.model.specs.Calls.{allReadings}
 use Rattle.model.specs.Unspelled.{Unspelled}
 use Rattle.model.proofs.Booleans.{out8, same-out, eq→eqb, false-of}
@@ -104,11 +104,13 @@ module _ (image : List ℕ) where
       → ((request : Request) → firstFailing (requestTests image request) ≡ refused 14)
       × ((path pairing : List ℕ) → firstFailing (judgeTests image path pairing) ≡ refused 14)
       × ((e : ℕ) → firstFailing (viewTests image e) ≡ refused 14)
-  unfolding imageVerdict requestTests judgeTests viewTests
+      × ((points : List ℕ) (room : ℕ) → firstFailing (spellingTests image points room) ≡ refused 14)
+  unfolding imageVerdict requestTests judgeTests viewTests spellingTests
   refused-by-each v = (
     λ request. tests-refused (imageTests image) (ownTests image request) 14 v,
     λ path pairing. tests-refused (imageTests image) (pathTests image path ++ pairingTests image pairing) 14 v,
     λ e. tests-refused (imageTests image) ((12, ltb e (header image .entries)) ∷ []) 14 v,
+    λ points room. tests-refused (imageTests image) (pointTests image points room) 14 v,
   )
 
 -- every letter of an entry on a reading's path is the lexical side of one of its pairs

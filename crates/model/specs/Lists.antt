@@ -1,8 +1,8 @@
 -- Lists of numbers, tests on them, and two-byte numbers: the vocabulary of every definition here.
 use Prim.Native.Nat.{ℕ, zero, suc, _+_, _*_, _/_, _%_}
 use mathlib.Core.Bool.{Bool, true, false, _&&_, _||_, not, cond}
-use mathlib.Core.List.{List, [], _∷_, _++_}
-use lib.ListN.{getD, take, drop}
+use mathlib.Core.List.{List, [], _∷_, _++_, map}
+use lib.ListN.{length, getD, take, drop}
 use lib.Dec.{leb, eqb}
 
 -- 0, 1, .. n - 1
@@ -84,3 +84,7 @@ number bs i = byte bs i + 256 * byte bs (i + 1)
 -- its two bytes
 abbrev pub numberBytes : ℕ → List ℕ
 numberBytes n = n % 256 ∷ n / 256 % 256 ∷ []
+
+-- bytes as two-byte numbers, one after the other; an odd byte at the end is none
+abbrev pub numbers : List ℕ → List ℕ
+numbers bs = map (λ i. number bs (2 * i)) (below (length bs / 2))

@@ -1,10 +1,10 @@
 -- What a listing is asked for: which path, which word. Analysis and generation are two cases of it.
-use Prim.Native.Nat.{ℕ, suc, _*_, _/_}
+use Prim.Native.Nat.{ℕ, suc}
 use mathlib.Core.Bool.{Bool, true, _&&_}
-use mathlib.Core.List.{List, [], _∷_, map}
+use mathlib.Core.List.{List, [], _∷_}
 use lib.ListN.{length, getD}
 use lib.Dec.{ltb, eqb}
-use Rattle.model.specs.Lists.{below, number}
+use Rattle.model.specs.Lists.{numbers}
 use Rattle.model.specs.Grammar.{Grammar}
 use Rattle.model.specs.Readings.{Reading, word}
 
@@ -36,7 +36,7 @@ pub data Request : Type 0 where
   analysis generation : List ℕ → Request
 
 unfoldable pub entryNumbers : List ℕ → List ℕ
-entryNumbers bytes = map (λ i. number bytes (2 * i)) (below (length bytes / 2))
+entryNumbers bytes = numbers bytes
 
 -- "A path's readings are those, with that path, of every word of 1-32 letters."
 unfoldable pub queryOf : Request → Query

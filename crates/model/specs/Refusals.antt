@@ -1,17 +1,18 @@
--- Document 01, "When a call is turned down", with what document 02, (c), adds to 3 and 6, and the answer that (b) adds: the tests 1 to 14, and the first that
--- fails, in the order in which they are made.
+-- Document 01, "When a call is turned down", with what document 02, (c), adds to 3 and 6, and the answers that (b) and (m) add: the tests 1 to 14, 23 and 24,
+-- and the first that fails, in the order in which they are made.
 use Prim.Native.Nat.{ℕ, _%_}
 use mathlib.Core.Bool.{Bool, true, false, _&&_}
 use mathlib.Core.List.{List, [], _∷_, _++_, map}
 use lib.ListN.{length}
-use lib.Dec.{ltb, eqb}
-use Rattle.model.specs.Lists.{below, every, any, distinct, sum, within}
+use lib.Dec.{leb, ltb, eqb}
+use Rattle.model.specs.Lists.{below, every, any, distinct, sum, within, numbers}
 use Rattle.model.specs.Blocks.{block, blockCount, blockNumber, blockCheck, checkOf, header, withinLimits, blockTotal, laidOut}
 use Rattle.model.specs.RuleTables.{codePoints, isCodePoint, pairs, isPair, samePair, letterSets, isSet, table, isTable, columnCount, columnsOf}
 use Rattle.model.specs.Lexicon.{entryCount, entry, formOf, isEntry, pathLength}
 use Rattle.model.specs.GrammarOf.{grammarOf}
 use Rattle.model.specs.Readings.{isLinked, wordLength, pairingLength}
 use Rattle.model.specs.Query.{Request, analysis, generation, entryNumbers}
+use Rattle.model.specs.Spelling.{wordSpelled}
 
 pub data Verdict : Type 0 where
   accepted : Verdict
@@ -118,3 +119,16 @@ module _ (image : List ℕ) where
   -- "The view uses 12 for a missing entry only"
   unfoldable pub viewTests : ℕ → List (ℕ × Bool)
   viewTests e = imageTests ++ ((12, ltb e (header image .entries)) ∷ [])
+
+  -- document 02, (m): "an odd byte of input is refused with 9, as are no code points or over 32"; 23, "a code point with no letter, or with letter 1"; 24, "an
+  -- output shorter than the word", which has room for so many bytes
+  unfoldable pub pointTests : List ℕ → ℕ → List (ℕ × Bool)
+  pointTests points room =
+      (9, eqb (length points % 2) 0 && wordLength (numbers points))
+      ∷ (23, every (leb 2) (wordSpelled image points))
+      ∷ (24, leb (length (numbers points)) room)
+      ∷ []
+
+  -- "tested in that order after 9"
+  unfoldable pub spellingTests : List ℕ → ℕ → List (ℕ × Bool)
+  spellingTests points room = imageTests ++ pointTests points room

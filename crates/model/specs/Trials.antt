@@ -5,6 +5,7 @@ use mathlib.Core.Bool.{true, false}
 use mathlib.Core.Path.{_≡_}
 use mathlib.Core.List.{List, [], _∷_, _++_}
 use lib.ListN.{replicate, set}
+use Rattle.model.specs.Lists.{flatMap, numberBytes}
 use Rattle.model.specs.Blocks.{checkOf, sealedImage}
 use Rattle.model.specs.RuleTables.{columnsOf}
 use Rattle.model.specs.GrammarOf.{grammarOf}
@@ -13,7 +14,8 @@ use Rattle.model.specs.Query.{analysis, generation}
 use Rattle.model.specs.Refusals.{Verdict, imageVerdict}
 use Rattle.model.specs.Rows.{Reply, replyNumber}
 use Rattle.model.specs.Calls.{Sealing, sealingReply, afterSealing, allReadings, listingReply, afterListing}
-use Rattle.model.specs.Beside.{Judgement, judged, FormReply, formReply, viewed}
+use Rattle.model.specs.Spelling.{wordSpelled}
+use Rattle.model.specs.Beside.{Judgement, judged, FormReply, formReply, viewed, Spelling, spellingReply, afterSpelling}
 use Rattle.model.specs.Samples.{luzImage, tcImage, frontImage, deadImage, slipImage, setsWith, setsImage}
 
 abbrev pub luz : List ℕ
@@ -36,6 +38,13 @@ lucesOfLuZ = reading (0 ∷ 3 ∷ []) (3 ∷ 5 ∷ 6 ∷ 0 ∷ 2 ∷ 4 ∷ [])
 
 abbrev pub lucesOfLuc : Reading
 lucesOfLuc = reading (1 ∷ 3 ∷ []) (3 ∷ 5 ∷ 1 ∷ 0 ∷ 2 ∷ 4 ∷ [])
+
+-- code points, two bytes each; L is 76, U 85, C 67, E 69, S 83, z 122, Z 90
+abbrev pub points : List ℕ → List ℕ
+points cs = flatMap numberBytes cs
+
+abbrev pub capitals : List ℕ
+capitals = points (76 ∷ 85 ∷ 67 ∷ 69 ∷ 83 ∷ [])
 
 -- the places of a row that no entry or pair takes, each 65535
 abbrev pub unused : ℕ → List ℕ
@@ -110,3 +119,16 @@ pub record Starred : Type 0 where
   pub tie-with-letter : imageVerdict (setsWith ((6 ∷ 7 ∷ 8 ∷ []) ∷ []) (3 ∷ 1 ∷ 128 ∷ 255 ∷ 6 ∷ 255 ∷ 255 ∷ 255 ∷ 1 ∷ 1 ∷ 1 ∷ 1 ∷ [])) ≡ Verdict.refused 7
   -- q:any is narrower than {n q}:any
   pub letter-narrower : columnsOf (setsWith ((5 ∷ 6 ∷ []) ∷ []) (3 ∷ 1 ∷ 128 ∷ 255 ∷ 6 ∷ 255 ∷ 255 ∷ 255 ∷ 1 ∷ 1 ∷ 1 ∷ 1 ∷ [])) 0 ≡ 2 ∷ 2 ∷ 2 ∷ 2 ∷ 0 ∷ 1 ∷ 2 ∷ 2 ∷ []
+  -- document 02, (m): LUCES spells luces, and "output bytes past it keep their values"; with a byte too few it is refused with 24, and nothing is written
+  pub capitals-reply : spellingReply luzImage capitals 7 ≡ Spelling.letters 5
+  pub capitals-bytes : afterSpelling luzImage capitals (replicate 7 200) ≡ luces ++ (200 ∷ 200 ∷ [])
+  pub capitals-short : (spellingReply luzImage capitals 4 ≡ Spelling.refused 24) × (afterSpelling luzImage capitals (replicate 4 200) ≡ replicate 4 200)
+  -- "so the letter Z of luZ stays": luZ, and LUZ, whose Z is that letter; Luz is luz
+  pub Z-stays : (wordSpelled luzImage (points (108 ∷ 117 ∷ 90 ∷ [])) ≡ 5 ∷ 7 ∷ 9 ∷ []) × (wordSpelled luzImage (points (76 ∷ 85 ∷ 90 ∷ [])) ≡ 5 ∷ 7 ∷ 9 ∷ [])
+  pub z-found : wordSpelled luzImage (points (76 ∷ 117 ∷ 122 ∷ [])) ≡ luz
+  -- "a code point with no letter, or with letter 1": k, the boundary, a surrogate
+  pub no-letter : spellingReply luzImage (points (108 ∷ 107 ∷ [])) 7 ≡ Spelling.refused 23
+  pub boundary-letter : spellingReply luzImage (points (108 ∷ 35 ∷ [])) 7 ≡ Spelling.refused 23
+  pub surrogate : spellingReply luzImage (points (55296 ∷ [])) 7 ≡ Spelling.refused 23
+  -- an image that is refused is refused first
+  pub slip-spelled : spellingReply slipImage [] 0 ≡ Spelling.refused 14

@@ -18,11 +18,10 @@ use Rattle.model.specs.Readings.{isLinked}
 use Rattle.model.specs.Beside.{formStart}
 use Rattle.model.specs.Query.{entryNumbers}
 use Rattle.model.proofs.Booleans.{and-out, and-in, of-true}
-use Rattle.model.proofs.Lists.{length-map-below, getD-map-below, every-append}
+use Rattle.model.proofs.Lists.{length-numbers, number-in, every-append}
 use Rattle.model.proofs.Rest.{drop-step, every-getD}
 use Rattle.image.specs.Laid.{Laid}
 use Rattle.image.specs.Accepted.{Accepted}
-use Rattle.model.proofs.Booleans.{within-below, within-above, within-true}
 use Rattle.lexicon.proofs.Laws.{entry-inside, form-size, form-byte, form-short, form-letters}
 use Rattle.rules.specs.Paths.{Entered, formsOf}
 
@@ -34,31 +33,15 @@ laid-entries l = ap (λ (k : Header). k .entries) (l .header-is)
 module _ (path : List ℕ) where
   pub length-entryNumbers : length (entryNumbers path) ≡ length path / 2
   unfolding entryNumbers
-  length-entryNumbers = length-map-below (λ i. number path (2 * i)) (length path / 2)
+  length-entryNumbers = length-numbers path
 
   pub entry-number : (i : ℕ) → i < length path / 2 → getD (entryNumbers path) i 0 ≡ number path (2 * i)
   unfolding entryNumbers
-  entry-number i h = getD-map-below (λ i. number path (2 * i)) (length path / 2) i 0 h
+  entry-number i h = number-in path i h
 
   -- test 11, by the number of bytes
   abbrev pub lengthRight : Bool
   lengthRight = eqb (length path % 2) 0 && pathLength (entryNumbers path)
-
-  pub path-odd : (length path % 2 ≡ 0 → ⊥) → lengthRight ≡ false
-  path-odd h = ap (λ (b : Bool). b && pathLength (entryNumbers path)) (ne-eqb (length path % 2) 0 h)
-
-  even : length path % 2 ≡ 0 → lengthRight ≡ within 1 16 (length path / 2)
-  even h = ap₂ (λ (b : Bool) (n : ℕ). b && within 1 16 n) (eq-eqb (length path % 2) 0 h) length-entryNumbers
-
-  pub path-empty : length path % 2 ≡ 0 → length path < 2 → lengthRight ≡ false
-  path-empty h k = even h ∙ within-below 1 16 (length path / 2) (omega arith)
-
-  pub path-some : length path % 2 ≡ 0 → 2 ≤ length path → lengthRight ≡ leb (length path) 32
-  path-some h k = even h ∙ go (decLe (length path) 32)
-    where
-      go : Dec (length path ≤ 32) → within 1 16 (length path / 2) ≡ leb (length path) 32
-      go (yes l) = within-true 1 16 (length path / 2) (omega arith) (omega arith) ∙ sym (le-leb (length path) 32 l)
-      go (no l) = within-above 1 16 (length path / 2) (omega arith) ∙ sym (lt-leb (length path) 32 (omega arith))
 
 -- entry e may open in lexicon x
 module _ (image : List ℕ) (x e entries : ℕ) where

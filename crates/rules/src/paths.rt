@@ -20,14 +20,7 @@ use letters::Lexical;
 pub fn path_length_right(path: &[u8]) -> bool
     ensures { λ r. ⌜ r ≡ (eqb (length (now (path .entry)) % 2) 0 && pathLength (entryNumbers (now (path .entry)))) ⌝ }
 {
-    let n = path.len();
-    if n % 2 != 0 {
-        return false;
-    }
-    if n < 2 {
-        return false;
-    }
-    n <= 32
+    image::right_count(path.len(), 16)
 }
 
 // Whether entry e may open in lexicon x, where 255 is the end of a path.

@@ -1,0 +1,64 @@
+-- A word as its letters are found: which code point each has, those found so far in their places, and whether all may stand in a word.
+use Prim.Native.Nat.{ℕ, zero, suc, _+_, _*_, _-_, _/_, _<_, _≤_}
+use native.Mathlib.Numerals.{add-one}
+use native.Mathlib.Omega.{arith}
+use mathlib.Core.Bool.{Bool, true, _&&_}
+use mathlib.Core.Path.{_≡_, refl, sym, ap, ap₂, _∙_}
+use mathlib.Core.List.{List, [], _∷_, _++_, map}
+use lib.ListN.{length, getD, set, take, drop, length-take, length-append}
+use lib.Seq.{take-all, take-at, take-suc, drop-cons, set-at, append-snoc}
+use Rattle.model.specs.Lists.{every, number, numbers}
+use Rattle.model.specs.Spelling.{letterSpelled, wordSpelled}
+use Rattle.model.proofs.Booleans.{right-true}
+use Rattle.model.proofs.Lists.{every-append, length-numbers, number-in}
+use Rattle.model.proofs.Spelling.{length-spelled}
+
+-- one letter more
+module _ (word out : List ℕ) (i : ℕ) (inside : i < length word) where
+  pub put-more : i < length out → set (take i word ++ drop i out) i (getD word i 0) ≡ take (i + 1) word ++ drop (i + 1) out
+  put-more k =
+      ap (λ (l : List ℕ). set (take i word ++ l) i (getD word i 0)) (drop-cons out i 0 k)
+      ∙ set-at (take i word) (getD out i 0) (drop (suc i) out) (getD word i 0) i (omega (arith, length-take i word))
+      ∙ sym (append-snoc (take i word) (getD word i 0) (drop (suc i) out))
+      ∙ ap₂ (λ (l m : List ℕ). l ++ m) (sym (take-suc word i 0 inside) ∙ ap (λ (n : ℕ). take n word) (sym (add-one i))) (ap (λ (n : ℕ). drop n out) (sym (add-one i)))
+
+  pub every-one : (f : ℕ → Bool) → every f (take (i + 1) word) ≡ (every f (take i word) && f (getD word i 0))
+  every-one f =
+      ap (λ (n : ℕ). every f (take n word)) (add-one i)
+      ∙ ap (every f) (take-suc word i 0 inside)
+      ∙ every-append f (take i word) (getD word i 0 ∷ [])
+      ∙ ap (λ (b : Bool). every f (take i word) && b) (right-true (f (getD word i 0)) true refl)
+
+getD-map : (f : ℕ → ℕ) (xs : List ℕ) (i : ℕ) → i < length xs → getD (map f xs) i 0 ≡ f (getD xs i 0)
+getD-map f [] i h = absurd (omega arith)
+getD-map f (x ∷ xs) zero h = refl
+getD-map f (x ∷ xs) (suc i) h = getD-map f xs i (omega arith)
+
+-- the letter at place i is that of code point i
+module _ (image points : List ℕ) where
+  pub spelled-length : length (wordSpelled image points) ≡ length points / 2
+  spelled-length = length-spelled image points 0 ∙ length-numbers points
+
+  pub spelled-at : (i : ℕ) → i < length points / 2 → getD (wordSpelled image points) i 0 ≡ letterSpelled image (number points (2 * i))
+  unfolding wordSpelled
+  spelled-at i h = getD-map (letterSpelled image) (numbers points) i (omega (arith, length-numbers points)) ∙ ap (letterSpelled image) (number-in points i h)
+
+-- a part of the word copied to the front of the output, as many letters as it has
+pub part-copied : (word out : List ℕ) (written : ℕ) → written ≤ length word
+    → let part = take (written - 0) word in
+    take (length part) part ++ drop (length part) out ≡ take written word ++ drop written out
+part-copied word out written h =
+    let size : length (take written word) ≡ written = omega (arith, length-take written word) in
+    let whole : written - 0 ≡ written = omega arith in
+    rw whole
+    (ap₂ (λ (l m : List ℕ). l ++ m) (take-all (length (take written word)) (take written word) (omega arith)) (ap (λ (n : ℕ). drop n out) size))
+
+-- room for a word in 32 bytes, and the word out of it
+pub room-for : (room : List ℕ) (n : ℕ) → n ≤ length room → length (take (n - 0) room) ≡ n
+room-for room n h = omega (arith, length-take (n - 0) room)
+
+pub word-within : (word rest : List ℕ) (n : ℕ) → length word ≡ n → n ≤ length (word ++ rest)
+word-within word rest n e = omega (arith, length-append word rest)
+
+pub word-back : (word rest : List ℕ) (n : ℕ) → length word ≡ n → take (n - 0) (word ++ rest) ≡ word
+word-back word rest n e = let whole : n - 0 ≡ n = omega arith in rw whole (take-at word rest n e)
