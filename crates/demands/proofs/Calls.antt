@@ -1,26 +1,31 @@
 -- What each call replies and leaves, by the verdict of its tests: a refusal and nothing changed, or its work.
-use Prim.Native.Nat.{ℕ}
+use Prim.Native.Nat.{ℕ, _%_, _≤_}
 use native.Mathlib.Omega.{arith}
-use mathlib.Core.Bool.{Bool, true, false, cond}
+use mathlib.Core.Bool.{Bool, true, false, _&&_, cond}
 use mathlib.Core.Path.{_≡_, refl, sym, ap, _∙_, subst}
 use mathlib.Core.Logic.{inl, inr}
 use mathlib.Core.List.{List, [], _∷_}
 use lib.ListN.{length}
-use lib.Dec.{T}
+use lib.Dec.{T, leb, eqb}
+use borrow.Author.Tests.{leb-true}
+use Rattle.model.specs.Lists.{every, numbers}
 use Rattle.model.specs.Blocks.{sealedImage}
 use Rattle.model.specs.Lexicon.{entry, formLength}
-use Rattle.model.specs.Readings.{Reading}
+use Rattle.model.specs.Readings.{Reading, wordLength}
+use Rattle.model.specs.Spelling.{wordSpelled}
 use Rattle.model.specs.Query.{Request, analysis, generation}
-use Rattle.model.specs.Refusals.{Verdict, accepted, refused, unless, firstFailing, rightLength, formatTests, imageTests, imageVerdict, wordTests, pathTests, pairingTests, ownTests, requestTests, judgeTests, viewTests}
+use Rattle.model.specs.Refusals.{Verdict, accepted, refused, unless, firstFailing, rightLength, formatTests, imageTests, imageVerdict, wordTests, pathTests, pairingTests, ownTests, requestTests, judgeTests, viewTests, pointTests, spellingTests}
 use Rattle.model.specs.Rows.{Reply, rowCount}
 use Rattle.model.specs.Calls.{Sealing, sealingReply, afterSealing, requestVerdict, allReadings, listingReply, afterListing}
-use Rattle.model.specs.Beside.{Judgement, FormReply, judgementAfter, judged, viewAfter, formReplyAfter, viewed, formReply}
+use Rattle.model.specs.Beside.{Judgement, FormReply, Spelling, judgementAfter, judged, viewAfter, formReplyAfter, viewed, formReply, spellingAfter, writtenAfter, spellingVerdict, spellingReply, afterSpelling}
 use Rattle.model.specs.Demand.{Demand3, asRows}
 use Rattle.model.proofs.Booleans.{of-true}
 use Rattle.model.proofs.Demand.{demand3-call}
-use Rattle.model.proofs.Tests.{clash, tests-append}
+use Rattle.model.proofs.Tests.{clash, passed, tests-append}
+use Rattle.model.proofs.Spelling.{length-spelled}
+use Rattle.spelling.proofs.Replies.{spelled-passes}
 use Rattle.analyser.proofs.Replies.{refused-by}
-use Rattle.demands.specs.Words.{IsJudged, Judged, formLetters}
+use Rattle.demands.specs.Words.{IsJudged, Judged, formLetters, SpelledOut}
 use Rattle.demands.proofs.Refusing.{Case, InTable}
 
 -- a reply that refuses lists nothing
@@ -49,6 +54,10 @@ module _ (image : List ℕ) where
   pub view-table : (e : ℕ) → T (InTable (viewTests image e))
   unfolding viewTests formatTests imageTests
   view-table e = tt
+
+  pub spelling-table : (points : List ℕ) (room : ℕ) → T (InTable (spellingTests image points room))
+  unfolding spellingTests pointTests formatTests imageTests
+  spelling-table points room = tt
 
 -- what the contracts of analysis and generation promise
 pub record Promised (image : List ℕ) (request : Request) (before after : List ℕ) (reply : Reply) : Type 0 where
@@ -132,3 +141,23 @@ module _ (image : List ℕ) (e : ℕ) where
           → Case (λ k. (reply ≡ FormReply.refused k) × (part ≡ [])) Unit ((reply ≡ FormReply.letters (formLength (entry image e))) × (part ≡ formLetters image e)) v
       go Verdict.accepted f g = ((f, g), λ k h. let i = h .0 in clash (cc))
       go (Verdict.refused k) f g = ((f, g), λ j h. let i = h .0 in cc, tt, λ h. let i = h .0 in clash (cc))
+
+-- the spelling call
+module _ (image points before after : List ℕ) (reply : Spelling) (replies : reply ≡ spellingReply image points (length before)) (leaves : after ≡ afterSpelling image points before) where
+  -- by the last of its tests, the output has room for the word
+  spelling-room : spellingVerdict image points (length before) ≡ accepted → length (wordSpelled image points) ≤ length before
+  unfolding pointTests
+  spelling-room e =
+      let t = spelled-passes image points (length before) e .1 in
+      let t9 = passed (eqb (length points % 2) 0 && wordLength (numbers points)) 9 _ t in
+      let t23 = passed (every (leb 2) (wordSpelled image points)) 23 _ (t9 .1) in
+      omega (arith, leb-true (length (numbers points)) (length before) (passed (leb (length (numbers points)) (length before)) 24 accepted (t23 .1) .0), length-spelled image points 0)
+
+  pub spelling-case : Case (λ k. reply ≡ Spelling.refused k) (after ≡ before) ((reply ≡ Spelling.letters (length (wordSpelled image points))) × SpelledOut image points before after) (firstFailing (spellingTests image points (length before)))
+  unfolding spellingReply afterSpelling spellingVerdict
+  spelling-case = go (firstFailing (spellingTests image points (length before))) refl replies leaves
+    where
+      go : (v : Verdict) → firstFailing (spellingTests image points (length before)) ≡ v → reply ≡ spellingAfter v (length (wordSpelled image points)) → after ≡ writtenAfter v (wordSpelled image points) before
+          → Case (λ k. reply ≡ Spelling.refused k) (after ≡ before) ((reply ≡ Spelling.letters (length (wordSpelled image points))) × SpelledOut image points before after) v
+      go Verdict.accepted e f g = ((f, (spelling-room e, g)), λ k h. clash (cc))
+      go (Verdict.refused k) e f g = (f, λ j h. cc, g, λ w. let h = w .0 in clash (cc))

@@ -15,10 +15,11 @@ use Rattle.model.specs.GrammarOf.{grammarOf}
 use Rattle.model.specs.Readings.{Reading, spelled, isPath, isReading, word}
 use Rattle.model.specs.Query.{Request, analysis, generation, queryOf}
 use Rattle.model.specs.Tree.{readings}
-use Rattle.model.specs.Refusals.{Verdict, accepted, firstFailing, rightLength, formatTests, imageTests, imageVerdict, wordTests, pathTests, pairingTests, ownTests, requestTests, judgeTests, viewTests}
+use Rattle.model.specs.Refusals.{Verdict, accepted, firstFailing, rightLength, formatTests, imageTests, imageVerdict, wordTests, pathTests, pairingTests, ownTests, requestTests, judgeTests, viewTests, pointTests, spellingTests}
 use Rattle.model.specs.Rows.{Reply, rowBytes, replyNumber}
 use Rattle.model.specs.Calls.{Sealing, allReadings}
-use Rattle.model.specs.Beside.{Judgement, FormReply, formReply}
+use Rattle.model.specs.Spelling.{wordSpelled}
+use Rattle.model.specs.Beside.{Judgement, FormReply, formReply, Spelling}
 use Rattle.model.specs.Demand.{Demand3, IsMore, rowsHandedBack}
 use Rattle.model.specs.Unspelled.{Unspelled}
 use Rattle.model.proofs.Listing.{IsListing, listing-iff}
@@ -29,6 +30,7 @@ use Rattle.image.specs.Sealing.{sealingOf}
 use Rattle.grammar.specs.Answers.{verdictOf, formReplyOf}
 use Rattle.grammar.proofs.Verdicts.{form-refused, view-none}
 use Rattle.judge.specs.Answers.{judgementOf}
+use Rattle.spelling.specs.Answers.{spellingOf}
 use Rattle.rows.specs.Fill.{replyOf}
 use Rattle.analyser.proofs.analyse.Reads as analyse
 use Rattle.analyser.proofs.generate.Reads as generate
@@ -37,20 +39,23 @@ use Rattle.grammar.proofs.check.Reads as check
 use Rattle.grammar.proofs.form_reply.Reads as form-reply
 use Rattle.grammar.proofs.form_view.Reads as form-view
 use Rattle.judge.proofs.judge.Reads as judge
+use Rattle.spelling.proofs.spell.Reads as spell
 use Rattle.headwords.proofs.headwords_analyse.Reads as headwords-analyse
 use Rattle.headwords.proofs.headwords_generate.Reads as headwords-generate
 use Rattle.headwords.proofs.headwords_check.Reads as headwords-check
 use Rattle.headwords.proofs.headwords_seal.Reads as headwords-seal
 use Rattle.headwords.proofs.headwords_judge.Reads as headwords-judge
 use Rattle.headwords.proofs.headwords_form.Reads as headwords-form
-use Rattle.headwords.specs.Numbers.{verdictNumber, sealingNumber, judgementNumber, formNumber}
+use Rattle.headwords.proofs.headwords_spell.Reads as headwords-spell
+use Rattle.headwords.specs.Numbers.{verdictNumber, sealingNumber, judgementNumber, formNumber, spellingNumber}
 use Rattle.print.proofs.Small.{Small}
-use Rattle.demands.specs.Words.{inTable, FirstFails, Coding, Judged, JudgedNumber, formLetters, FormCopied, Asks, pathBytes}
+use Rattle.demands.specs.Words.{inTable, FirstFails, Coding, Judged, JudgedNumber, formLetters, FormCopied, SpelledOut, Asks, pathBytes}
 use Rattle.demands.proofs.Ends.{Ends, each-ends}
 use Rattle.demands.proofs.Refusing.{InTable, fails-first, Case, either-of, not-both-of, by-first, by-table, unchanged-of}
 use Rattle.demands.proofs.Calls as calls
 use Rattle.demands.proofs.Calls.{Promised}
 use Rattle.demands.proofs.Numbers as numbers
+use Rattle.demands.proofs.Spelled.{word-handed, analysis-taken}
 use Rattle.demands.proofs.Given.{reading-path, reading-forms, reading-tables, row-given}
 use Rattle.demands.proofs.BothWays.{word-taken, path-taken, both-taken, image-accepted, rows-converse, readings-converse, path-in-row}
 
@@ -82,15 +87,17 @@ pub takes-every :
     × ((κs : _) (a : _) → form-reply.Asked κs a)
     × ((κs : _) (a : _) → form-view.Asked κs a)
     × ((κs : _) (a : _) → judge.Asked κs a)
+    × ((κs : _) (a : _) → spell.Asked κs a)
     × ((κs : _) (a : _) → headwords-analyse.Asked κs a)
     × ((κs : _) (a : _) → headwords-generate.Asked κs a)
     × ((κs : _) (a : _) → headwords-seal.Asked κs a)
     × ((κs : _) (a : _) → headwords-check.Asked κs a)
     × ((κs : _) (a : _) → headwords-judge.Asked κs a)
     × ((κs : _) (a : _) → headwords-form.Asked κs a)
-takes-every = (λ κs a. tt, λ κs a. tt, λ κs a. tt, λ κs a. tt, λ κs a. tt, λ κs a. tt, λ κs a. tt, λ κs a. tt, λ κs a. tt, λ κs a. tt, λ κs a. tt, λ κs a. tt, λ κs a. tt)
+    × ((κs : _) (a : _) → headwords-spell.Asked κs a)
+takes-every = (λ κs a. tt, λ κs a. tt, λ κs a. tt, λ κs a. tt, λ κs a. tt, λ κs a. tt, λ κs a. tt, λ κs a. tt, λ κs a. tt, λ κs a. tt, λ κs a. tt, λ κs a. tt, λ κs a. tt, λ κs a. tt, λ κs a. tt)
 
--- "ends": each of the thirteen returns, from whatever it is lent.
+-- "ends": each of the fifteen returns, from whatever it is lent.
 pub ends : {M : Type 1} → Ends M
 ends = each-ends
 
@@ -117,14 +124,15 @@ demand1 {tests} {Refused} {Unchanged} {Work} t c =
     }
 
 -- "the image check .. 1-8; every other call 1-8 and then its own"; 14 "tested after 8 and before 9": the numbers of the tests of each, in their order
-pub tests-made : (image word path pairing : List ℕ) (e : ℕ)
+pub tests-made : (image word path pairing points : List ℕ) (e room : ℕ)
     → (map (λ t. t .0) (imageTests image) ≡ 1 ∷ 2 ∷ 3 ∷ 4 ∷ 5 ∷ 6 ∷ 7 ∷ 8 ∷ 14 ∷ [])
     × (map (λ t. t .0) (requestTests image (analysis word)) ≡ 1 ∷ 2 ∷ 3 ∷ 4 ∷ 5 ∷ 6 ∷ 7 ∷ 8 ∷ 14 ∷ 9 ∷ 10 ∷ [])
     × (map (λ t. t .0) (requestTests image (generation path)) ≡ 1 ∷ 2 ∷ 3 ∷ 4 ∷ 5 ∷ 6 ∷ 7 ∷ 8 ∷ 14 ∷ 11 ∷ 12 ∷ [])
     × (map (λ t. t .0) (judgeTests image path pairing) ≡ 1 ∷ 2 ∷ 3 ∷ 4 ∷ 5 ∷ 6 ∷ 7 ∷ 8 ∷ 14 ∷ 11 ∷ 12 ∷ 13 ∷ [])
     × (map (λ t. t .0) (viewTests image e) ≡ 1 ∷ 2 ∷ 3 ∷ 4 ∷ 5 ∷ 6 ∷ 7 ∷ 8 ∷ 14 ∷ 12 ∷ [])
-unfolding formatTests imageTests requestTests ownTests wordTests pathTests pairingTests judgeTests viewTests
-tests-made image word path pairing e = (refl, refl, refl, refl, refl)
+    × (map (λ t. t .0) (spellingTests image points room) ≡ 1 ∷ 2 ∷ 3 ∷ 4 ∷ 5 ∷ 6 ∷ 7 ∷ 8 ∷ 14 ∷ 9 ∷ 23 ∷ 24 ∷ [])
+unfolding formatTests imageTests requestTests ownTests wordTests pathTests pairingTests judgeTests viewTests pointTests spellingTests
+tests-made image word path pairing points e room = (refl, refl, refl, refl, refl, refl)
 
 -- analysis and generation, from Rattle and from C: the image's tests and then the word's or the path's; their work is demand 3
 pub demand1-listing : {image : List ℕ} {request : Request} {before after : List ℕ} {reply : Reply} → Listing image request before after reply
@@ -163,6 +171,13 @@ pub demand1-form-view : (κs : _) (a : _) (r : _) (s : _) → form-view.Post κs
 demand1-form-view κs a r s p κs′ a′ r′ s′ p′ e f =
     demand1 (calls.view-table (a .0 .now) (a .1 .0)) (calls.view-case (a .0 .now) (a .1 .0) (formReplyOf r′) (r .now) (p′ ∙ ap₂ (λ (i : List ℕ) (n : ℕ). formReply i n) e f) p)
 
+-- the spelling call: 1 to 8, 14, 9, 23 and 24
+pub demand1-spell : (κs : _) (a : _) (r : _) (s : _) → spell.Post κs a r s
+    → let image = a .0 .now in let points = a .1 .0 .now in let before = a .1 .1 .0 .now in let after = s .1 .1 .0 .now in
+    Demand1 (spellingTests image points (length before)) (λ k. spellingOf r ≡ Spelling.refused k) (after ≡ before) ((spellingOf r ≡ Spelling.letters (length (wordSpelled image points))) × SpelledOut image points before after)
+demand1-spell κs a r s p =
+    demand1 (calls.spelling-table (a .0 .now) (a .1 .0 .now) (length (a .1 .1 .0 .now))) (calls.spelling-case (a .0 .now) (a .1 .0 .now) (a .1 .1 .0 .now) (s .1 .1 .0 .now) (spellingOf r) (p .0) (p .1))
+
 -- The calls from C. Their coding loses nothing: no two replies have one number, and 4k + 3 is refused k alone.
 pub codings :
     Coding replyNumber Reply.refused
@@ -170,7 +185,8 @@ pub codings :
     × Coding verdictNumber Verdict.refused
     × Coding judgementNumber Judgement.refused
     × ((room : ℕ) → Coding (formNumber room) FormReply.refused)
-codings = (numbers.listing-coding, numbers.sealing-coding, numbers.check-coding, numbers.judge-coding, numbers.form-coding)
+    × Coding spellingNumber Spelling.refused
+codings = (numbers.listing-coding, numbers.sealing-coding, numbers.check-coding, numbers.judge-coding, numbers.form-coding, numbers.spelling-coding)
 
 pub demand1-headwords-analyse : (κs : _) (a : _) (r : _) (s : _) → headwords-analyse.Post κs a r s
     → let image = a .0 .now in let request = analysis (a .1 .0 .now) in let before = a .1 .1 .0 .now in let after = s .1 .1 .0 .now in
@@ -205,8 +221,14 @@ pub demand1-headwords-form : (κs : _) (a : _) (r : _) (s : _) → headwords-for
     Demand1 (viewTests image e) (λ k. r ≡ 4 * k + 3) (after ≡ before) (FormCopied image e before after r)
 demand1-headwords-form κs a r s p = demand1 (calls.view-table (a .0 .now) (a .1 .0)) (numbers.form-number-case (a .0 .now) (a .1 .0) (a .1 .1 .0 .now) (s .1 .1 .0 .now) r (p .0) (p .1))
 
+pub demand1-headwords-spell : (κs : _) (a : _) (r : _) (s : _) → headwords-spell.Post κs a r s
+    → let image = a .0 .now in let points = a .1 .0 .now in let before = a .1 .1 .0 .now in let after = s .1 .1 .0 .now in
+    Demand1 (spellingTests image points (length before)) (λ k. r ≡ 4 * k + 3) (after ≡ before) ((r ≡ 4 * length (wordSpelled image points) + 1) × SpelledOut image points before after)
+demand1-headwords-spell κs a r s p =
+    demand1 (calls.spelling-table (a .0 .now) (a .1 .0 .now) (length (a .1 .1 .0 .now))) (numbers.spelling-number-case (a .0 .now) (a .1 .0 .now) (a .1 .1 .0 .now) (s .1 .1 .0 .now) r (p .0) (p .1))
+
 -- Document 02, (b): "Such an image is to be refused by every call but sealing.": one that passes tests 1 to 8 and has an entry that can never be spelled is
--- refused with 14 by each of the other eleven, whatever it is asked for, and no byte changes. In C 4k + 3 is 59.
+-- refused with 14 by each of the other thirteen, whatever it is asked for, and no byte changes. In C 4k + 3 is 59.
 abbrev pub Slipped : List ℕ → Type 0
 Slipped image = (firstFailing (formatTests image) ≡ accepted) × ((e : ℕ) × Unspelled image e)
 
@@ -226,23 +248,47 @@ pub unspelled-refused :
     × ((κs : _) (a : _) (r : _) (s : _) → judge.Post κs a r s → Slipped (a .0 .now) → judgementOf r ≡ Judgement.refused 14)
     × ((κs : _) (a : _) (r : _) (s : _) → form-reply.Post κs a r s → Slipped (a .0 .now) → formReplyOf r ≡ FormReply.refused 14)
     × ((κs : _) (a : _) (r : _) (s : _) → form-view.Post κs a r s → Slipped (a .0 .now) → r .now ≡ [])
+    × ((κs : _) (a : _) (r : _) (s : _) → spell.Post κs a r s → Slipped (a .0 .now) → (spellingOf r ≡ Spelling.refused 14) × (s .1 .1 .0 .now ≡ a .1 .1 .0 .now))
     × ((κs : _) (a : _) (r : _) (s : _) → headwords-analyse.Post κs a r s → Slipped (a .0 .now) → (r ≡ 59) × (s .1 .1 .0 .now ≡ a .1 .1 .0 .now))
     × ((κs : _) (a : _) (r : _) (s : _) → headwords-generate.Post κs a r s → Slipped (a .0 .now) → (r ≡ 59) × (s .1 .1 .0 .now ≡ a .1 .1 .0 .now))
     × ((κs : _) (a : _) (r : _) (s : _) → headwords-check.Post κs a r s → Slipped (a .0 .now) → r ≡ 59)
     × ((κs : _) (a : _) (r : _) (s : _) → headwords-judge.Post κs a r s → Slipped (a .0 .now) → r ≡ 59)
     × ((κs : _) (a : _) (r : _) (s : _) → headwords-form.Post κs a r s → Slipped (a .0 .now) → (r ≡ 59) × (s .1 .1 .0 .now ≡ a .1 .1 .0 .now))
+    × ((κs : _) (a : _) (r : _) (s : _) → headwords-spell.Post κs a r s → Slipped (a .0 .now) → (r ≡ 59) × (s .1 .1 .0 .now ≡ a .1 .1 .0 .now))
 unfolding imageVerdict
 unspelled-refused = (
   λ κs a r s p u. refused-with-14 (slip-refused (a .0 .now) u) (demand1-check κs a r s p) .0,
   λ κs a r s p u. refused-with-14 (refused-by-each (a .0 .now) (slip-refused (a .0 .now) u) .1 (a .1 .0 .now) (a .1 .1 .0 .now)) (demand1-judge κs a r s p) .0,
   λ κs a r s p u. refused-with-14 (refused-by-each (a .0 .now) (slip-refused (a .0 .now) u) .2 (a .1 .0)) (demand1-form-reply κs a r s p) .0,
   λ κs a r s p u. p ∙ sym (view-none (a .0 .now) (a .1 .0) 14 (sym (form-refused (a .0 .now) (a .1 .0) 14 (slip-refused (a .0 .now) u)))),
+  λ κs a r s p u. refused-with-14 (refused-by-each (a .0 .now) (slip-refused (a .0 .now) u) .3 (a .1 .0 .now) (length (a .1 .1 .0 .now))) (demand1-spell κs a r s p),
   λ κs a r s p u. refused-with-14 (refused-by-each (a .0 .now) (slip-refused (a .0 .now) u) .0 (analysis (a .1 .0 .now))) (demand1-headwords-analyse κs a r s p),
   λ κs a r s p u. refused-with-14 (refused-by-each (a .0 .now) (slip-refused (a .0 .now) u) .0 (generation (a .1 .0 .now))) (demand1-headwords-generate κs a r s p),
   λ κs a r s p u. refused-with-14 (slip-refused (a .0 .now) u) (demand1-headwords-check κs a r s p) .0,
   λ κs a r s p u. refused-with-14 (refused-by-each (a .0 .now) (slip-refused (a .0 .now) u) .1 (a .1 .0 .now) (a .1 .1 .0 .now)) (demand1-headwords-judge κs a r s p) .0,
   λ κs a r s p u. refused-with-14 (refused-by-each (a .0 .now) (slip-refused (a .0 .now) u) .2 (a .1 .0)) (demand1-headwords-form κs a r s p),
+  λ κs a r s p u. refused-with-14 (refused-by-each (a .0 .now) (slip-refused (a .0 .now) u) .3 (a .1 .0 .now) (length (a .1 .1 .0 .now))) (demand1-headwords-spell κs a r s p),
 )
+
+-- Document 02, (m): the letters that the spelling call hands over pass 9 and 10, and analysis of them on the same image refuses nothing.
+abbrev pub Taken : List ℕ → List ℕ → Type 1
+Taken image w =
+    (firstFailing (wordTests image w) ≡ accepted)
+    × ((before after : List ℕ) (reply : Reply) → Listing image (analysis w) before after reply → (k : ℕ) → reply ≡ Reply.refused k → ⊥)
+
+pub spelled-taken : (κs : _) (a : _) (r : _) (s : _) → spell.Post κs a r s → (n : ℕ) → spellingOf r ≡ Spelling.letters n → Taken (a .0 .now) (take n (s .1 .1 .0 .now))
+spelled-taken κs a r s p n e =
+    let replied = sym (p .0) ∙ e in (
+      word-handed (a .0 .now) (a .1 .0 .now) (a .1 .1 .0 .now) (s .1 .1 .0 .now) n replied (p .1),
+      λ before after reply l. calls.listing-passed (promise l) (analysis-taken (a .0 .now) (a .1 .0 .now) (a .1 .1 .0 .now) (s .1 .1 .0 .now) n replied (p .1)) .1,
+    )
+
+pub headwords-spelled-taken : (κs : _) (a : _) (r : _) (s : _) → headwords-spell.Post κs a r s → (n : ℕ) → r ≡ 4 * n + 1 → Taken (a .0 .now) (take n (s .1 .1 .0 .now))
+headwords-spelled-taken κs a r s p n e =
+    let replied = numbers.spelling-coding .apart _ (Spelling.letters n) (sym (p .0) ∙ e) in (
+      word-handed (a .0 .now) (a .1 .0 .now) (a .1 .1 .0 .now) (s .1 .1 .0 .now) n replied (p .1),
+      λ before after reply l. calls.listing-passed (promise l) (analysis-taken (a .0 .now) (a .1 .0 .now) (a .1 .1 .0 .now) (s .1 .1 .0 .now) n replied (p .1)) .1,
+    )
 
 -- DEMAND 2
 

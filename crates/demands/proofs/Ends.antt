@@ -13,6 +13,8 @@ use Rattle.grammar.proofs.form_view.Statement as form-view-statement
 use Rattle.grammar.proofs.form_view.Met as form-view-met
 use Rattle.judge.proofs.judge.Statement as judge-statement
 use Rattle.judge.proofs.judge.Met as judge-met
+use Rattle.spelling.proofs.spell.Statement as spell-statement
+use Rattle.spelling.proofs.spell.Met as spell-met
 use Rattle.headwords.proofs.headwords_analyse.Statement as headwords-analyse-statement
 use Rattle.headwords.proofs.headwords_analyse.Met as headwords-analyse-met
 use Rattle.headwords.proofs.headwords_generate.Statement as headwords-generate-statement
@@ -25,6 +27,8 @@ use Rattle.headwords.proofs.headwords_judge.Statement as headwords-judge-statem
 use Rattle.headwords.proofs.headwords_judge.Met as headwords-judge-met
 use Rattle.headwords.proofs.headwords_form.Statement as headwords-form-statement
 use Rattle.headwords.proofs.headwords_form.Met as headwords-form-met
+use Rattle.headwords.proofs.headwords_spell.Statement as headwords-spell-statement
+use Rattle.headwords.proofs.headwords_spell.Met as headwords-spell-met
 
 -- at every model of the machine
 abbrev pub Ends : Type 1 → Type 2
@@ -36,12 +40,14 @@ Ends M =
     × form-reply-statement.statement M
     × form-view-statement.statement M
     × judge-statement.statement M
+    × spell-statement.statement M
     × headwords-analyse-statement.statement M
     × headwords-generate-statement.statement M
     × headwords-seal-statement.statement M
     × headwords-check-statement.statement M
     × headwords-judge-statement.statement M
     × headwords-form-statement.statement M
+    × headwords-spell-statement.statement M
 
 pub each-ends : {M : Type 1} → Ends M
-each-ends = (analyse-met.met, generate-met.met, seal-met.met, check-met.met, form-reply-met.met, form-view-met.met, judge-met.met, headwords-analyse-met.met, headwords-generate-met.met, headwords-seal-met.met, headwords-check-met.met, headwords-judge-met.met, headwords-form-met.met)
+each-ends = (analyse-met.met, generate-met.met, seal-met.met, check-met.met, form-reply-met.met, form-view-met.met, judge-met.met, spell-met.met, headwords-analyse-met.met, headwords-generate-met.met, headwords-seal-met.met, headwords-check-met.met, headwords-judge-met.met, headwords-form-met.met, headwords-spell-met.met)

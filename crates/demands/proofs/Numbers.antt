@@ -11,16 +11,17 @@ use borrow.Author.Tests.{leb-true, leb-false}
 use Rattle.model.specs.Blocks.{sealedImage}
 use Rattle.model.specs.Lexicon.{entry, formLength}
 use Rattle.model.specs.Query.{Request}
-use Rattle.model.specs.Refusals.{Verdict, accepted, firstFailing, rightLength, imageTests, imageVerdict, requestTests, judgeTests, viewTests}
+use Rattle.model.specs.Spelling.{wordSpelled}
+use Rattle.model.specs.Refusals.{Verdict, accepted, firstFailing, rightLength, imageTests, imageVerdict, requestTests, judgeTests, viewTests, spellingTests}
 use Rattle.model.specs.Rows.{Reply, rowCount, replyNumber}
 use Rattle.model.specs.Calls.{Sealing, sealingReply, afterSealing, allReadings, listingReply, afterListing}
-use Rattle.model.specs.Beside.{Judgement, FormReply, judged, viewed, formReply}
+use Rattle.model.specs.Beside.{Judgement, FormReply, Spelling, judged, viewed, formReply, spellingReply, afterSpelling}
 use Rattle.model.specs.Demand.{Demand3}
-use Rattle.headwords.specs.Numbers.{verdictNumber, sealingNumber, judgementNumber, formNumber, afterForm}
+use Rattle.headwords.specs.Numbers.{verdictNumber, sealingNumber, judgementNumber, formNumber, afterForm, spellingNumber}
 use Rattle.headwords.proofs.Replies.{letters-are, form-refused, form-short, form-fits}
-use Rattle.demands.specs.Words.{Coding, Judged, JudgedNumber, formLetters, FormCopied}
+use Rattle.demands.specs.Words.{Coding, Judged, JudgedNumber, formLetters, FormCopied, SpelledOut}
 use Rattle.demands.proofs.Refusing.{Case}
-use Rattle.demands.proofs.Calls.{listing-case, sealing-case, check-case, judge-case, view-case}
+use Rattle.demands.proofs.Calls.{listing-case, sealing-case, check-case, judge-case, view-case, spelling-case}
 
 -- the second follows from the first
 coding : {A : Type 0} (number : A → ℕ) (refused : ℕ → A) → ((k : ℕ) → number (refused k) ≡ 4 * k + 3) → ((a b : A) → number a ≡ number b → a ≡ b) → Coding number refused
@@ -100,6 +101,15 @@ form-coding room = coding (formNumber room) FormReply.refused (λ k. refl) apart
     apart (FormReply.refused m) (FormReply.letters n) e = absurd (letters n (leb n room) m (sym e))
     apart (FormReply.refused m) (FormReply.refused n) e = ap FormReply.refused (omega arith)
 
+pub spelling-coding : Coding spellingNumber Spelling.refused
+spelling-coding = coding spellingNumber Spelling.refused (λ k. refl) apart
+  where
+    apart : (a b : Spelling) → spellingNumber a ≡ spellingNumber b → a ≡ b
+    apart (Spelling.letters m) (Spelling.letters n) e = ap Spelling.letters (omega arith)
+    apart (Spelling.letters m) (Spelling.refused n) e = absurd (omega arith)
+    apart (Spelling.refused m) (Spelling.letters n) e = absurd (omega arith)
+    apart (Spelling.refused m) (Spelling.refused n) e = ap Spelling.refused (omega arith)
+
 -- a call whose reply is coded: refused by the same tests, its work by what the reply says
 module _ {A : Type 0} (number : A → ℕ) (refused : ℕ → A) (code : Coding number refused) (reply : A) (n : ℕ) (is : n ≡ number reply) (Unchanged Work Work′ : Type 0)
     (to : Work → Work′) (from : Work′ → Work) where
@@ -177,3 +187,15 @@ module _ (image : List ℕ) (e : ℕ) (before after : List ℕ) (n : ℕ) where
       go (Verdict.refused k) c =
           let f = replies ∙ ap (formNumber (length before)) (c .0 .0) in
           (f, λ j g. omega arith, leaves ∙ sym (form-refused image e before k (c .0 .0)), not-copied k f)
+
+module _ (image points before after : List ℕ) (n : ℕ) where
+  pub spelling-number-case : n ≡ spellingNumber (spellingReply image points (length before)) → after ≡ afterSpelling image points before
+      → Case (λ k. n ≡ 4 * k + 3) (after ≡ before) ((n ≡ 4 * length (wordSpelled image points) + 1) × SpelledOut image points before after) (firstFailing (spellingTests image points (length before)))
+  spelling-number-case replies leaves =
+      let reply = spellingReply image points (length before) in
+      let size = length (wordSpelled image points) in
+      coded-case spellingNumber Spelling.refused spelling-coding reply n replies (after ≡ before) ((reply ≡ Spelling.letters size) × SpelledOut image points before after) ((n ≡ 4 * size + 1) × SpelledOut image points before after)
+      (λ w. (replies ∙ ap spellingNumber (w .0), w .1))
+      (λ w. (spelling-coding .apart reply (Spelling.letters size) (sym replies ∙ w .0), w .1))
+      (firstFailing (spellingTests image points (length before)))
+      (spelling-case image points before after reply refl leaves)

@@ -1,7 +1,7 @@
 -- What the statements of the demands are made of: the first test that fails, the work of each call beside the listings, replies as numbers, what a listing is
 -- asked for, a path as bytes.
 use Prim.Native.Nat.{ℕ, _+_, _*_, _<_, _≤_}
-use mathlib.Core.Bool.{Bool, false}
+use mathlib.Core.Bool.{Bool, false, _||_}
 use mathlib.Core.Path.{_≡_}
 use mathlib.Core.Logic.{_↔_, _⊎_}
 use mathlib.Core.List.{List, _∷_, _++_}
@@ -13,11 +13,12 @@ use Rattle.model.specs.Grammar.{Grammar}
 use Rattle.model.specs.GrammarOf.{grammarOf}
 use Rattle.model.specs.Readings.{Reading, spelled, isReading}
 use Rattle.model.specs.Query.{Request, analysis, generation, entryNumbers}
+use Rattle.model.specs.Spelling.{wordSpelled}
 use Rattle.model.specs.Beside.{Judgement, formStart}
 
 -- "a number of document 01's table", which the answers of document 02 join
 abbrev pub inTable : ℕ → Bool
-inTable = within 1 14
+inTable k = within 1 14 k || within 23 24 k
 
 -- in the order of the tests: test k fails, and every test before it passes
 pub record FirstFails (k : ℕ) (tests : List (ℕ × Bool)) : Type 0 where
@@ -52,6 +53,10 @@ module _ (image : List ℕ) (e : ℕ) where
   FormCopied before after number =
       let n = formLength (entry image e) in
       ((n ≤ length before) × (number ≡ 4 * n + 1) × (after ≡ formLetters ++ drop n before)) ⊎ ((length before < n) × (number ≡ 4 * n + 2) × (after ≡ before))
+
+-- document 02, (m): "code points .. become letter numbers", at the front of a lent output; "output bytes past it keep their values"
+abbrev pub SpelledOut : List ℕ → List ℕ → List ℕ → List ℕ → Type 0
+SpelledOut image points before after = let w = wordSpelled image points in (length w ≤ length before) × (after ≡ w ++ drop (length w) before)
 
 -- what a listing asks of a reading: the word that it spells, or its path
 abbrev pub Asks : Grammar → Request → Reading → Type 0

@@ -1,11 +1,9 @@
--- What the numbers and the copied letters take: a listing has few rows; letters copied one after another.
-use Prim.Native.Nat.{ℕ, suc, _+_, _<_, _≤_}
-use native.Mathlib.Numerals.{add-one}
+-- What the numbers and the copied letters take: a listing has few rows; and a form's letters.
+use Prim.Native.Nat.{ℕ, _<_, _≤_}
 use native.Mathlib.Omega.{arith}
-use mathlib.Core.Path.{_≡_, refl, sym, ap, ap₂, _∙_}
+use mathlib.Core.Path.{_≡_, refl, ap, _∙_}
 use mathlib.Core.List.{List, _++_}
-use lib.ListN.{length, getD, set, take, drop, length-take}
-use lib.Seq.{take-suc, drop-cons, set-at, append-snoc}
+use lib.ListN.{length, drop}
 use lib.Dec.{leb}
 use borrow.Author.Tests.{le-leb, lt-leb}
 use Rattle.model.specs.Query.{Request}
@@ -20,14 +18,6 @@ use Rattle.headwords.specs.Numbers.{afterForm}
 pub listing-rows : (image : List ℕ) (request : Request) (rows : ℕ) → replyRows (listingReply image request rows) ≤ rows
 unfolding listingReply
 listing-rows image request rows = replyAfter-rows rows (requestVerdict image request) (allReadings image request)
-
--- one letter more
-pub copied-more : (letters out : List ℕ) (i : ℕ) → i < length letters → i < length out → set (take i letters ++ drop i out) i (getD letters i 0) ≡ take (i + 1) letters ++ drop (i + 1) out
-copied-more letters out i h k =
-    ap (λ (l : List ℕ). set (take i letters ++ l) i (getD letters i 0)) (drop-cons out i 0 k)
-    ∙ set-at (take i letters) (getD out i 0) (drop (suc i) out) (getD letters i 0) i (omega (arith, length-take i letters))
-    ∙ sym (append-snoc (take i letters) (getD letters i 0) (drop (suc i) out))
-    ∙ ap₂ (λ (l m : List ℕ). l ++ m) (sym (take-suc letters i 0 h) ∙ ap (λ (n : ℕ). take n letters) (sym (add-one i))) (ap (λ (n : ℕ). drop n out) (sym (add-one i)))
 
 -- the form's reply and bytes: refused, no room, room
 module _ (image : List ℕ) (e : ℕ) (out : List ℕ) where

@@ -6,7 +6,7 @@ use lib.ListN.{length, drop}
 use lib.Dec.{leb}
 use Rattle.model.specs.Refusals.{Verdict}
 use Rattle.model.specs.Calls.{Sealing}
-use Rattle.model.specs.Beside.{Judgement, FormReply}
+use Rattle.model.specs.Beside.{Judgement, FormReply, Spelling}
 
 abbrev pub refusedNumber : ℕ → ℕ
 refusedNumber k = 4 * k + 3
@@ -32,3 +32,7 @@ formNumber room (FormReply.refused k) = refusedNumber k
 -- the letters at the front of a buffer that has room for them; the buffer as it was where it has not
 abbrev pub afterForm : List ℕ → List ℕ → List ℕ
 afterForm form buffer = cond (leb (length form) (length buffer)) (form ++ drop (length form) buffer) buffer
+
+abbrev pub spellingNumber : Spelling → ℕ
+spellingNumber (Spelling.letters n) = 4 * n + 1
+spellingNumber (Spelling.refused k) = refusedNumber k

@@ -1,18 +1,17 @@
 // The C entry: every call on byte slices, every reply one number. `include/headwords.h` declares these functions.
 ghost use mathlib.Core.Path.{_≡_};
-ghost use mathlib.Core.List.{_++_};
-ghost use Prim.Native.Nat.{_≤_};
-ghost use lib.ListN.{length, drop};
+ghost use lib.ListN.{length};
 ghost use Rattle.model.specs.Query.{analysis, generation};
 ghost use Rattle.model.specs.Refusals.{imageVerdict};
 ghost use Rattle.model.specs.Rows.{rowCount, replyNumber};
 ghost use Rattle.model.specs.Calls.{sealingReply, afterSealing, listingReply, afterListing};
-ghost use Rattle.model.specs.Beside.{judged, formReply, viewed};
-ghost use Rattle.headwords.specs.Numbers.{refusedNumber, verdictNumber, sealingNumber, judgementNumber, formNumber, afterForm};
+ghost use Rattle.model.specs.Beside.{judged, formReply, viewed, spellingReply, afterSpelling};
+ghost use Rattle.headwords.specs.Numbers.{refusedNumber, verdictNumber, sealingNumber, judgementNumber, formNumber, afterForm, spellingNumber};
 use grammar::FormReply;
 use grammar::Verdict;
 use image::seal::Sealing;
 use judge::Judgement;
+use spelling::Spelling;
 
 #[no_mangle]
 pub extern "C" fn headwords_analyse(image: &[u8], word: &[u8], out: &mut [u8]) -> u64
@@ -73,9 +72,20 @@ pub extern "C" fn headwords_form(image: &[u8], entry: usize, out: &mut [u8]) -> 
             if out.len() < n {
                 return 4 * (n as u64) + 2;
             }
-            copy(grammar::form_part(image, entry, n), out);
+            bytes::copy(grammar::form_part(image, entry, n), out);
             4 * (n as u64) + 1
         }
+    }
+}
+
+#[no_mangle]
+pub extern "C" fn headwords_spell(image: &[u8], points: &[u8], letters: &mut [u8]) -> u64
+    ensures reply { λ r. ⌜ r ≡ spellingNumber (spellingReply (now (image .entry)) (now (points .entry)) (length (now (letters .entry)))) ⌝ }
+    ensures bytes { λ _. ⌜ now (letters .exit) ≡ afterSpelling (now (image .entry)) (now (points .entry)) (now (letters .entry)) ⌝ }
+{
+    match spelling::spell(image, points, letters) {
+        Spelling::Letters(n) => 4 * (n as u64) + 1,
+        Spelling::Refused(k) => refusal(k),
     }
 }
 
@@ -83,17 +93,4 @@ fn refusal(k: u8) -> u64
     ensures { λ r. ⌜ r ≡ refusedNumber k ⌝ }
 {
     4 * (k as u64) + 3
-}
-
-// Letters to the front of a lent buffer that has room for them.
-fn copy(letters: &[u8], out: &mut [u8])
-    requires { ⌜ length (now letters) ≤ length (now out) ⌝ }
-    ensures { λ _. ⌜ now (out .exit) ≡ now (letters .entry) ++ drop (length (now (letters .entry))) (now (out .entry)) ⌝ }
-{
-    let n = letters.len();
-    let mut i: usize = 0;
-    while i < n {
-        out[i] = letters[i];
-        i += 1;
-    }
 }

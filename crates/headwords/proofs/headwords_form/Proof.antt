@@ -3,6 +3,7 @@ use borrow.Author.Needs.{needs}
 use native.Mathlib.Omega.{arith}
 use mathlib.Core.Path.{_≡_, refl, sym, ap, _∙_}
 use lib.ListN.{length}
+use lib.Seq.{take-length}
 use borrow.Author.Tests.{le-leb, lt-leb}
 use Rattle.model.specs.Beside as beside
 use Rattle.model.specs.Beside.{formReply}
@@ -78,7 +79,7 @@ returns-3 c =
     let a = told .before .before .before .before .before .before .args in
     let n = told .before .n .given .0 .0 in (
       sym (ap (formNumber (length (a .out .now))) (replied told) ∙ rw (le-leb n (length (a .out .now)) (room .if1 .left)) refl),
-      c .before .before .copy .ensures ∙ rw (c .before .before .before .before .form-part .ensures) (form-fits (a .image .now) (a .entry) (a .out .now) n (replied told) (room .if1 .left)),
+      c .before .before .copy .ensures .1 ∙ rw (take-length (c .before .before .before .before .form-part .result .now), c .before .before .before .before .form-part .ensures) (form-fits (a .image .now) (a .entry) (a .out .now) n (replied told) (room .if1 .left)),
     )
 
 pub headwords-form-spec : {M : Type 1} → statement M
