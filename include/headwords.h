@@ -5,7 +5,8 @@
  * global state, no locale, so any number of threads may call at once on images that none of them writes.
  *
  * Letters, pairs and entries are numbers of the grammar: letters from 1, the boundary, so that a word has letters from 2
- * on; pairs and entries from 0. The assembler lists them: assemble --letters, --pairs, --entries.
+ * on; pairs and entries from 0. The assembler lists them: assemble --letters, --pairs, --entries. headwords_spell gives the
+ * letters of a word as it is written.
  *
  * A reading is a path through the lexicon and a pairing that spells the path's forms and the word, and that every rule
  * lets pass: each rule is fed the boundary pair, then the pairs of the pairing, then the boundary pair again, and has to
@@ -30,13 +31,15 @@
  *    7  for a listed or the boundary pair a rule has no matching column, or two narrowest
  *    8  lexicon counts do not add up to the entries, or an entry breaks its layout
  *   14  an entry can never be spelled: a letter of its form is the lexical side of no pair
- *    9  word length 0 or over 32
+ *    9  word length 0 or over 32; where the word is code points, an odd count of bytes too
  *   10  a word letter outside 2-L
  *   11  path of 0 or over 16 entries, or an odd count of bytes
  *   12  no such entry, or the path is not linked through the lexicon
  *   13  pairing length 0 or over 40, or no such pair
- * A call makes those that its declaration below names, each over the whole image before the next; the first that fails
- * is the one told. A refused call writes nothing.
+ *   23  a code point with no letter, or with letter 1
+ *   24  an output shorter than the word
+ * A call makes those that its declaration below names, in the order in which it names them, each over the whole image, word
+ * or path before the next; the first that fails is the one told. A refused call writes nothing.
  *
  * What a call can cost at worst: every call ends, and all but the two listings within a few milliseconds. A listing goes
  * through the ways in which entries and pairs may follow each other. Where that turns out long, it remembers the dead ends
@@ -71,8 +74,29 @@ enum { HEADWORDS_NONE = 0, HEADWORDS_ALL = 1, HEADWORDS_MORE = 2, HEADWORDS_REFU
  * No byte past row n - 1 changes. */
 uint64_t headwords_analyse(const uint8_t *image, size_t image_length, const uint8_t *word, size_t word_length, uint8_t *rows, size_t rows_length);
 
-/* All readings with a path, given as two bytes to an entry number, the low byte first. Replies and rows as above; refused
- * with 1 to 8, 14, 11 or 12. */
+/* The letters of a word as it is written, which is given as code points, two bytes each, the low byte first.
+ *   4n + 1  the word has n letters, 1 to 32, and they are in letters[0] to letters[n - 1]; no byte past them changes
+ *   4k + 3  refused (1 to 8, 14, 9, 23 or 24); nothing is written
+ * A code point of the grammar's alphabet gives its own letter and is never folded. Another is folded, and the alphabet has to
+ * have what comes of it: 0 to 383 by Unicode's simple lower-case mapping, so that U+00C9 becomes U+00E9, U+0130 becomes 105
+ * and U+0178 becomes 255; above 383 nothing is folded. An accent with a code point of its own is one more code point.
+ *
+ * By luz, whose letters from 1 on are # + c e l s u z Z, LUCES and Luces spell luces, and Luz spells luz:
+ *
+ *     const uint8_t points[] = {'L', 0, 'u', 0, 'z', 0};
+ *     uint8_t word[32];
+ *     headwords_spell(image, image_length, points, sizeof points, word, sizeof word); // 4 * 3 + 1, and word has 5 7 8
+ *
+ * Z is a letter there, and keeps its place: luZ spells luZ, and so does LUZ, which as a written word has no reading. Whoever
+ * wants LUZ read as luz lowers such words before the call, or gives the grammar another letter than a capital for such a Z.
+ *
+ * What is spelled passes tests 9 and 10, so headwords_analyse refuses it for neither. This call checks the image, whole, as
+ * each does, which costs far more than the spelling. But a code point's letter depends on nothing else in the word: so for
+ * many words of one image ask for each code point once, as a word of its own, and keep the answers (examples/spell.c). */
+uint64_t headwords_spell(const uint8_t *image, size_t image_length, const uint8_t *points, size_t points_length, uint8_t *letters, size_t letters_length);
+
+/* All readings with a path, given as two bytes to an entry number, the low byte first. Replies and rows as those of
+ * headwords_analyse; refused with 1 to 8, 14, 11 or 12. */
 uint64_t headwords_generate(const uint8_t *image, size_t image_length, const uint8_t *path, size_t path_length, uint8_t *rows, size_t rows_length);
 
 /* 1 where the image is accepted, 4k + 3 where it is refused (1 to 8, 14). Nothing is written. */

@@ -27,6 +27,7 @@ static inline void put_row(uint8_t *row, struct bytes path, struct bytes pairing
 
 /* `what` names the call when it is wrong; `written` is what stands at the front of the buffer afterwards. */
 
+/* Analysis and generation; spelling, which writes letters and not rows, is called in the same way. */
 typedef uint64_t listing(const uint8_t *, size_t, const uint8_t *, size_t, uint8_t *, size_t);
 
 static inline void list(listing *call, const char *what, struct bytes image, struct bytes given, size_t room, uint64_t reply, struct bytes written)
@@ -43,6 +44,24 @@ static inline void list(listing *call, const char *what, struct bytes image, str
 static inline void analyse(const char *what, struct bytes image, struct bytes word, size_t room, uint64_t reply, struct bytes written)
 {
     list(headwords_analyse, what, image, word, room, reply, written);
+}
+
+/* The bytes of code points, in one place for all: a call has to take them before the next are made. */
+#define POINTS(...) points_of((const uint16_t[]){__VA_ARGS__}, sizeof((const uint16_t[]){__VA_ARGS__}) / sizeof(uint16_t))
+
+static inline struct bytes points_of(const uint16_t *points, size_t count)
+{
+    static uint8_t bytes[128];
+    for (size_t i = 0; i < count; i++) {
+        bytes[2 * i] = (uint8_t)(points[i] % 256);
+        bytes[2 * i + 1] = (uint8_t)(points[i] / 256);
+    }
+    return (struct bytes){bytes, 2 * count};
+}
+
+static inline void spell(const char *what, struct bytes image, struct bytes points, size_t room, uint64_t reply, struct bytes written)
+{
+    list(headwords_spell, what, image, points, room, reply, written);
 }
 
 static inline void generate(const char *what, struct bytes image, struct bytes path, size_t room, uint64_t reply, struct bytes written)

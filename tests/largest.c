@@ -172,6 +172,25 @@ static void stem(struct bytes image, size_t e)
     form(what, image, e, 12, 4 * 2 + 1, letters);
 }
 
+/* Its letters 1 to 120 are code points 100 to 219: the small letters from d on, and then capitals with accents, which stay. */
+static void spellings(struct bytes image)
+{
+    uint16_t points[32];
+    uint8_t letters[32];
+    for (size_t i = 0; i < 32; i++) {
+        points[i] = 219;
+        letters[i] = LAST;
+    }
+    struct bytes last = points_of(points, 32);
+    spell("32 times letter 120", image, last, 32, 4 * 32 + 1, (struct bytes){letters, 32});
+    spell("32 times letter 120, and a letter's room less", image, last, 31, refused(24), nothing);
+    spell("E, e, Z, z, À, Û", image, POINTS('E', 'e', 'Z', 'z', 192, 219), 32, 4 * 6 + 1, BYTES(2, 2, 23, 23, 93, LAST));
+    spell("D, which folds to letter 1", image, POINTS('E', 'D'), 32, refused(23), nothing);
+    spell("C, before the first", image, POINTS('E', 'C'), 32, refused(23), nothing);
+    spell("Ü, past the last", image, POINTS('E', 220), 32, refused(23), nothing);
+    spell("à, whose capital is a letter", image, POINTS('E', 224), 32, refused(23), nothing);
+}
+
 static void entries(void)
 {
     static const size_t edges[] = {255, 256, 1023, 1024, 2047, 2048, 2049, STEMS - 2, STEMS - 1};
@@ -186,6 +205,7 @@ static void entries(void)
     generate("entry 2800", image, BYTES(ENTRIES % 256, ENTRIES / 256), ROW, refused(12), nothing);
     judge("pair 250", image, path_of(2048), BYTES(0, 250), refused(13));
     analyse("letter 121", image, BYTES(2, 121), ROW, refused(10), nothing);
+    spellings(image);
 }
 
 /* 128 blocks of nothing: sealed, and then refused for their form. */
@@ -261,7 +281,7 @@ static void readings(void)
 int main(void)
 {
     make_room(IMAGE, 128 * BLOCK);
-    make_room(GIVEN, 32);
+    make_room(GIVEN, 64);
     make_room(PAIRING, 2);
     make_room(OUT, 6 * ROW);
     watch();

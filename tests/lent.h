@@ -37,7 +37,7 @@ struct lent {
 };
 
 enum range { IMAGE, GIVEN, PAIRING, OUT, RANGES };
-static struct lent ranges[RANGES] = {{.name = "image"}, {.name = "word or path"}, {.name = "pairing"}, {.name = "buffer"}};
+static struct lent ranges[RANGES] = {{.name = "image"}, {.name = "word, code points or path"}, {.name = "pairing"}, {.name = "buffer"}};
 
 static const char *called = "no call"; /* the call under way, to be told when it is wrong */
 static unsigned failures;

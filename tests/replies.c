@@ -104,6 +104,187 @@ static void forms(void)
     }
 }
 
+/* A word of code points that luz has letters for, in rooms around its length. */
+static void spelled(const char *what, struct bytes points, struct bytes letters)
+{
+    for (size_t room = 0; room <= 40; room++) {
+        int fits = room >= letters.length;
+        spell(what, luz, points, room, fits ? 4 * letters.length + 1 : refused(24), fits ? letters : nothing);
+    }
+}
+
+/* Code points that are refused with k, in a room where the word would have its place and in none, where a 24 must not come first. */
+static void not_spelled(const char *what, struct bytes image, struct bytes points, unsigned k)
+{
+    spell(what, image, points, 40, refused(k), nothing);
+    spell(what, image, points, 0, refused(k), nothing);
+}
+
+static void spellings(void)
+{
+    spelled("luces", POINTS('l', 'u', 'c', 'e', 's'), BYTES(5, 7, 3, 4, 6));
+    spelled("Luces", POINTS('L', 'u', 'c', 'e', 's'), BYTES(5, 7, 3, 4, 6));
+    spelled("LUCES", POINTS('L', 'U', 'C', 'E', 'S'), BYTES(5, 7, 3, 4, 6));
+    spelled("luz", POINTS('l', 'u', 'z'), BYTES(5, 7, 8));
+    spelled("Luz", POINTS('L', 'u', 'z'), BYTES(5, 7, 8));
+    spelled("luZ", POINTS('l', 'u', 'Z'), BYTES(5, 7, 9));
+    spelled("LUZ", POINTS('L', 'U', 'Z'), BYTES(5, 7, 9)); /* Z is a letter, and stays */
+    spelled("luZ+es", POINTS('l', 'u', 'Z', '+', 'e', 's'), BYTES(5, 7, 9, 2, 4, 6));
+    spelled("+", POINTS('+'), BYTES(2));
+
+    not_spelled("# alone", luz, POINTS('#'), 23);
+    not_spelled("# first", luz, POINTS('#', 'l'), 23);
+    not_spelled("# inside", luz, POINTS('l', '#', 'z'), 23);
+    not_spelled("# last", luz, POINTS('l', 'u', '#'), 23);
+    not_spelled("0, which the text has for the null", luz, POINTS('l', 48), 23);
+    not_spelled("k", luz, POINTS('l', 'k'), 23);
+    not_spelled("K", luz, POINTS('K', 'l'), 23);
+    not_spelled("code point 0", luz, POINTS('l', 0), 23);
+    not_spelled("code point 65535", luz, POINTS('l', 65535), 23);
+    not_spelled("the first surrogate", luz, POINTS('l', 55296), 23);
+    not_spelled("the last surrogate", luz, POINTS(57343, 'l'), 23);
+    not_spelled("l in the high byte", luz, POINTS(256 * 'l'), 23);
+    not_spelled("l in both bytes", luz, POINTS(257 * 'l'), 23);
+    not_spelled("l and a high byte", luz, POINTS(256 + 'l'), 23);
+    not_spelled("L and a high byte", luz, POINTS(512 + 'L'), 23);
+
+    /* each alone: luz has these letters, and capitals of some; no other code point up to the end of the table, or just after it, becomes one */
+    static const char known[] = "+celsuzZCELSU", letters[] = {2, 3, 4, 5, 6, 7, 8, 9, 3, 4, 5, 6, 7};
+    for (uint16_t point = 0; point < 400; point++) {
+        const char *at = point > 0 && point < 128 ? strchr(known, point) : NULL;
+        if (at == NULL)
+            not_spelled("a code point alone, which has no letter", luz, POINTS(point), 23);
+        else
+            spelled("a code point alone", POINTS(point), BYTES((uint8_t)letters[at - known]));
+    }
+}
+
+/* 9 before all that is wrong with a code point or with the room. */
+static void spelling_lengths(void)
+{
+    static const size_t wrong[] = {0, 1, 3, 63, 65, 66, 67, 128, 255, 256, 257, 512, 513, 514, 600};
+    uint8_t capitals[600] = {0}, boundaries[600] = {0}, letters[32];
+    struct bytes words[] = {{capitals, 64}, {boundaries, 64}}, thirty_two = {letters, 32};
+    for (size_t i = 0; i < sizeof capitals; i += 2) {
+        capitals[i] = 'L';
+        boundaries[i] = '#';
+    }
+    memset(letters, 5, sizeof letters);
+    spelled("32 code points", words[0], thirty_two);
+    not_spelled("32 boundaries", luz, words[1], 23);
+    for (size_t w = 0; w < 2; w++)
+        for (size_t i = 0; i < sizeof wrong / sizeof *wrong; i++)
+            not_spelled("code points of no word's length", luz, first(wrong[i], words[w]), 9);
+    capitals[62] = '#';
+    not_spelled("# as the last of 32", luz, words[0], 23);
+}
+
+/* luz with other code points for some of its letters, two at most, and sealed. */
+struct change {
+    unsigned letter;
+    uint16_t point;
+};
+
+static struct bytes relettered(struct change one, struct change other)
+{
+    static uint8_t image[65536];
+    memcpy(image, luz.at, luz.length);
+    for (int i = 0; i < 2; i++) {
+        struct change change = i == 0 ? one : other;
+        uint8_t *record = image + 512 + 4 + 2 * (change.letter - 1);
+        record[0] = (uint8_t)(change.point % 256);
+        record[1] = (uint8_t)(change.point / 256);
+    }
+    headwords_seal(image, luz.length);
+    return (struct bytes){image, luz.length};
+}
+
+/* Unicode's simple lower-case mapping of code points 0 to 383, told by its runs and not as a table. */
+static uint16_t lowered(uint16_t point)
+{
+    int even = point % 2 == 0;
+    if (point == 0x130)
+        return 'i';
+    if (point == 0x178)
+        return 0xFF;
+    if ((point >= 'A' && point <= 'Z') || (point >= 0xC0 && point <= 0xDE && point != 0xD7))
+        return point + 32;
+    if ((point >= 0x100 && point <= 0x137 && even) || (point >= 0x139 && point <= 0x148 && !even) || (point >= 0x14A && point <= 0x177 && even) || (point >= 0x179 && point <= 0x17E && !even))
+        return point + 1;
+    return point;
+}
+
+static int is_of_luz(uint16_t point)
+{
+    return point > 0 && point < 128 && strchr("#+celsuzZ", point) != NULL;
+}
+
+static void folds(void)
+{
+    /* é and ÿ, then i and σ */
+    struct bytes accents = relettered((struct change){3, 0xE9}, (struct change){4, 0xFF});
+    spell("É and Ÿ", accents, POINTS(0xC9, 0x178, 'L', 0xE9, 0xFF), 40, 4 * 5 + 1, BYTES(3, 4, 5, 3, 4));
+    not_spelled("E where é is a letter", accents, POINTS('E'), 23);
+    not_spelled("C where é has its place", accents, POINTS('C'), 23);
+    struct bytes greek = relettered((struct change){3, 'i'}, (struct change){4, 0x3C3});
+    spell("İ and σ", greek, POINTS(0x130, 'I', 'i', 0x3C3), 40, 4 * 4 + 1, BYTES(3, 3, 3, 4));
+    not_spelled("Σ, which is above 383", greek, POINTS(0x3A3), 23);
+    not_spelled("ı, which is no capital", greek, POINTS(0x131), 23);
+    struct bytes capital = relettered((struct change){3, 0x3A3}, (struct change){4, 0x178});
+    spell("Σ and Ÿ as letters", capital, POINTS(0x3A3, 0x178), 40, 4 * 2 + 1, BYTES(3, 4));
+    not_spelled("ÿ where Ÿ is a letter", capital, POINTS(0xFF), 23);
+
+    /* above 383 a capital is no other letter: B with topbar, DŽ, sharp S, the signs of kelvin and angstrom, the last of all */
+    static const struct {
+        uint16_t point, small;
+    } above[] = {{0x182, 0x183}, {0x18E, 0x1DD}, {0x1C4, 0x1C6}, {0x1E9E, 0xDF}, {0x212A, 'k'}, {0x212B, 0xE5}, {0xFF3A, 0xFF5A}};
+    for (size_t i = 0; i < sizeof above / sizeof *above; i++) {
+        struct bytes image = relettered((struct change){3, above[i].small}, (struct change){4, 'e'});
+        spell("the small letter", image, POINTS(above[i].small), 40, 5, BYTES(3));
+        not_spelled("a capital above 383", image, POINTS(above[i].point), 23);
+        image = relettered((struct change){3, above[i].small}, (struct change){4, above[i].point});
+        spell("a capital above 383, which is a letter", image, POINTS(above[i].point, above[i].small), 40, 4 * 2 + 1, BYTES(4, 3));
+    }
+
+    /* the whole table: what a code point becomes is letter 3, or the boundary; the code point itself is letter 4, and is not folded */
+    for (uint16_t point = 1; point < 384; point++) {
+        uint16_t small = lowered(point);
+        if (is_of_luz(point) || is_of_luz(small))
+            continue;
+        spell("folded to letter 3", relettered((struct change){3, small}, (struct change){4, 'e'}), POINTS(point), 40, 5, BYTES(3));
+        not_spelled("folded to letter 1", relettered((struct change){1, small}, (struct change){4, 'e'}), POINTS(point), 23);
+        if (small == point)
+            continue;
+        struct bytes both = relettered((struct change){3, small}, (struct change){4, point});
+        spell("a capital and its small letter, both letters", both, POINTS(point, small), 40, 4 * 2 + 1, BYTES(4, 3));
+    }
+
+    /* letter 1 is c: neither c nor C is a letter of a word; letter 1 is C: it is in the alphabet, and so is not folded to c */
+    struct bytes boundary = relettered((struct change){1, 'c'}, (struct change){3, '#'});
+    spell("#, which is letter 3", boundary, POINTS('#', 'l'), 40, 4 * 2 + 1, BYTES(3, 5));
+    not_spelled("c, which is letter 1", boundary, POINTS('l', 'c'), 23);
+    not_spelled("C, which folds to letter 1", boundary, POINTS('C', 'l'), 23);
+    boundary = relettered((struct change){1, 'C'}, (struct change){3, 'c'});
+    spell("c beside the boundary C", boundary, POINTS('c', 'E'), 40, 4 * 2 + 1, BYTES(3, 4));
+    not_spelled("C, which is letter 1", boundary, POINTS('C'), 23);
+}
+
+/* What is spelled is a word that analysis takes. */
+static void spelled_and_read(void)
+{
+    uint8_t row[2 * HEADWORDS_ROW_BYTES], letters[32] = {0};
+    struct bytes word = {letters, sizeof letters}, points = POINTS('L', 'U', 'C', 'E', 'S');
+    put_row(row, BYTES(0, 0, 3, 0), BYTES(3, 5, 6, 0, 2, 4));
+    put_row(row + HEADWORDS_ROW_BYTES, BYTES(1, 0, 3, 0), BYTES(3, 5, 1, 0, 2, 4));
+    called = "LUCES, to be analysed";
+    answered(headwords_spell(luz.at, luz.length, points.at, points.length, letters, sizeof letters), 4 * 5 + 1);
+    analyse("LUCES as it is spelled", luz, first(5, word), MOST, 9, (struct bytes){row, sizeof row});
+    points = POINTS('L', 'U', 'Z');
+    called = "LUZ, to be analysed";
+    answered(headwords_spell(luz.at, luz.length, points.at, points.length, letters, sizeof letters), 4 * 3 + 1);
+    analyse("LUZ as it is spelled, with Z on the surface", luz, first(3, word), MOST, 0, nothing);
+}
+
 /* Every call on an image that is refused with k, once with what it would take and once with what it would refuse. */
 static void refused_image(const char *what, struct bytes image, unsigned k)
 {
@@ -116,6 +297,9 @@ static void refused_image(const char *what, struct bytes image, unsigned k)
     judge(what, image, nothing, nothing, refused(k));
     form(what, image, 0, 12, refused(k), nothing);
     form(what, image, 4, 0, refused(k), nothing);
+    spell(what, image, POINTS('l', 'u', 'z'), 3, refused(k), nothing);
+    spell(what, image, BYTES('l'), 0, refused(k), nothing);
+    spell(what, image, POINTS('l', '#'), 0, refused(k), nothing);
 }
 
 static void images(void)
@@ -244,7 +428,7 @@ int main(int argc, char **argv)
         fclose(file);
     }
     make_room(IMAGE, 66048);
-    make_room(GIVEN, 300);
+    make_room(GIVEN, 600);
     make_room(PAIRING, 300);
     make_room(OUT, MOST);
     watch();
@@ -252,6 +436,10 @@ int main(int argc, char **argv)
     paths();
     judgements();
     forms();
+    spellings();
+    spelling_lengths();
+    folds();
+    spelled_and_read();
     images();
     unspelled();
     dead_front();
