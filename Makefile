@@ -3,7 +3,7 @@
 
 run:
 	@tools/need rt cargo cc
-	@tools/prove lines check_image
+	@tools/prove lines check_image headwords
 	@examples/read grammars/spanish.txt luz luces luzes rey reyes
 
 test:
