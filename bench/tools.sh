@@ -26,10 +26,14 @@ quietly() {
     }
 }
 
+# build: the library, the two programs in C that make calls, and what a run of the line program needs
 build() {
+    local program
     tools/library
     build_lines
-    quietly cc -std=c99 -O2 -Wall -Wextra -Werror -Iinclude -o "$work/listings" bench/listings.c target/staticlib/libheadwords.a
+    for program in bench/listings examples/spell; do
+        quietly cc -std=c99 -O2 -Wall -Wextra -Werror -Iinclude -o "$work/$(basename $program)" $program.c target/staticlib/libheadwords.a
+    done
 }
 
 # build_lines: what a run of the line program needs, and no library
@@ -59,6 +63,11 @@ lay_out_samples() {
     done
 }
 samples="luz quichua spanish"
+
+# spell IMAGE: the letter numbers of the words that come in, one a line, by the image
+spell() {
+    "$work/spell" "$1"
+}
 
 # print_lines FOLDER WORDS: what the line program prints for the words by the folder's image
 print_lines() {

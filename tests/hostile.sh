@@ -11,14 +11,16 @@ tools/library
 work=$(mktemp -d)
 trap 'rm -rf "$work"' EXIT
 assembler=$CARGO_TARGET_DIR/release/assemble
-cc -std=c99 -O1 -Wall -Wextra -Werror -Iinclude -o "$work/hostile" tests/hostile.c target/staticlib/libheadwords.a
+for program in tests/hostile examples/spell; do
+    cc -std=c99 -O1 -Wall -Wextra -Werror -Iinclude -o "$work/$(basename $program)" $program.c target/staticlib/libheadwords.a
+done
 cd "$work"
 
 # lay_out NAME: NAME.img, grammar.img and the word
 lay_out() {
     "$root/bench/hostile_text" "$1" >grammar.txt
     "$assembler" grammar.txt grammar.img 2>told || { cat told; exit 1; }
-    "$root/bench/hostile_text" "$1" word | "$assembler" --words grammar.txt >word
+    "$root/bench/hostile_text" "$1" word | ./spell grammar.img >word
     cp grammar.img "$1.img"
 }
 

@@ -17,7 +17,6 @@ mod sections;
 mod sets;
 mod source;
 mod warnings;
-mod words;
 
 pub use fault::{Fault, Faults};
 pub use grammar::{read_grammar, Grammar};
@@ -26,4 +25,3 @@ pub use lists::{list_entries, list_letters, list_pairs, list_sets};
 pub use place::put_in_place;
 pub use source::read_source;
 pub use warnings::warnings;
-pub use words::spell_words;

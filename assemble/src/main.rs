@@ -1,8 +1,8 @@
 //! The program `assemble`: makes an image of a grammar's text, or lists what the text numbers.
 
 use assemble::{
-    list_entries, list_letters, list_pairs, list_sets, put_in_place, read_grammar, read_source, sealed_image,
-    spell_words, warnings, Fault, Faults, Grammar,
+    list_entries, list_letters, list_pairs, list_sets, put_in_place, read_grammar, read_source, sealed_image, warnings,
+    Fault, Faults, Grammar,
 };
 use std::env;
 use std::ffi::OsString;
@@ -16,7 +16,6 @@ usage: assemble GRAMMAR IMAGE        make a sealed image of the grammar
        assemble --pairs GRAMMAR      list its pairs by number
        assemble --sets GRAMMAR       list its sets by number
        assemble --entries GRAMMAR    list its entries by number
-       assemble --words GRAMMAR      turn words, one a line, into letter numbers
 ";
 
 /// Faults told of one text; a single slip in the alphabet can give thousands.
@@ -54,7 +53,6 @@ fn run(arguments: &[OsString]) -> Result<(), Failure> {
         Some("--pairs") => list(second, list_pairs),
         Some("--sets") => list(second, list_sets),
         Some("--entries") => list(second, list_entries),
-        Some("--words") => spell(second),
         _ if is_option(first) => Err(Failure::Usage),
         _ => assemble(first, second),
     }
@@ -83,15 +81,7 @@ fn is_same_file(one: &Path, other: &Path) -> bool {
 fn list(source: &Path, listing: fn(&Grammar) -> String) -> Result<(), Failure> {
     let listing = listing(&read(source)?);
     let mut output = io::stdout().lock();
-    output.write_all(listing.as_bytes()).and_then(|()| output.flush()).map_err(stream_failed)
-}
-
-fn spell(source: &Path) -> Result<(), Failure> {
-    let grammar = read(source)?;
-    let unread = |line: usize, reason: &str| {
-        tell(&format!("standard input:{line}: unread: {reason}\n"));
-    };
-    spell_words(&grammar, io::stdin().lock(), io::stdout().lock(), unread).map_err(stream_failed)
+    output.write_all(listing.as_bytes()).and_then(|()| output.flush()).map_err(output_failed)
 }
 
 fn read(source: &Path) -> Result<Grammar, Failure> {
@@ -117,9 +107,9 @@ fn tell_fault(file: &Path, fault: &Fault) -> Failure {
 }
 
 /// A reader that has seen enough closes the pipe; that needs no words.
-fn stream_failed(error: io::Error) -> Failure {
+fn output_failed(error: io::Error) -> Failure {
     if error.kind() != ErrorKind::BrokenPipe {
-        tell(&format!("standard input or output: {error}\n"));
+        tell(&format!("standard output: {error}\n"));
     }
     Failure::Told
 }

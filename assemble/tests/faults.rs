@@ -48,7 +48,7 @@ fn refused(test: &str, text: &[u8]) -> Ran {
     let folder = scratch(test);
     fs::write(folder.join("grammar.txt"), text).unwrap();
     fs::write(folder.join("grammar.img"), IMAGE).unwrap();
-    let ran = run(&folder, &["grammar.txt", "grammar.img"], b"");
+    let ran = run(&folder, &["grammar.txt", "grammar.img"]);
     assert_eq!(fs::read(folder.join("grammar.img")).unwrap(), IMAGE, "the image from before");
     assert_eq!(names(&folder), ["grammar.img", "grammar.txt"], "nothing is left beside it");
     ran
@@ -67,7 +67,7 @@ fn the_grammar_without_a_fault_is_assembled() {
     let folder = scratch("faults-none");
     fs::write(folder.join("grammar.txt"), GRAMMAR).unwrap();
     fs::write(folder.join("grammar.img"), IMAGE).unwrap();
-    let ran = run(&folder, &["grammar.txt", "grammar.img"], b"");
+    let ran = run(&folder, &["grammar.txt", "grammar.img"]);
     assert_eq!(ran, Ran { code: Some(0), stdout: String::new(), stderr: String::new() });
     assert_eq!(fs::read(folder.join("grammar.img")).unwrap().len(), 6 * 512);
     assert_eq!(names(&folder), ["grammar.img", "grammar.txt"]);

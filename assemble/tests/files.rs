@@ -37,7 +37,7 @@ fn is_luz(image: &Path) -> bool {
 #[test]
 fn a_new_image_takes_the_place_of_the_old() {
     let folder = luz_folder("files-new");
-    let ran = run(&folder, &["luz.txt", "luz.img"], b"");
+    let ran = run(&folder, &["luz.txt", "luz.img"]);
     assert_eq!(ran, Ran { code: Some(0), stdout: String::new(), stderr: String::new() });
     assert!(is_luz(&folder.join("luz.img")));
     assert_eq!(names(&folder), ["luz.img", "luz.txt"]);
@@ -48,7 +48,7 @@ fn a_text_may_have_other_line_ends_and_a_byte_order_mark() {
     let folder = luz_folder("files-line-ends");
     let text = format!("\u{feff}{}", sample("luz").replace('\n', "\r\n"));
     fs::write(folder.join("luz.txt"), text.trim_end()).unwrap();
-    let ran = run(&folder, &["luz.txt", "luz.img"], b"");
+    let ran = run(&folder, &["luz.txt", "luz.img"]);
     assert_eq!(ran, Ran { code: Some(0), stdout: String::new(), stderr: String::new() });
     assert!(is_luz(&folder.join("luz.img")));
 }
@@ -56,8 +56,8 @@ fn a_text_may_have_other_line_ends_and_a_byte_order_mark() {
 #[test]
 fn a_missing_grammar() {
     let folder = luz_folder("files-missing");
-    fails(run(&folder, &["none.txt", "luz.img"], b""), "none.txt:0: cannot be read: ");
-    fails(run(&folder, &["--letters", "none.txt"], b""), "none.txt:0: cannot be read: ");
+    fails(run(&folder, &["none.txt", "luz.img"]), "none.txt:0: cannot be read: ");
+    fails(run(&folder, &["--letters", "none.txt"]), "none.txt:0: cannot be read: ");
     image_stays(&folder, &[]);
 }
 
@@ -65,7 +65,7 @@ fn a_missing_grammar() {
 fn a_folder_in_place_of_a_grammar() {
     let folder = luz_folder("files-folder");
     fs::create_dir(folder.join("inner")).unwrap();
-    fails(run(&folder, &["inner", "luz.img"], b""), "inner:0: cannot be read: ");
+    fails(run(&folder, &["inner", "luz.img"]), "inner:0: cannot be read: ");
     image_stays(&folder, &["inner"]);
 }
 
@@ -74,7 +74,7 @@ fn a_grammar_over_the_length_that_is_read() {
     let folder = luz_folder("files-long");
     let long = File::create(folder.join("long.txt")).unwrap();
     long.set_len(16 * 1024 * 1024 + 1).unwrap();
-    fails(run(&folder, &["long.txt", "luz.img"], b""), "long.txt:0: over 16777216 bytes, too long for a grammar");
+    fails(run(&folder, &["long.txt", "luz.img"]), "long.txt:0: over 16777216 bytes, too long for a grammar");
     image_stays(&folder, &["long.txt"]);
 }
 
@@ -84,11 +84,11 @@ fn a_faulty_grammar_lists_and_writes_nothing() {
     let folder = luz_folder("files-faulty");
     for slip in ["luk  Number", "luz  Number"] {
         fs::write(folder.join("faulty.txt"), sample("luz").replace("luc  Number", slip)).unwrap();
-        for option in ["--letters", "--pairs", "--sets", "--entries", "--words"] {
-            fails(run(&folder, &[option, "faulty.txt"], b"luz\n"), "faulty.txt:");
+        for option in ["--letters", "--pairs", "--sets", "--entries"] {
+            fails(run(&folder, &[option, "faulty.txt"]), "faulty.txt:");
         }
         for image in ["luz.img", "new.img"] {
-            fails(run(&folder, &["faulty.txt", image], b""), "faulty.txt:");
+            fails(run(&folder, &["faulty.txt", image]), "faulty.txt:");
         }
         image_stays(&folder, &["faulty.txt"]);
     }
@@ -98,9 +98,9 @@ fn a_faulty_grammar_lists_and_writes_nothing() {
 fn a_folder_in_place_of_an_image() {
     let folder = luz_folder("files-image-folder");
     fs::create_dir(folder.join("inner")).unwrap();
-    fails(run(&folder, &["luz.txt", "inner"], b""), "inner:0: cannot be written: not a file");
-    fails(run(&folder, &["luz.txt", "none/luz.img"], b""), "none/luz.img:0: cannot be written: ");
-    fails(run(&folder, &["luz.txt", ""], b""), ":0: cannot be written: ");
+    fails(run(&folder, &["luz.txt", "inner"]), "inner:0: cannot be written: not a file");
+    fails(run(&folder, &["luz.txt", "none/luz.img"]), "none/luz.img:0: cannot be written: ");
+    fails(run(&folder, &["luz.txt", ""]), ":0: cannot be written: ");
     image_stays(&folder, &["inner"]);
     assert_eq!(names(&folder.join("inner")), [""; 0]);
 }
@@ -108,7 +108,7 @@ fn a_folder_in_place_of_an_image() {
 #[test]
 fn the_grammar_itself_in_place_of_an_image() {
     let folder = luz_folder("files-itself");
-    fails(run(&folder, &["luz.txt", "./luz.txt"], b""), "./luz.txt:0: is the grammar's own text");
+    fails(run(&folder, &["luz.txt", "./luz.txt"]), "./luz.txt:0: is the grammar's own text");
     assert_eq!(fs::read_to_string(folder.join("luz.txt")).unwrap(), sample("luz"));
     image_stays(&folder, &[]);
 }
@@ -125,7 +125,7 @@ mod unix {
     fn a_pipe_in_place_of_an_image() {
         let folder = luz_folder("files-pipe");
         assert!(Command::new("mkfifo").arg(folder.join("pipe")).status().unwrap().success());
-        fails(run(&folder, &["luz.txt", "pipe"], b""), "pipe:0: cannot be written: not a file");
+        fails(run(&folder, &["luz.txt", "pipe"]), "pipe:0: cannot be written: not a file");
         assert!(fs::metadata(folder.join("pipe")).unwrap().file_type().is_fifo());
         image_stays(&folder, &["pipe"]);
     }
@@ -134,7 +134,7 @@ mod unix {
     fn a_link_to_an_image_stays_a_link() {
         let folder = luz_folder("files-link");
         symlink("luz.img", folder.join("link.img")).unwrap();
-        let ran = run(&folder, &["luz.txt", "link.img"], b"");
+        let ran = run(&folder, &["luz.txt", "link.img"]);
         assert_eq!(ran, Ran { code: Some(0), stdout: String::new(), stderr: String::new() });
         assert!(fs::symlink_metadata(folder.join("link.img")).unwrap().is_symlink());
         assert!(is_luz(&folder.join("luz.img")));
@@ -147,19 +147,17 @@ mod unix {
         let mut shell = Command::new("sh");
         let script = "trap '' XFSZ; ulimit -f 1; exec \"$0\" luz.txt luz.img";
         shell.args(["-c", script, env!("CARGO_BIN_EXE_assemble")]);
-        fails(run_command(&folder, shell, b""), "luz.img:0: cannot be written: ");
+        fails(run_command(&folder, shell), "luz.img:0: cannot be written: ");
         image_stays(&folder, &[]);
     }
 
     #[test]
     fn a_list_that_cannot_be_written() {
         let folder = luz_folder("files-full");
-        for option in ["--letters", "--words"] {
-            let mut shell = Command::new("sh");
-            let script = format!("trap '' XFSZ; ulimit -f 0; exec \"$0\" {option} luz.txt > list");
-            shell.args(["-c", &script, env!("CARGO_BIN_EXE_assemble")]);
-            fails(run_command(&folder, shell, b"luz\n"), "standard input or output: ");
-        }
+        let mut shell = Command::new("sh");
+        let script = "trap '' XFSZ; ulimit -f 0; exec \"$0\" --letters luz.txt > list";
+        shell.args(["-c", script, env!("CARGO_BIN_EXE_assemble")]);
+        fails(run_command(&folder, shell), "standard output: ");
     }
 }
 
@@ -177,7 +175,7 @@ fn wrong_usage() {
         &["--help"],
     ];
     for arguments in wrong {
-        let ran = run(&folder, arguments, b"");
+        let ran = run(&folder, arguments);
         assert_eq!((ran.code, ran.stdout.as_str()), (Some(2), ""), "{arguments:?}");
         assert!(ran.stderr.starts_with("usage: assemble GRAMMAR IMAGE "), "{arguments:?}");
     }

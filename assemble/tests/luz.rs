@@ -41,7 +41,7 @@ fn expected() -> Vec<u8> {
 #[test]
 fn the_image_of_luz_is_as_written_by_hand() {
     let folder = scratch("luz");
-    let ran = run(&folder, &[sample_path("luz").as_os_str(), "luz.img".as_ref()], b"");
+    let ran = run(&folder, &[sample_path("luz").as_os_str(), "luz.img".as_ref()]);
     assert_eq!((ran.code, ran.stdout.as_str(), ran.stderr.as_str()), (Some(0), "", ""));
     let image = std::fs::read(folder.join("luz.img")).unwrap();
     assert_eq!(image.len(), 6 * 512);

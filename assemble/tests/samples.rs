@@ -6,7 +6,7 @@ use support::check::{counts, entries, lexicon_counts, pairs, refusal, sets};
 use support::{anywhere, assembled, run, sample, sample_path, scratch, SAMPLES};
 
 fn list(option: &str, sample: &str) -> Vec<Vec<String>> {
-    let ran = run(anywhere(), &[option.as_ref(), sample_path(sample).as_os_str()], b"");
+    let ran = run(anywhere(), &[option.as_ref(), sample_path(sample).as_os_str()]);
     assert_eq!((ran.code, ran.stderr.as_str()), (Some(0), ""), "{option} {sample}");
     ran.stdout.lines().map(|line| line.split('\t').map(str::to_string).collect()).collect()
 }
@@ -19,7 +19,7 @@ fn image_of(name: &str) -> Vec<u8> {
 fn every_sample_is_accepted() {
     let folder = scratch("samples");
     for sample in SAMPLES {
-        let ran = run(&folder, &[sample_path(sample).as_os_str(), sample.as_ref()], b"");
+        let ran = run(&folder, &[sample_path(sample).as_os_str(), sample.as_ref()]);
         assert_eq!((ran.code, ran.stdout.as_str(), ran.stderr.as_str()), (Some(0), "", ""), "{sample}");
         let image = std::fs::read(folder.join(sample)).unwrap();
         assert_eq!(refusal(&image), None, "{sample}");

@@ -23,7 +23,7 @@ fn a_rule_that_fails_at_the_front_is_told_and_the_image_is_made() {
     let folder = scratch("warnings-front");
     let text = with_row_one("3 2 1 1 0");
     fs::write(folder.join("luz.txt"), &text).unwrap();
-    let ran = run(&folder, &["luz.txt", "luz.img"], b"");
+    let ran = run(&folder, &["luz.txt", "luz.img"]);
     let line = 1 + text.lines().position(|line| line.ends_with("3 2 1 1 0")).unwrap();
     let words = "rule \"Z becomes c before +e\" goes from state 1 to 0 by #:#, which comes first in every word: no word has a reading";
     assert_eq!(ran.stderr, format!("luz.txt:{line}: warning: {words}\n"));
@@ -75,7 +75,7 @@ fn a_circle_of_empty_entries_is_told_and_the_image_is_made() {
     let folder = scratch("warnings-circle");
     let text = with_lexicons("LEXICON A\nluc #\n0 A\n");
     fs::write(folder.join("luz.txt"), &text).unwrap();
-    let ran = run(&folder, &["luz.txt", "luz.img"], b"");
+    let ran = run(&folder, &["luz.txt", "luz.img"]);
     let line = text.lines().count() - 1;
     let words = "lexicon A leads back to itself by empty forms alone: a path may go round without a letter";
     assert_eq!(ran.stderr, format!("luz.txt:{line}: warning: {words}\n"));

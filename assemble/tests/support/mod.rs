@@ -8,7 +8,6 @@ pub mod check;
 use assemble::{read_grammar, sealed_image, Fault};
 use std::ffi::OsStr;
 use std::fs;
-use std::io::Write;
 use std::path::{Path, PathBuf};
 use std::process::{Command, Stdio};
 
@@ -71,18 +70,14 @@ pub struct Ran {
 }
 
 /// Runs the program in a folder.
-pub fn run(folder: &Path, arguments: &[impl AsRef<OsStr>], input: &[u8]) -> Ran {
+pub fn run(folder: &Path, arguments: &[impl AsRef<OsStr>]) -> Ran {
     let mut command = Command::new(env!("CARGO_BIN_EXE_assemble"));
     command.args(arguments);
-    run_command(folder, command, input)
+    run_command(folder, command)
 }
 
-pub fn run_command(folder: &Path, mut command: Command, input: &[u8]) -> Ran {
-    command.current_dir(folder).stdin(Stdio::piped()).stdout(Stdio::piped()).stderr(Stdio::piped());
-    let mut child = command.spawn().unwrap();
-    // A program that stops early closes its input; its output tells how it went.
-    let _ = child.stdin.take().unwrap().write_all(input);
-    let output = child.wait_with_output().unwrap();
+pub fn run_command(folder: &Path, mut command: Command) -> Ran {
+    let output = command.current_dir(folder).stdin(Stdio::null()).output().unwrap();
     Ran {
         code: output.status.code(),
         stdout: String::from_utf8(output.stdout).unwrap(),
