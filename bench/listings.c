@@ -3,6 +3,8 @@
  *   read        each line of WORDS, letter numbers split by single spaces, becomes letter bytes, and these are summed
  *   check       the same, and one image check, which is counted as "all" where it accepts
  *   analyse     the same as read, and each word is analysed into 64 lent rows
+ *   points      the same as read, and each word becomes the code points of its letters, as capitals where they have one
+ *   spell       the same as points, and each word's code points are spelled; what counts as rows are letters
  *   paths       collects 200 paths from the rows of the words' readings, and sums their bytes
  *   generate    the same as paths, and each path is generated from, into 64 lent rows
  *   time-words  words a second reading only, and analysing
@@ -30,6 +32,9 @@ static struct {
     uint8_t bytes[32];
     size_t length;
 } paths[PATHS];
+
+/* The code point of each letter number as a capital, two bytes; as it is where there is none, or that is a letter too. */
+static uint8_t capitals[256][2];
 
 /* What one pass saw. The sum keeps the compiler from leaving the reading out. */
 struct tally {
@@ -83,6 +88,34 @@ static size_t read_word(const char **at, uint8_t *letters)
     return n;
 }
 
+static unsigned point_of(unsigned letter)
+{
+    const uint8_t *record = image + 512 + 4 + 2 * (letter - 1);
+    return record[0] + 256u * record[1];
+}
+
+static int has_letter(unsigned letters, unsigned point)
+{
+    for (unsigned letter = 1; letter <= letters; letter++)
+        if (point_of(letter) == point)
+            return 1;
+    return 0;
+}
+
+/* The capitals of a to z and of the letters with accents up to U+00FE will do: the call folds by a table, whatever it folds. */
+static void collect_capitals(void)
+{
+    unsigned letters = headwords_check(image, image_length) == 1 ? image[6] : 0;
+    for (unsigned letter = 1; letter <= letters; letter++) {
+        unsigned point = point_of(letter);
+        int has_capital = (point >= 'a' && point <= 'z') || (point >= 0xE0 && point <= 0xFE && point != 0xF7);
+        if (has_capital && !has_letter(letters, point - 32))
+            point -= 32;
+        capitals[letter][0] = (uint8_t)(point % 256);
+        capitals[letter][1] = (uint8_t)(point / 256);
+    }
+}
+
 static void see(struct tally *tally, const uint8_t *bytes, size_t n)
 {
     tally->things++;
@@ -97,7 +130,8 @@ static void count(struct tally *tally, uint64_t reply)
         tally->rows += reply / 4;
 }
 
-/* A pass is one of the five below. Two are plain: they read words, or paths. The others do the same and make calls. */
+/* A pass is one of the seven below. Three are plain: they read words, their code points, or paths. The others do the same and
+ * make calls. */
 typedef void pass(struct tally *);
 
 static void read_words(struct tally *tally)
@@ -122,6 +156,34 @@ static void analyse_words(struct tally *tally)
         size_t n = read_word(&at, letters);
         see(tally, letters, n);
         count(tally, headwords_analyse(image, image_length, letters, n, rows, sizeof rows));
+    }
+}
+
+static size_t read_points(const char **at, uint8_t *points)
+{
+    uint8_t letters[MOST_LETTERS];
+    size_t n = read_word(at, letters);
+    for (size_t i = 0; i < n; i++)
+        memcpy(points + 2 * i, capitals[letters[i]], 2);
+    return 2 * n;
+}
+
+static void read_capitals(struct tally *tally)
+{
+    uint8_t points[2 * MOST_LETTERS];
+    for (const char *at = text; *at != '\0';) {
+        size_t length = read_points(&at, points);
+        see(tally, points, length);
+    }
+}
+
+static void spell_capitals(struct tally *tally)
+{
+    uint8_t points[2 * MOST_LETTERS], letters[32];
+    for (const char *at = text; *at != '\0';) {
+        size_t length = read_points(&at, points);
+        see(tally, points, length);
+        count(tally, headwords_spell(image, image_length, points, length, letters, sizeof letters));
     }
 }
 
@@ -187,6 +249,13 @@ static void print_checked(struct tally tally)
     print_tally("words", tally);
     if (tally.replies[HEADWORDS_REFUSED] > 0)
         fail("is refused", "image");
+}
+
+static void print_spelled(struct tally tally)
+{
+    print_tally("words", tally);
+    if (tally.replies[HEADWORDS_REFUSED] > 0)
+        fail("a word's capitals are not spelled", "words");
 }
 
 /* Each path is that of a reading, so generation has to list at least that one. */
@@ -282,6 +351,12 @@ static int run(const char *mode, unsigned long told)
         print_checked(repeat(read_and_check, repeats));
     } else if (strcmp(mode, "analyse") == 0) {
         print_tally("words", repeat(analyse_words, repeats));
+    } else if (strcmp(mode, "points") == 0) {
+        collect_capitals();
+        print_tally("words", repeat(read_capitals, repeats));
+    } else if (strcmp(mode, "spell") == 0) {
+        collect_capitals();
+        print_spelled(repeat(spell_capitals, repeats));
     } else if (strcmp(mode, "paths") == 0) {
         collect_paths();
         print_tally("paths", repeat(read_paths, repeats));
@@ -314,6 +389,6 @@ int main(int argc, char **argv)
         if (run(argv[1], told))
             return EXIT_SUCCESS;
     }
-    fprintf(stderr, "usage: listings read|check|analyse|paths|generate|time-words|time-paths IMAGE WORDS [REPEATS]\n");
+    fprintf(stderr, "usage: listings read|check|analyse|points|spell|paths|generate|time-words|time-paths IMAGE WORDS [REPEATS]\n");
     return 2;
 }
