@@ -10,7 +10,9 @@ tools/prove lines
 tools/library
 work=$(mktemp -d)
 trap 'rm -rf "$work"' EXIT
-cc -std=c99 -O1 -Wall -Wextra -Werror -Iinclude -o "$work/spell" examples/spell.c target/staticlib/libheadwords.a
+for program in examples/spell tests/changed; do
+    cc -std=c99 -O1 -Wall -Wextra -Werror -Iinclude -o "$work/$(basename $program)" $program.c target/staticlib/libheadwords.a
+done
 cc -shared -fPIC -O1 -Wall -Wextra -Werror -o "$work/failing.so" tests/failing_read.c
 cd "$work"
 assembler=$CARGO_TARGET_DIR/release/assemble
@@ -64,6 +66,8 @@ standard input:6: unread: U+FFFF $stray
 standard input:7: unread: \0360\0220\0200\0200 (U+10000) $stray
 standard input:8: unread: \0364\0217\0277\0277 (U+10FFFF) $stray
 "
+# above U+FFFF there is no letter, though the lower bytes of this one are l
+gives 'lu\0360\0220\0201\0254' '?\n' "standard input:1: unread: \0360\0220\0201\0254 (U+1006C) $stray\n"
 # bytes that begin nothing, that lack one before them or after them, characters that are written too long, surrogates, and what lies above U+10FFFF; a line
 # end is one even where a byte was due
 for bytes in '\0377' '\0376' '\0200' '\0277' '\0303' '\0303l' '\0303\0303' '\0342\0202' '\0342\0202l' '\0360\0237\0230' '\0360\0237\0230l' \
@@ -114,6 +118,12 @@ done
 printf 'ÁÉÍÓÚÜÑ\náéíóúüñ\nÀÈÌÒÙ\nABCDEFGHIJKLMNOPQRSTUVWXYZ\n' | ./spell spanish.img | diff - <(printf '%s\n' '30 31 32 33 34 35 17' '30 31 32 33 34 35 17' '36 37 38 39 40' \
     '3 4 5 6 7 8 9 10 11 12 13 14 15 16 18 19 42 21 22 23 24 25 26 27 28 41')
 echo "letters of the samples: by their characters, and by capitals that are no letters themselves"
+
+# an image may have the blank for a letter, though no text can: inside a word it is one, around the word it is dropped
+cp luz.img blank.img
+echo 518 32 | ./changed blank.img
+[ "$(printf ' L  uz \r\n l' | ./spell blank.img | tr '\n' ,)" = "5 2 2 7 8,5," ]
+echo "a blank that is a letter: spelled inside a word"
 
 # ends STATUS WORDS COMMAND...: whether it prints nothing, tells the words, and ends with that status
 ends() {
