@@ -38,8 +38,8 @@
  *   13  pairing length 0 or over 40, or no such pair
  *   23  a code point with no letter, or with letter 1
  *   24  an output shorter than the word
- * A call makes those that its declaration below names, in the order in which it names them, each over the whole image, word
- * or path before the next; the first that fails is the one told. A refused call writes nothing.
+ * A call makes those that its declaration below names, in the order in which it names them, each over the whole image, word,
+ * path or pairing before the next; the first that fails is the one told. A refused call writes nothing.
  *
  * What a call can cost at worst: every call ends, and all but the two listings within a few milliseconds. A listing goes
  * through the ways in which entries and pairs may follow each other. Where that turns out long, it remembers the dead ends
@@ -77,9 +77,9 @@ uint64_t headwords_analyse(const uint8_t *image, size_t image_length, const uint
 /* The letters of a word as it is written, which is given as code points, two bytes each, the low byte first.
  *   4n + 1  the word has n letters, 1 to 32, and they are in letters[0] to letters[n - 1]; no byte past them changes
  *   4k + 3  refused (1 to 8, 14, 9, 23 or 24); nothing is written
- * A code point of the grammar's alphabet gives its own letter and is never folded. Another is folded, and the alphabet has to
- * have what comes of it: 0 to 383 by Unicode's simple lower-case mapping, so that U+00C9 becomes U+00E9, U+0130 becomes 105
- * and U+0178 becomes 255; above 383 nothing is folded. An accent with a code point of its own is one more code point.
+ * A code point of the grammar's alphabet gives its own letter and is never folded. Another is folded first and then looked
+ * up: 0 to 383 by Unicode's simple lower-case mapping, so that U+00C9 becomes U+00E9, U+0130 becomes 105 and U+0178 becomes
+ * 255; above 383 nothing is folded. An accent with a code point of its own is not joined with the letter before it.
  *
  * By luz, whose letters from 1 on are # + c e l s u z Z, LUCES and Luces spell luces, and Luz spells luz:
  *

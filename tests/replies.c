@@ -157,6 +157,12 @@ static void spellings(void)
         else
             spelled("a code point alone", POINTS(point), BYTES((uint8_t)letters[at - known]));
     }
+    /* nor does any of the rest: too many to compare the pages around each */
+    called = "a code point far above the table";
+    for (unsigned point = 400; point < 65536; point++) {
+        uint8_t letter, bytes[] = {(uint8_t)(point % 256), (uint8_t)(point / 256)};
+        answered(headwords_spell(luz.at, luz.length, bytes, sizeof bytes, &letter, 1), refused(23));
+    }
 }
 
 /* 9 before all that is wrong with a code point or with the room. */
