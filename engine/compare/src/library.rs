@@ -39,6 +39,14 @@ extern "C" {
         letters: *mut u8,
         letters_length: usize,
     ) -> u64;
+    fn headwords_spell(
+        image: *const u8,
+        image_length: usize,
+        points: *const u8,
+        points_length: usize,
+        letters: *mut u8,
+        letters_length: usize,
+    ) -> u64;
 }
 
 // Each range is owned by a Lent of its own, so none overlaps another and all outlive the call.
@@ -100,6 +108,20 @@ pub fn form(image: &Lent, entry: EntryNumber, letters: &mut Lent) -> u64 {
             image.start(),
             image.length(),
             entry,
+            letters.start_mut(),
+            room,
+        )
+    }
+}
+
+pub fn spell(image: &Lent, points: &Lent, letters: &mut Lent) -> u64 {
+    let room = letters.length();
+    unsafe {
+        headwords_spell(
+            image.start(),
+            image.length(),
+            points.start(),
+            points.length(),
             letters.start_mut(),
             room,
         )

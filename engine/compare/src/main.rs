@@ -2,12 +2,14 @@
 
 mod lent;
 mod library;
+mod spelled;
 mod tally;
 mod touched;
 
 use draw::damage::{damaged, damaged_often, Damaged};
 use draw::grammars::{self, Many};
 use draw::inputs::{any_room, any_word, entry, room, Pool};
+use draw::points::{any_points, folding_trials, letters_room, point_bytes, points_given};
 use draw::prng::Prng;
 use lent::Lent;
 use other_engine::calls::{self, Known};
@@ -52,15 +54,11 @@ fn main() {
         eprintln!("{USAGE}");
         exit(2);
     }
-    let mut run = Run {
-        prng: Prng::new(seed),
-        tally: Tally::default(),
-        seed,
-        calls: 0,
-        most: calls,
-        skipped: 0,
-    };
     touched::watch();
+    let mut folding = Run::new(seed, "folding call", u64::MAX);
+    folding.folding();
+    // A run of its own, so that what the trials of the folding met is not taken for something drawn.
+    let mut run = Run::new(seed, "call", calls);
     run.many_readings();
     // Late entries are seldom listed, so a run begins with grammars that have them.
     let first: [fn(&mut Prng) -> Draft; 4] = [
@@ -78,7 +76,8 @@ fn main() {
         run.grammar(&draft);
     }
     println!(
-        "seed {seed} calls {} skipped {}{}",
+        "seed {seed} folding calls {} calls {} skipped {}{}",
+        folding.calls,
         run.calls,
         run.skipped,
         run.tally.line()
@@ -99,6 +98,8 @@ struct Run {
     prng: Prng,
     tally: Tally,
     seed: u64,
+    /// What its calls are named.
+    part: &'static str,
     calls: u64,
     most: u64,
     skipped: u64,
@@ -123,6 +124,18 @@ struct Outcome<'a> {
 }
 
 impl Run {
+    fn new(seed: u64, part: &'static str, most: u64) -> Run {
+        Run {
+            prng: Prng::new(seed),
+            tally: Tally::default(),
+            seed,
+            part,
+            calls: 0,
+            most,
+            skipped: 0,
+        }
+    }
+
     fn over(&self) -> bool {
         self.calls >= self.most
     }
@@ -135,7 +148,17 @@ impl Run {
 
     /// Notes the call that is about to be made.
     fn under_way(&self, kind: Kind) {
-        touched::under_way(self.seed, self.calls + 1, kind);
+        touched::under_way(self.seed, self.part, self.calls + 1, kind);
+    }
+
+    /// Every code point alone, over alphabets by which each place of the folding tells.
+    fn folding(&mut self) {
+        for trial in folding_trials() {
+            let image = self.image(trial.draft.image());
+            for point in trial.points {
+                self.spelled(&image, &point_bytes(&[point]), 1);
+            }
+        }
     }
 
     /// A word and a path with more readings than two bytes count, in buffers of about 65,536 rows and of about all.
@@ -215,9 +238,9 @@ impl Run {
             return;
         }
         let weights = if image.known.is_ok() {
-            [44, 24, 2, 4, 20, 6]
+            [42, 22, 2, 4, 19, 5, 9]
         } else {
-            [20, 20, 20, 5, 18, 17]
+            [18, 18, 18, 5, 16, 15, 10]
         };
         match self.prng.weighted(&weights) {
             0 => self.analyse(image, pool),
@@ -225,7 +248,8 @@ impl Run {
             2 => self.check(image),
             3 => self.seal(image),
             4 => self.judge(image, pool),
-            _ => self.form(image),
+            5 => self.form(image),
+            _ => self.spell(image),
         }
     }
 
@@ -438,6 +462,46 @@ impl Run {
         });
     }
 
+    /// Calls spelling with code points that are mostly letters, or capitals of letters, and one or two outputs.
+    fn spell(&mut self, image: &Image) {
+        let Ok(grammar) = &image.known else {
+            let points = any_points(&mut self.prng);
+            let room = letters_room(&mut self.prng, points.len() / 2);
+            return self.spelled(image, &points, room);
+        };
+        let points = points_given(&mut self.prng, grammar);
+        for _ in 0..self.prng.between(1, 2) {
+            if self.over() {
+                return;
+            }
+            let room = letters_room(&mut self.prng, points.len() / 2);
+            self.spelled(image, &points, room);
+            self.tally.count_spelling(grammar, &points, room);
+        }
+    }
+
+    /// One spelling into so many bytes.
+    fn spelled(&mut self, image: &Image, points: &[u8], room: usize) {
+        let before = self.prng.bytes(room);
+        let mut expected = before.clone();
+        let reply = calls::spell_reply(&image.known, points, &mut expected);
+        let lent = Lent::new(&mut self.prng, points);
+        let mut letters = Lent::new(&mut self.prng, &before);
+        self.under_way(Kind::Spell);
+        let got = library::spell(&image.lent, &lent, &mut letters);
+        self.compared(Outcome {
+            kind: Kind::Spell,
+            given: &[("image", &image.bytes), ("points", points)],
+            entry: None,
+            reply: (reply, got),
+            written: Some(("letters", &before, &expected, &letters)),
+            kept: &[
+                ("image", &image.bytes, &image.lent),
+                ("points", points, &lent),
+            ],
+        });
+    }
+
     /// Counts a call whose outcome is the same on both sides, and ends the run at any other.
     fn compared(&mut self, outcome: Outcome) {
         self.calls += 1;
@@ -466,8 +530,9 @@ impl Run {
             return;
         }
         println!(
-            "seed {} call {} {}: {}",
+            "seed {} {} {} {}: {}",
             self.seed,
+            self.part,
             self.calls,
             outcome.kind.name(),
             faults.join("; ")

@@ -1,5 +1,6 @@
 //! Replies are counted by kind of call, so that a run shows what it has met and what it has not.
 
+use crate::spelled;
 use other_engine::grammar::{set_named, Grammar, BOUNDARY, NULL};
 use other_engine::Reading;
 use std::fmt::Write;
@@ -13,15 +14,17 @@ pub enum Kind {
     Seal,
     Judge,
     Form,
+    Spell,
 }
 
-const KINDS: [(Kind, &str); 6] = [
+const KINDS: [(Kind, &str); 7] = [
     (Kind::Analyse, "analyse"),
     (Kind::Generate, "generate"),
     (Kind::Check, "check"),
     (Kind::Seal, "seal"),
     (Kind::Judge, "judge"),
     (Kind::Form, "form"),
+    (Kind::Spell, "spell"),
 ];
 
 impl Kind {
@@ -38,6 +41,7 @@ impl Kind {
             Kind::Seal => [None, Some("sealed"), None],
             Kind::Judge => [Some("fails"), Some("holds"), None],
             Kind::Form => [None, Some("letters"), Some("short")],
+            Kind::Spell => [None, Some("spelled"), None],
         }
     }
 
@@ -48,6 +52,7 @@ impl Kind {
             Kind::Generate => &[11, 12],
             Kind::Judge => &[11, 12, 13],
             Kind::Form => &[12],
+            Kind::Spell => &[9, 23, 24],
             Kind::Check => &[],
             Kind::Seal => return vec![1],
         };
@@ -91,12 +96,13 @@ fn sets_asked(grammar: &Grammar, row: &Reading) -> Vec<(usize, u8)> {
     asked
 }
 
-/// How many replies of each kind of call have been met, and how many listings by each with a row at a limit.
+/// How many replies of each kind of call have been met, how many listings by each with a row at a limit, and how many spellings of each sort.
 #[derive(Default)]
 pub struct Tally {
-    replies: [[u64; 3]; 6],
-    refusals: [[u64; 15]; 6],
+    replies: [[u64; 3]; 7],
+    refusals: [[u64; 25]; 7],
     limits: [[u64; 13]; 2],
+    spellings: [u64; spelled::SORTS.len()],
 }
 
 impl Tally {
@@ -151,6 +157,14 @@ impl Tally {
         }
     }
 
+    /// Counts the sorts that a spelling is of, by an accepted image, into so many bytes.
+    pub fn count_spelling(&mut self, grammar: &Grammar, points: &[u8], room: usize) {
+        let sorts = spelled::sorts(grammar, points, room);
+        for (count, sort) in self.spellings.iter_mut().zip(sorts) {
+            *count += u64::from(sort);
+        }
+    }
+
     /// All calls of a kind.
     fn calls(&self, kind: Kind) -> u64 {
         let k = kind as usize;
@@ -178,6 +192,10 @@ impl Tally {
                 let _ = write!(line, " {limit}: {count}");
             }
         }
+        line.push_str("; spellings with");
+        for (sort, count) in spelled::SORTS.iter().zip(self.spellings) {
+            let _ = write!(line, " {sort}: {count}");
+        }
         line
     }
 
@@ -201,6 +219,11 @@ impl Tally {
             let counts = [analyse[place], generate[place]];
             if counts.contains(&0) && (place >= OF_EACH || counts == [0, 0]) {
                 missing.push(format!("a listing that reaches {limit}"));
+            }
+        }
+        for (sort, count) in spelled::SORTS.iter().zip(self.spellings) {
+            if count == 0 {
+                missing.push(format!("a spelling with {sort}"));
             }
         }
         missing

@@ -11,14 +11,14 @@ extern "C" {
 // As Linux has it.
 const SEGMENTATION_FAULT: i32 = 11;
 
-/// The seed, number and kind of the call under way.
-static UNDER_WAY: Mutex<Option<(u64, u64, Kind)>> = Mutex::new(None);
+/// The call under way: the seed, the part of the run, its number there and its kind.
+static UNDER_WAY: Mutex<Option<(u64, &str, u64, Kind)>> = Mutex::new(None);
 
 /// The signal comes from within a library's call, which holds no lock of this program's.
 extern "C" fn touched(_: i32) {
-    if let Some((seed, call, kind)) = UNDER_WAY.lock().ok().and_then(|call| *call) {
+    if let Some((seed, part, call, kind)) = UNDER_WAY.lock().ok().and_then(|call| *call) {
         let name = kind.name();
-        println!("seed {seed} call {call} {name}: a byte that is not lent is touched");
+        println!("seed {seed} {part} {call} {name}: a byte that is not lent is touched");
     }
     exit(1);
 }
@@ -29,8 +29,8 @@ pub fn watch() {
 }
 
 /// Notes the call that is about to be made.
-pub fn under_way(seed: u64, call: u64, kind: Kind) {
+pub fn under_way(seed: u64, part: &'static str, call: u64, kind: Kind) {
     if let Ok(mut last) = UNDER_WAY.lock() {
-        *last = Some((seed, call, kind));
+        *last = Some((seed, part, call, kind));
     }
 }

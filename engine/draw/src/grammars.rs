@@ -1,5 +1,6 @@
 //! Small grammars are drawn in several manners, each leaning on one part of the definition.
 
+use crate::points;
 use crate::prng::Prng;
 use crate::sets::{disguise, how_many, sets, MOST};
 use crate::tables::{columns, table, temper, with_columns, Stock, Temper};
@@ -29,22 +30,6 @@ pub fn grammar(prng: &mut Prng) -> Draft {
     let weights = MANNERS.map(|(weight, _)| weight);
     let (_, manner) = MANNERS[prng.weighted(&weights)];
     manner(prng)
-}
-
-/// Code points that are all unlike and none a surrogate, with those at the edges met often.
-fn code_points(prng: &mut Prng, count: usize) -> Vec<u16> {
-    let mut points: Vec<u16> = Vec::new();
-    while points.len() < count {
-        let point = match prng.below(8) {
-            0 => prng.one_of(&[1, 55_295, 57_344, 65_535]),
-            1..=5 => prng.between(33, 255) as u16,
-            _ => prng.between(1, 65_535) as u16,
-        };
-        if !(55_296..=57_343).contains(&point) && !points.contains(&point) {
-            points.push(point);
-        }
-    }
-    points
 }
 
 fn letter(prng: &mut Prng, letters: usize) -> u8 {
@@ -222,7 +207,7 @@ fn mixed(prng: &mut Prng) -> Draft {
     let lexicons = lexicons(prng, &alphabet, &spread);
     let (sets, tables) = rules(prng, letters, &pairs);
     Draft {
-        letters: code_points(prng, letters),
+        letters: points::alphabet(prng, letters),
         pairs,
         sets,
         tables,
@@ -253,7 +238,7 @@ fn twins(prng: &mut Prng) -> Draft {
     let lexicons = lexicons(prng, &alphabet, &spread);
     let (sets, tables) = rules(prng, letters, &pairs);
     Draft {
-        letters: code_points(prng, letters),
+        letters: points::alphabet(prng, letters),
         pairs,
         sets,
         tables,
@@ -293,7 +278,7 @@ fn cycles(prng: &mut Prng) -> Draft {
     }
     let (sets, tables) = rules(prng, letters, &pairs);
     Draft {
-        letters: code_points(prng, letters),
+        letters: points::alphabet(prng, letters),
         pairs,
         sets,
         tables,
@@ -383,7 +368,7 @@ fn long(prng: &mut Prng) -> Draft {
     };
     let tables = (0..rules).map(|_| table(prng, &stock, &temper)).collect();
     Draft {
-        letters: code_points(prng, 5),
+        letters: points::alphabet(prng, 5),
         pairs,
         sets,
         tables,
@@ -447,7 +432,7 @@ fn many(prng: &mut Prng) -> Draft {
     }
     let (sets, tables) = rules(prng, letters, &pairs);
     Draft {
-        letters: code_points(prng, letters),
+        letters: points::alphabet(prng, letters),
         pairs,
         sets,
         tables,
@@ -504,7 +489,7 @@ fn narrow(prng: &mut Prng) -> Draft {
         })
         .collect();
     Draft {
-        letters: code_points(prng, letters),
+        letters: points::alphabet(prng, letters),
         pairs,
         sets,
         tables,
@@ -569,7 +554,7 @@ fn tiny(prng: &mut Prng) -> Draft {
     let lexicons = lexicons(prng, &alphabet, &spread);
     let (sets, tables) = rules(prng, letters, &all);
     Draft {
-        letters: code_points(prng, letters),
+        letters: points::alphabet(prng, letters),
         pairs: all,
         sets,
         tables,
@@ -690,7 +675,7 @@ fn at_limits(prng: &mut Prng, all: bool, set_count: usize) -> Draft {
         spread[lexicon].push(entry);
     }
     Draft {
-        letters: code_points(prng, letters),
+        letters: points::alphabet(prng, letters),
         pairs,
         sets,
         tables,
@@ -756,7 +741,7 @@ pub fn many_readings(prng: &mut Prng) -> Many {
     let (y, z) = (letter(prng, letters.into()), letter(prng, letters.into()));
     Many {
         draft: Draft {
-            letters: code_points(prng, letters.into()),
+            letters: points::alphabet(prng, letters.into()),
             pairs,
             sets: Vec::new(),
             tables: Vec::new(),

@@ -1,8 +1,9 @@
-//! Everything a comparison lends is drawn from one seed: grammars, damage to their images, words, paths and pairings.
+//! Everything a comparison lends is drawn from one seed: grammars, damage to their images, words, paths, pairings and code points.
 
 pub mod damage;
 pub mod grammars;
 pub mod inputs;
+pub mod points;
 pub mod prng;
 mod set_damage;
 mod sets;

@@ -311,7 +311,7 @@ mod tests {
     fn a_layout_of_sets_is_wrong_in_every_way() {
         let mut prng = Prng::new(1);
         let mut met = [0; 7];
-        for _ in 0..200 {
+        for _ in 0..500 {
             let draft = accepted(&mut prng);
             let image = layout(&mut prng, &draft);
             assert_eq!(refusal(&image), 3);

@@ -1,6 +1,7 @@
 //! Every public call is its own tests in order and then its definition, on an image already read or refused.
 
-use crate::grammar::Grammar;
+use crate::folding::folded;
+use crate::grammar::{Grammar, BOUNDARY};
 use crate::image;
 use crate::listing::refused;
 use crate::pairings::Budget;
@@ -13,15 +14,20 @@ fn accepted(known: &Known) -> Result<&Grammar, u8> {
     known.as_ref().map_err(|&k| k)
 }
 
+/// Bytes as numbers of two bytes each.
+fn numbers(bytes: &[u8]) -> Vec<u16> {
+    bytes
+        .chunks_exact(2)
+        .map(|two| u16::from_le_bytes([two[0], two[1]]))
+        .collect()
+}
+
 /// Tests 11 and 12, in order.
 fn complete(grammar: &Grammar, path: &[u8]) -> Result<Vec<u16>, u8> {
     if path.is_empty() || path.len() > 32 || path.len() % 2 == 1 {
         return Err(11);
     }
-    let path: Vec<u16> = path
-        .chunks_exact(2)
-        .map(|two| u16::from_le_bytes([two[0], two[1]]))
-        .collect();
+    let path = numbers(path);
     if grammar.linked(&path) {
         Ok(path)
     } else {
@@ -124,6 +130,25 @@ pub fn form(known: &Known, entry: usize) -> Result<&[u8], u8> {
         .ok_or(12)
 }
 
+/// The letter of a code point: its own where the alphabet has it, and only otherwise that of what it is folded to. The boundary is no letter of a word.
+pub fn letter_spelled(grammar: &Grammar, point: u16) -> Option<u8> {
+    let own = grammar.letter(point);
+    own.or_else(|| grammar.letter(folded(point)))
+        .filter(|&letter| letter != BOUNDARY)
+}
+
+/// The word that code points spell, or the refusal.
+pub fn spell(known: &Known, points: &[u8]) -> Result<Vec<u8>, u8> {
+    let grammar = accepted(known)?;
+    if points.is_empty() || points.len() > 64 || points.len() % 2 == 1 {
+        return Err(9);
+    }
+    let letters = numbers(points)
+        .into_iter()
+        .map(|point| letter_spelled(grammar, point));
+    letters.collect::<Option<Vec<u8>>>().ok_or(23)
+}
+
 /// The reply number of the image check.
 pub fn check_reply(known: &Known) -> u64 {
     match known {
@@ -156,6 +181,18 @@ pub fn form_reply(known: &Known, entry: usize, letters: &mut [u8]) -> u64 {
             4 * form.len() as u64 + 1
         }
         Ok(form) => 4 * form.len() as u64 + 2,
+        Err(k) => refused(k),
+    }
+}
+
+/// Writes the word that code points spell to the front of the letters lent, where it fits, and replies by number.
+pub fn spell_reply(known: &Known, points: &[u8], letters: &mut [u8]) -> u64 {
+    match spell(known, points) {
+        Ok(word) if word.len() <= letters.len() => {
+            letters[..word.len()].copy_from_slice(&word);
+            4 * word.len() as u64 + 1
+        }
+        Ok(_) => refused(24),
         Err(k) => refused(k),
     }
 }

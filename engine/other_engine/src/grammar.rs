@@ -137,6 +137,12 @@ impl Grammar {
         }
     }
 
+    /// The letter with this code point, the boundary possibly, if there is one.
+    pub fn letter(&self, point: u16) -> Option<u8> {
+        let place = self.letters.iter().position(|&other| other == point)?;
+        Some(place as u8 + 1)
+    }
+
     /// Whether every rule passes a whole pairing.
     pub fn passes(&self, pairing: &[u8]) -> bool {
         self.tables.iter().all(|table| table.passes(pairing))

@@ -7,8 +7,9 @@ pub const BLOCK: usize = 512;
 
 /// The check of a block, from its bytes 0 to 509.
 pub fn block_check(block: &[u8]) -> u16 {
-    let sum: u64 = (0..510u64)
-        .map(|i| (i + 1) * u64::from(block[i as usize]))
+    let weighted = block[..510].iter().zip(1..);
+    let sum: u32 = weighted
+        .map(|(&byte, weight)| weight * u32::from(byte))
         .sum();
     ((1 + sum) % 65_521) as u16
 }

@@ -2,6 +2,7 @@
 
 pub mod calls;
 pub mod draft;
+pub mod folding;
 pub mod grammar;
 pub mod image;
 pub mod lines;
