@@ -1,13 +1,17 @@
 /* The C entry with the one fault that the environment variable FAULT names. The functions of the true library are renamed, with real_ in front.
  *
- * CALL is a function's name without headwords_, RANGE one of image, given (word or path), pairing and out.
+ * CALL is a function's name without headwords_, RANGE one of image, given (word, path or code points), pairing and out.
  * entry CALL            entry numbers of row 0 from 2,048 on are wrong
  * count CALL            n is cut to two bytes
  * after RANGE CALL      a byte after the range is read
  * before RANGE CALL     a byte before the range is read
  * past CALL             a byte after the buffer is written
+ * rest CALL             a byte of the buffer after the rows or letters is written
  * refusal CALL K        a call that is refused with K writes into its buffer, or its image where it has none
- * reading CALL          a call that is not refused writes into its image */
+ * reading CALL          a call that is not refused writes into its image
+ * fold P Q              code point P, where it is no letter, is spelled as Q
+ * early spell           a capital below 256 is folded where it is a letter too
+ * boundary spell        the boundary is taken for a letter of a word */
 #include <stdio.h>
 #include <stdlib.h>
 #include <string.h>
@@ -20,15 +24,18 @@ uint64_t real_headwords_check(const uint8_t *image, size_t image_length);
 uint64_t real_headwords_seal(uint8_t *image, size_t image_length);
 uint64_t real_headwords_judge(const uint8_t *image, size_t image_length, const uint8_t *path, size_t path_length, const uint8_t *pairing, size_t pairing_length);
 uint64_t real_headwords_form(const uint8_t *image, size_t image_length, size_t entry, uint8_t *letters, size_t letters_length);
+uint64_t real_headwords_spell(const uint8_t *image, size_t image_length, const uint8_t *points, size_t points_length, uint8_t *letters, size_t letters_length);
 
 struct range {
     const uint8_t *at;
     size_t length;
 };
 
+/* A call, with the bytes of one row or letter that it writes. */
 struct call {
     const char *name;
     struct range image, given, pairing, out;
+    size_t width;
 };
 
 static volatile uint8_t read_byte;
@@ -77,6 +84,8 @@ static uint64_t with_fault(uint64_t reply, struct call call)
     }
     if (is_fault("reading%s %s", "", call.name, 0))
         image[call.image.length - 1] ^= 1;
+    if (call.width * (reply / 4) < call.out.length && is_fault("rest%s %s", "", call.name, 0))
+        out[call.width * (reply / 4)] ^= 1;
     if (reply / 4 > 0 && is_fault("entry%s %s", "", call.name, 0))
         put_wrong_entries(out);
     if (is_fault("count%s %s", "", call.name, 0))
@@ -87,35 +96,94 @@ static uint64_t with_fault(uint64_t reply, struct call call)
 uint64_t headwords_analyse(const uint8_t *image, size_t image_length, const uint8_t *word, size_t word_length, uint8_t *rows, size_t rows_length)
 {
     uint64_t reply = real_headwords_analyse(image, image_length, word, word_length, rows, rows_length);
-    return with_fault(reply, (struct call){"analyse", {image, image_length}, {word, word_length}, {NULL, 0}, {rows, rows_length}});
+    return with_fault(reply, (struct call){"analyse", {image, image_length}, {word, word_length}, {NULL, 0}, {rows, rows_length}, HEADWORDS_ROW_BYTES});
 }
 
 uint64_t headwords_generate(const uint8_t *image, size_t image_length, const uint8_t *path, size_t path_length, uint8_t *rows, size_t rows_length)
 {
     uint64_t reply = real_headwords_generate(image, image_length, path, path_length, rows, rows_length);
-    return with_fault(reply, (struct call){"generate", {image, image_length}, {path, path_length}, {NULL, 0}, {rows, rows_length}});
+    return with_fault(reply, (struct call){"generate", {image, image_length}, {path, path_length}, {NULL, 0}, {rows, rows_length}, HEADWORDS_ROW_BYTES});
 }
 
 uint64_t headwords_check(const uint8_t *image, size_t image_length)
 {
     uint64_t reply = real_headwords_check(image, image_length);
-    return with_fault(reply, (struct call){"check", {image, image_length}, {NULL, 0}, {NULL, 0}, {NULL, 0}});
+    return with_fault(reply, (struct call){"check", {image, image_length}, {NULL, 0}, {NULL, 0}, {NULL, 0}, 0});
 }
 
 uint64_t headwords_seal(uint8_t *image, size_t image_length)
 {
     uint64_t reply = real_headwords_seal(image, image_length);
-    return with_fault(reply, (struct call){"seal", {image, image_length}, {NULL, 0}, {NULL, 0}, {NULL, 0}});
+    return with_fault(reply, (struct call){"seal", {image, image_length}, {NULL, 0}, {NULL, 0}, {NULL, 0}, 0});
 }
 
 uint64_t headwords_judge(const uint8_t *image, size_t image_length, const uint8_t *path, size_t path_length, const uint8_t *pairing, size_t pairing_length)
 {
     uint64_t reply = real_headwords_judge(image, image_length, path, path_length, pairing, pairing_length);
-    return with_fault(reply, (struct call){"judge", {image, image_length}, {path, path_length}, {pairing, pairing_length}, {NULL, 0}});
+    return with_fault(reply, (struct call){"judge", {image, image_length}, {path, path_length}, {pairing, pairing_length}, {NULL, 0}, 0});
 }
 
 uint64_t headwords_form(const uint8_t *image, size_t image_length, size_t entry, uint8_t *letters, size_t letters_length)
 {
     uint64_t reply = real_headwords_form(image, image_length, entry, letters, letters_length);
-    return with_fault(reply, (struct call){"form", {image, image_length}, {NULL, 0}, {NULL, 0}, {letters, letters_length}});
+    return with_fault(reply, (struct call){"form", {image, image_length}, {NULL, 0}, {NULL, 0}, {letters, letters_length}, 1});
+}
+
+static unsigned point_at(const uint8_t *points, size_t i)
+{
+    return points[2 * i] + 256u * points[2 * i + 1];
+}
+
+/* The letter of a code point that is in the alphabet of an accepted image, or 0. */
+static unsigned letter_of(const uint8_t *image, unsigned point)
+{
+    const uint8_t *alphabet = image + 512;
+    for (unsigned i = 0; i < alphabet[3]; i++)
+        if (point_at(alphabet + 4, i) == point)
+            return i + 1;
+    return 0;
+}
+
+/* The code point that the true call is given for one, by an accepted image. */
+static unsigned wrong_point(const uint8_t *image, unsigned point)
+{
+    unsigned from, to;
+    const char *fault = getenv("FAULT");
+    int capital = (point >= 65 && point <= 90) || (point >= 192 && point <= 222 && point != 215);
+    if (fault != NULL && sscanf(fault, "fold %u %u", &from, &to) == 2 && point == from && letter_of(image, point) == 0)
+        return to;
+    if (capital && is_fault("early%s %s", "", "spell", 0))
+        return point + 32;
+    return point;
+}
+
+/* Writes the letters of code points that are all in the alphabet, the boundary's too, and says whether they are and fit. */
+static int put_letters(const uint8_t *image, const uint8_t *points, size_t count, uint8_t *letters, size_t letters_length)
+{
+    for (size_t i = 0; i < count; i++)
+        if (letter_of(image, point_at(points, i)) == 0)
+            return 0;
+    for (size_t i = 0; i < count && count <= letters_length; i++)
+        letters[i] = (uint8_t)letter_of(image, point_at(points, i));
+    return count <= letters_length;
+}
+
+uint64_t headwords_spell(const uint8_t *image, size_t image_length, const uint8_t *points, size_t points_length, uint8_t *letters, size_t letters_length)
+{
+    uint8_t changed[64];
+    const uint8_t *given = points;
+    uint64_t reply;
+    size_t count = points_length / 2;
+    if (points_length % 2 == 0 && count <= 32 && real_headwords_check(image, image_length) == 1) {
+        for (size_t i = 0; i < count; i++) {
+            unsigned point = wrong_point(image, point_at(points, i));
+            changed[2 * i] = (uint8_t)point;
+            changed[2 * i + 1] = (uint8_t)(point / 256);
+        }
+        given = changed;
+    }
+    reply = real_headwords_spell(image, image_length, given, points_length, letters, letters_length);
+    if (reply == 4 * 23 + 3 && is_fault("boundary%s %s", "", "spell", 0) && put_letters(image, points, count, letters, letters_length))
+        reply = 4 * count + 1;
+    return with_fault(reply, (struct call){"spell", {image, image_length}, {points, points_length}, {NULL, 0}, {letters, letters_length}, 1});
 }
