@@ -42,7 +42,8 @@ echo "a line of 200 MB: unread, and the next is read"
 
 # a reader that goes away: the program ends by itself, whether the signal is taken or not
 yes '5 7 3 4 6' | "$root/target/bin/lines" 2>errors | head -n 1 >first || true
-[ "$(cat first)" = "all 2" ] && [ ! -s errors ]
+[ "$(cat first)" = "all 2" ]
+[ ! -s errors ]
 (trap '' PIPE; yes '5 7 3 4 6' 2>/dev/null | { "$root/target/bin/lines"; echo "ended with $?" >ended; } | head -n 1 >first) || true
 [ "$(cat ended)" = "ended with 0" ]
 echo "a standard output that closes: ends"
@@ -75,6 +76,7 @@ cat grammar.img grammar.img >both
 mv both grammar.img
 for after in 0 1 3072 6143 6144; do
     got=$(env LD_PRELOAD="$work/failing.so" READ_OF=grammar.img READ_FAILS_AFTER=$after "$root/target/bin/lines" <"$root/crates/lines/stdin" 2>errors | sort -u)
-    [ "$got" = "refused 1" ] && [ "$(cat errors)" = "grammar.img: Input/output error" ]
+    [ "$got" = "refused 1" ]
+    [ "$(cat errors)" = "grammar.img: Input/output error" ]
 done
 echo "an image of which a part can be read: refused 1"
