@@ -156,39 +156,34 @@ static void take_wrong_byte(void)
     line.kept = line.read;
 }
 
-/* Characters that show nothing by themselves, or move what stands around them, are told by their code points alone: controls, blanks, accents that
- * stand over the letter before, marks of direction, and what is no character at all. */
+/* Characters up to U+02FF that can be seen are shown; all others are told by their code points alone. */
 static int is_seen(uint32_t point)
 {
-    static const uint32_t unseen[][2] = {{0, 32}, {127, 160}, {0xAD, 0xAD}, {0x300, 0x36F}, {0x1680, 0x1680}, {0x2000, 0x200F}, {0x2028, 0x202F}, {0x205F, 0x206F}, {0x3000, 0x3000}, {0xFE00, 0xFE0F}, {0xFEFF, 0xFEFF}, {0xFFF0, 0xFFFF}};
-    for (size_t i = 0; i < sizeof unseen / sizeof *unseen; i++)
-        if (point >= unseen[i][0] && point <= unseen[i][1])
-            return 0;
-    return 1;
+    return (point > 32 && point < 127) || (point > 160 && point < 0x300 && point != 0xAD);
 }
 
-/* A character in UTF-8, with a 0 after it. */
+/* A character below U+0800 in UTF-8, with a 0 after it. */
 static void encode(uint32_t point, char *to)
 {
-    static const unsigned char marks[] = {0, 0xC0, 0xE0, 0xF0};
-    int more = point < 0x80 ? 0 : point < 0x800 ? 1 : point < 0x10000 ? 2 : 3;
-    *to++ = (char)(marks[more] | point >> 6 * more);
-    while (more-- > 0)
-        *to++ = (char)(0x80 | (point >> 6 * more & 63));
+    if (point >= 128)
+        *to++ = (char)(0xC0 | point >> 6);
+    *to++ = (char)(point < 128 ? point : 0x80 | (point & 63));
     *to = '\0';
 }
 
 static void tell(void)
 {
-    char character[5];
+    char character[3];
     unsigned long point = line.kept.stray;
-    encode(line.kept.stray, character);
-    if (line.kept.is == NOT_UTF8)
-        fprintf(stderr, "standard input:%llu: unread: a byte that is not UTF-8\n", line.number);
-    else if (is_seen(line.kept.stray))
-        fprintf(stderr, "standard input:%llu: unread: %s (U+%04lX) is no letter of a word\n", line.number, character, point);
-    else
-        fprintf(stderr, "standard input:%llu: unread: U+%04lX is no letter of a word\n", line.number, point);
+    fprintf(stderr, "standard input:%llu: unread: ", line.number);
+    if (line.kept.is == NOT_UTF8) {
+        fprintf(stderr, "a byte that is not UTF-8\n");
+    } else if (is_seen(line.kept.stray)) {
+        encode(line.kept.stray, character);
+        fprintf(stderr, "%s (U+%04lX) is no letter of a word\n", character, point);
+    } else {
+        fprintf(stderr, "U+%04lX is no letter of a word\n", point);
+    }
 }
 
 static void end_line(void)

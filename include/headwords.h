@@ -78,8 +78,8 @@ uint64_t headwords_analyse(const uint8_t *image, size_t image_length, const uint
  *   4n + 1  the word has n letters, 1 to 32, and they are in letters[0] to letters[n - 1]; no byte past them changes
  *   4k + 3  refused (1 to 8, 14, 9, 23 or 24); nothing is written
  * A code point of the grammar's alphabet gives its own letter and is never folded. Another is folded first and then looked
- * up: 0 to 383 by Unicode's simple lower-case mapping, so that U+00C9 becomes U+00E9, U+0130 becomes 105 and U+0178 becomes
- * 255; above 383 nothing is folded. An accent with a code point of its own is not joined with the letter before it.
+ * up: 0 to 383 by Unicode's simple lower-case mapping, so that U+00C9 becomes U+00E9, U+0130 becomes U+0069 and U+0178
+ * becomes U+00FF; above 383 nothing is folded. An accent with a code point of its own is not joined with the letter before it.
  *
  * By luz, whose letters from 1 on are # + c e l s u z Z, LUCES and Luces spell luces, and Luz spells luz:
  *
@@ -87,8 +87,9 @@ uint64_t headwords_analyse(const uint8_t *image, size_t image_length, const uint
  *     uint8_t word[32];
  *     headwords_spell(image, image_length, points, sizeof points, word, sizeof word); // 4 * 3 + 1, and word has 5 7 8
  *
- * Z is a letter there, and keeps its place: luZ spells luZ, and so does LUZ, which as a written word has no reading. Whoever
- * wants LUZ read as luz lowers such words before the call, or gives the grammar another letter than a capital for such a Z.
+ * Z is a letter there, and stays: luZ spells luZ, and so does LUZ, which as a written word has no reading. Whoever wants LUZ
+ * read as luz lowers such words before the call, or gives that letter of the grammar a code point that no word is written
+ * with.
  *
  * What is spelled passes tests 9 and 10, so headwords_analyse refuses it for neither. This call checks the image, whole, as
  * each does, which costs far more than the spelling. But a code point's letter depends on nothing else in the word: so for

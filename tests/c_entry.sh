@@ -1,5 +1,5 @@
 #!/usr/bin/env bash
-# The C entry: the example that README shows prints the headwords of luces, and the replies and bytes of every call are as the header says, by the luz
+# The C entry: the example that README shows prints the headwords of Luces, and the replies and bytes of every call are as the header says, by the luz
 # grammar and at the limits.
 set -eu
 cd "$(dirname "$0")/.."

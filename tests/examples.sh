@@ -1,6 +1,6 @@
 #!/usr/bin/env bash
 # The scripts examples/read and examples/check: what the first shows, through a link too, words with capitals among them, and the status of both for what is
-# right, refused or missing. examples/spell has tests/spell.sh.
+# right, refused or missing. What examples/spell prints, tests/spell.sh says.
 set -eu
 cd "$(dirname "$0")/.."
 tools/prove lines check_image headwords

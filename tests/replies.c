@@ -185,7 +185,7 @@ static void spelling_lengths(void)
     not_spelled("# as the last of 32", luz, words[0], 23);
 }
 
-/* luz with other code points for some of its letters, two at most, and sealed. */
+/* luz with other code points for some of its letters, two at most, and sealed; it stands until the next call. */
 struct change {
     unsigned letter;
     uint16_t point;

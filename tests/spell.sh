@@ -20,7 +20,7 @@ assembler=$CARGO_TARGET_DIR/release/assemble
 
 # gives INPUT NUMBERS REASONS: what is printed for an input, and what is told; escapes are those of printf
 gives() {
-    printf '%b' "$1" | ./spell grammar.img >printed 2>told
+    printf '%b' "$1" | ./spell grammar.img >printed 2>told || { printf 'input: %s\n' "$1"; exit 1; }
     printf '%b' "$2" | cmp - printed && printf '%b' "$3" | diff - told || { printf 'input: %s\n' "$1"; exit 1; }
 }
 stray="is no letter of a word"
@@ -58,16 +58,16 @@ echo "words that cannot be spelled: ? and the reason"
 # the least and the greatest character of each length, and those beside the surrogates
 gives '\0302\0200\n\0337\0277\n\0340\0240\0200\n\0355\0237\0277\n\0356\0200\0200\n\0357\0277\0277\n\0360\0220\0200\0200\n\0364\0217\0277\0277' '?\n?\n?\n?\n?\n?\n?\n?\n' "\
 standard input:1: unread: U+0080 $stray
-standard input:2: unread: \0337\0277 (U+07FF) $stray
-standard input:3: unread: \0340\0240\0200 (U+0800) $stray
-standard input:4: unread: \0355\0237\0277 (U+D7FF) $stray
-standard input:5: unread: \0356\0200\0200 (U+E000) $stray
+standard input:2: unread: U+07FF $stray
+standard input:3: unread: U+0800 $stray
+standard input:4: unread: U+D7FF $stray
+standard input:5: unread: U+E000 $stray
 standard input:6: unread: U+FFFF $stray
-standard input:7: unread: \0360\0220\0200\0200 (U+10000) $stray
-standard input:8: unread: \0364\0217\0277\0277 (U+10FFFF) $stray
+standard input:7: unread: U+10000 $stray
+standard input:8: unread: U+10FFFF $stray
 "
 # above U+FFFF there is no letter, though the lower bytes of this one are l
-gives 'lu\0360\0220\0201\0254' '?\n' "standard input:1: unread: \0360\0220\0201\0254 (U+1006C) $stray\n"
+gives 'lu\0360\0220\0201\0254' '?\n' "standard input:1: unread: U+1006C $stray\n"
 # bytes that begin nothing, that lack one before them or after them, characters that are written too long, surrogates, and what lies above U+10FFFF; a line
 # end is one even where a byte was due
 for bytes in '\0377' '\0376' '\0200' '\0277' '\0303' '\0303l' '\0303\0303' '\0342\0202' '\0342\0202l' '\0360\0237\0230' '\0360\0237\0230l' \

@@ -151,7 +151,7 @@ module _ (image points before after : List ℕ) (reply : Spelling) (replies : re
       let t = spelled-passes image points (length before) e .1 in
       let t9 = passed (eqb (length points % 2) 0 && wordLength (numbers points)) 9 _ t in
       let t23 = passed (every (leb 2) (wordSpelled image points)) 23 _ (t9 .1) in
-      omega (arith, leb-true (length (numbers points)) (length before) (passed (leb (length (numbers points)) (length before)) 24 accepted (t23 .1) .0), length-spelled image points 0)
+      omega (arith, leb-true (length (numbers points)) (length before) (passed (leb (length (numbers points)) (length before)) 24 accepted (t23 .1) .0), length-spelled image points)
 
   pub spelling-case : Case (λ k. reply ≡ Spelling.refused k) (after ≡ before) ((reply ≡ Spelling.letters (length (wordSpelled image points))) × SpelledOut image points before after) (firstFailing (spellingTests image points (length before)))
   unfolding spellingReply afterSpelling spellingVerdict

@@ -19,7 +19,7 @@ use Rattle.model.specs.Refusals.{Verdict, accepted, firstFailing, rightLength, 
 use Rattle.model.specs.Rows.{Reply, rowBytes, replyNumber}
 use Rattle.model.specs.Calls.{Sealing, allReadings}
 use Rattle.model.specs.Spelling.{wordSpelled}
-use Rattle.model.specs.Beside.{Judgement, FormReply, formReply, Spelling}
+use Rattle.model.specs.Beside.{Judgement, FormReply, formReply, Spelling, spellingReply, afterSpelling}
 use Rattle.model.specs.Demand.{Demand3, IsMore, rowsHandedBack}
 use Rattle.model.specs.Unspelled.{Unspelled}
 use Rattle.model.proofs.Listing.{IsListing, listing-iff}
@@ -123,7 +123,7 @@ demand1 {tests} {Refused} {Unchanged} {Work} t c =
       unchanged = unchanged-of Refused Unchanged Work tests c;
     }
 
--- "the image check .. 1-8; every other call 1-8 and then its own"; 14 "tested after 8 and before 9": the numbers of the tests of each, in their order
+-- "the image check .. 1-8; every other call 1-8 and then its own"; 14 "tested after 8 and before 9", 23 and 24 "in that order after 9": the numbers of the tests of each, in their order
 pub tests-made : (image word path pairing points : List ℕ) (e room : ℕ)
     → (map (λ t. t .0) (imageTests image) ≡ 1 ∷ 2 ∷ 3 ∷ 4 ∷ 5 ∷ 6 ∷ 7 ∷ 8 ∷ 14 ∷ [])
     × (map (λ t. t .0) (requestTests image (analysis word)) ≡ 1 ∷ 2 ∷ 3 ∷ 4 ∷ 5 ∷ 6 ∷ 7 ∷ 8 ∷ 14 ∷ 9 ∷ 10 ∷ [])
@@ -276,19 +276,18 @@ Taken image w =
     (firstFailing (wordTests image w) ≡ accepted)
     × ((before after : List ℕ) (reply : Reply) → Listing image (analysis w) before after reply → (k : ℕ) → reply ≡ Reply.refused k → ⊥)
 
+taken : (image points before after : List ℕ) (n : ℕ) → spellingReply image points (length before) ≡ Spelling.letters n → after ≡ afterSpelling image points before → Taken image (take n after)
+taken image points before after n replied leaves = (
+  word-handed image points before after n replied leaves,
+  λ before′ after′ reply l. calls.listing-passed (promise l) (analysis-taken image points before after n replied leaves) .1,
+)
+
 pub spelled-taken : (κs : _) (a : _) (r : _) (s : _) → spell.Post κs a r s → (n : ℕ) → spellingOf r ≡ Spelling.letters n → Taken (a .0 .now) (take n (s .1 .1 .0 .now))
-spelled-taken κs a r s p n e =
-    let replied = sym (p .0) ∙ e in (
-      word-handed (a .0 .now) (a .1 .0 .now) (a .1 .1 .0 .now) (s .1 .1 .0 .now) n replied (p .1),
-      λ before after reply l. calls.listing-passed (promise l) (analysis-taken (a .0 .now) (a .1 .0 .now) (a .1 .1 .0 .now) (s .1 .1 .0 .now) n replied (p .1)) .1,
-    )
+spelled-taken κs a r s p n e = taken (a .0 .now) (a .1 .0 .now) (a .1 .1 .0 .now) (s .1 .1 .0 .now) n (sym (p .0) ∙ e) (p .1)
 
 pub headwords-spelled-taken : (κs : _) (a : _) (r : _) (s : _) → headwords-spell.Post κs a r s → (n : ℕ) → r ≡ 4 * n + 1 → Taken (a .0 .now) (take n (s .1 .1 .0 .now))
 headwords-spelled-taken κs a r s p n e =
-    let replied = numbers.spelling-coding .apart _ (Spelling.letters n) (sym (p .0) ∙ e) in (
-      word-handed (a .0 .now) (a .1 .0 .now) (a .1 .1 .0 .now) (s .1 .1 .0 .now) n replied (p .1),
-      λ before after reply l. calls.listing-passed (promise l) (analysis-taken (a .0 .now) (a .1 .0 .now) (a .1 .1 .0 .now) (s .1 .1 .0 .now) n replied (p .1)) .1,
-    )
+    taken (a .0 .now) (a .1 .0 .now) (a .1 .1 .0 .now) (s .1 .1 .0 .now) n (numbers.spelling-coding .apart _ (Spelling.letters n) (sym (p .0) ∙ e)) (p .1)
 
 -- DEMAND 2
 

@@ -7,7 +7,7 @@ use lib.Seq.{take-at}
 use Rattle.model.specs.Query.{analysis}
 use Rattle.model.specs.Spelling.{wordSpelled}
 use Rattle.model.specs.Refusals.{Verdict, accepted, firstFailing, imageTests, imageVerdict, wordTests, ownTests, requestTests}
-use Rattle.model.specs.Beside.{Spelling, writtenAfter, spellingVerdict, spellingReply, afterSpelling}
+use Rattle.model.specs.Beside.{Spelling, writtenAfter, spellingReply, afterSpelling}
 use Rattle.model.proofs.Tests.{tests-append}
 use Rattle.spelling.proofs.Replies as spelling
 use Rattle.spelling.proofs.Replies.{spelled-passes, spelled-when}

@@ -73,7 +73,7 @@ module _ (image : List ℕ) where
   unfolding lexiconVerdict
   refused-14 e f = sym (ap₂ (λ (x y : Bool). unless x 8 (unless y 14 accepted)) f (sym (e ∙ ap (λ (x : Bool). x && rightForms image) f)))
 
--- a verdict that accepts, of tests one after the other
+-- an accepted image has passed each test
 pub accepted-image : (image : List ℕ) → imageVerdict image ≡ accepted → Accepted image (header image)
 unfolding imageVerdict imageTests formatTests
 accepted-image image e =

@@ -1,4 +1,4 @@
--- What the numbers and the copied letters take: a listing has few rows; and a form's letters.
+-- What the numbers and the copied letters take: a listing has few rows; a form's letters, by its reply.
 use Prim.Native.Nat.{ℕ, _<_, _≤_}
 use native.Mathlib.Omega.{arith}
 use mathlib.Core.Path.{_≡_, refl, ap, _∙_}

@@ -1,9 +1,9 @@
 -- The replies of the calls beside the listings as one number each, in the listings' own code: what is refused with k is 4k + 3.
 use Prim.Native.Nat.{ℕ, _+_, _*_}
 use mathlib.Core.Bool.{cond}
-use mathlib.Core.List.{List, _++_}
-use lib.ListN.{length, drop}
+use mathlib.Core.List.{List}
 use lib.Dec.{leb}
+use Rattle.model.specs.Lists.{whereRoom}
 use Rattle.model.specs.Refusals.{Verdict}
 use Rattle.model.specs.Calls.{Sealing}
 use Rattle.model.specs.Beside.{Judgement, FormReply, Spelling}
@@ -31,7 +31,7 @@ formNumber room (FormReply.refused k) = refusedNumber k
 
 -- the letters at the front of a buffer that has room for them; the buffer as it was where it has not
 abbrev pub afterForm : List ℕ → List ℕ → List ℕ
-afterForm form buffer = cond (leb (length form) (length buffer)) (form ++ drop (length form) buffer) buffer
+afterForm form buffer = whereRoom form buffer
 
 abbrev pub spellingNumber : Spelling → ℕ
 spellingNumber (Spelling.letters n) = 4 * n + 1

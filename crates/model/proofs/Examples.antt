@@ -1,4 +1,4 @@
--- Document 01's table of refusals, its small example for each number and its neighbours, and those of 14; its other trials; and its traps.
+-- Document 01's table of refusals, its small example for each number and its neighbours, and those of 14, 23 and 24; its other trials; and its traps.
 use Prim.Native.Nat.{ℕ}
 use mathlib.Core.Path.{_≡_, refl}
 use mathlib.Core.List.{List, [], _∷_, _++_, map}

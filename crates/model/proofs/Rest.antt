@@ -1,15 +1,17 @@
--- Loops over a list or a part of it, where what is left decides: a step on, a failure, the end.
-use Prim.Native.Nat.{ℕ, _+_, _<_, _≤_}
-use mathlib.Core.Bool.{Bool, true, false, not}
-use mathlib.Core.Path.{_≡_, ap, _∙_}
-use mathlib.Core.List.{List, _∷_}
-use lib.ListN.{length, getD, take, drop, length-take, drop-of-length-le}
-use lib.Seq.{drop-cons, getD-take, slice, slice-empty}
+-- Loops over a list or a part of it, where what is left decides: a step on, a failure, the end; or where what is passed does: an element more.
+use Prim.Native.Nat.{ℕ, suc, _+_, _<_, _≤_}
+use native.Mathlib.Nat.{le-of-lt}
+use mathlib.Core.Bool.{Bool, true, false, _&&_, not}
+use mathlib.Core.Path.{_≡_, sym, ap, _∙_}
+use mathlib.Core.List.{List, [], _∷_, _++_}
+use lib.ListN.{length, getD, set, take, drop, length-take, drop-of-length-le}
+use lib.Seq.{take-suc, drop-cons, set-at, append-snoc, length-take-le, getD-take, slice, slice-empty}
 use lib.Dec.{T}
 use native.Mathlib.Numerals.{add-one}
 use native.Mathlib.Omega.{arith}
 use Rattle.model.specs.Lists.{every, any, distinct}
-use Rattle.model.proofs.Lists.{member-at, every-at}
+use Rattle.model.proofs.Booleans.{left-true, left-false, right-true, right-false}
+use Rattle.model.proofs.Lists.{member-at, every-at, every-append}
 
 module _ {A : Type 0} (xs : List A) (d : A) (i : ℕ) (inside : i < length xs) where
   -- the first of what is left, and the rest
@@ -60,6 +62,30 @@ module _ {A : Type 0} (f : A → Bool) (at end : ℕ) (l : List A) (d : A) (more
 
 pub part-done : {A : Type 0} (f : A → Bool) (end : ℕ) (l : List A) → every f (slice end end l) ≡ true
 part-done f end l = ap (every f) (slice-empty end l)
+
+-- the beginning of a list that a loop has passed, an element more
+module _ {A : Type 0} (l : List A) (i : ℕ) (d : A) (inside : i < length l) where
+  pub take-more : take (i + 1) l ≡ take i l ++ (getD l i d ∷ [])
+  take-more = ap (λ (n : ℕ). take n l) (add-one i) ∙ take-suc l i d inside
+
+  module _ (f : A → Bool) where
+    every-next : every f (take (i + 1) l) ≡ (every f (take i l) && every f (getD l i d ∷ []))
+    every-next = ap (every f) take-more ∙ every-append f (take i l) (getD l i d ∷ [])
+
+    pub every-take-more : f (getD l i d) ≡ true → every f (take (i + 1) l) ≡ every f (take i l)
+    every-take-more e = every-next ∙ right-true (every f (take i l)) (every f (getD l i d ∷ [])) (left-true (f (getD l i d)) true e)
+
+    pub every-take-fails : f (getD l i d) ≡ false → every f (take (i + 1) l) ≡ false
+    every-take-fails e = every-next ∙ right-false (every f (take i l)) (every f (getD l i d ∷ [])) (left-false (f (getD l i d)) true e)
+
+  -- written over the front of another
+  pub front-more : (out : List A) → i < length out → set (take i l ++ drop i out) i (getD l i d) ≡ take (i + 1) l ++ drop (i + 1) out
+  front-more out room =
+      ap (λ (m : List A). set (take i l ++ m) i (getD l i d)) (drop-cons out i d room)
+      ∙ set-at (take i l) (getD out i d) (drop (suc i) out) (getD l i d) i (length-take-le i l (le-of-lt inside))
+      ∙ sym (append-snoc (take i l) (getD l i d) (drop (suc i) out))
+      ∙ ap (λ (m : List A). m ++ drop (suc i) out) (sym (take-suc l i d inside))
+      ∙ ap (λ (n : ℕ). take n l ++ drop n out) (sym (add-one i))
 
 -- what passes everywhere passes at each place
 pub every-getD : {A : Type 0} (f : A → Bool) (xs : List A) (i : ℕ) (d : A) → i < length xs → T (every f xs) → T (f (getD xs i d))

@@ -11,7 +11,7 @@ use lib.Dec.{T, leb, eqb, leb→le}
 use borrow.Author.Tests.{eqb-true, eqb-false, eq-eqb, ne-eqb}
 use Rattle.folding.specs.Folding.{fold}
 use Rattle.folding.proofs.Folding.{fold-twice}
-use Rattle.model.specs.Lists.{below, every, any, distinct, within, isZero, number, numbers}
+use Rattle.model.specs.Lists.{every, any, distinct, within, isZero, number, numbers}
 use Rattle.model.specs.Blocks.{header, recordAt}
 use Rattle.model.specs.RuleTables.{codePoints, isCodePoint}
 use Rattle.model.specs.Readings.{wordLength}
@@ -130,7 +130,7 @@ module _ (image : List ℕ) where
         go (suc a) e = sym (own-letter (fold c) a e)
 
   -- what is spelled passes 9 and 10, so that analysis refuses it for neither
-  module _ (points : List ℕ) (room : ℕ) where
+  module _ (points : List ℕ) where
     pub length-spelled : length (wordSpelled image points) ≡ length (numbers points)
     unfolding wordSpelled
     length-spelled = length-map (numbers points) (letterSpelled image)
@@ -142,9 +142,9 @@ module _ (image : List ℕ) where
         one : (a : ℕ) → List·Memᴰ a (map (letterSpelled image) (numbers points)) → T (leb 2 a) → T (within 2 letters a)
         one a m t = let u = map-from (letterSpelled image) (numbers points) m in within-in 2 letters a (leb→le 2 a t) (rw (u .2) (spelled-most (u .0)))
 
-    pub spelled-admissible : firstFailing (pointTests image points room) ≡ accepted → firstFailing (wordTests image (wordSpelled image points)) ≡ accepted
+    pub spelled-admissible : (room : ℕ) → firstFailing (pointTests image points room) ≡ accepted → firstFailing (wordTests image (wordSpelled image points)) ≡ accepted
     unfolding pointTests wordTests
-    spelled-admissible e =
+    spelled-admissible room e =
         let even = eqb (length points % 2) 0 in
         let nine = passed (even && wordLength (numbers points)) 9 _ e in
         let long = and-out even (wordLength (numbers points)) (of-true (even && wordLength (numbers points)) (nine .0)) .1 in

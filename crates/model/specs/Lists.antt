@@ -77,6 +77,10 @@ abbrev pub bit : ℕ → ℕ → Bool
 bit n zero = eqb (n % 2) 1
 bit n (suc i) = bit (n / 2) i
 
+-- a list over the front of another that has room for it; where it has not, the other as it was
+abbrev pub whereRoom : List ℕ → List ℕ → List ℕ
+whereRoom l out = cond (leb (length l) (length out)) (l ++ drop (length l) out) out
+
 -- "a two-byte number is unsigned, low byte first": the one that begins at byte i
 abbrev pub number : List ℕ → ℕ → ℕ
 number bs i = byte bs i + 256 * byte bs (i + 1)

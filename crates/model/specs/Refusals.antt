@@ -121,7 +121,7 @@ module _ (image : List ℕ) where
   viewTests e = imageTests ++ ((12, ltb e (header image .entries)) ∷ [])
 
   -- document 02, (m): "an odd byte of input is refused with 9, as are no code points or over 32"; 23, "a code point with no letter, or with letter 1"; 24, "an
-  -- output shorter than the word", which has room for so many bytes
+  -- output shorter than the word", room being the output's length
   unfoldable pub pointTests : List ℕ → ℕ → List (ℕ × Bool)
   pointTests points room =
       (9, eqb (length points % 2) 0 && wordLength (numbers points))

@@ -6,7 +6,7 @@ use mathlib.Core.Path.{_≡_, refl, sym, ap, _∙_}
 use mathlib.Core.List.{List}
 use lib.ListN.{length}
 use lib.Dec.{leb, eqb}
-use Rattle.model.specs.Lists.{every, within, numbers}
+use Rattle.model.specs.Lists.{every, within, whereRoom, numbers}
 use Rattle.model.specs.Readings.{wordLength}
 use Rattle.model.specs.Spelling.{wordSpelled}
 use Rattle.model.specs.Refusals.{Verdict, accepted, refused, unless, firstFailing, imageTests, imageVerdict, wordTests, pointTests, spellingTests}
@@ -15,7 +15,7 @@ use Rattle.model.proofs.Booleans.{of-true, within-out}
 use Rattle.model.proofs.Lists.{length-numbers}
 use Rattle.model.proofs.Spelling.{length-spelled, spelled-admissible}
 use Rattle.model.proofs.Tests.{clash, passed, tests-append, tests-refused, tests-accepted}
-use Rattle.spelling.specs.Answers.{handedOver, afterHandingOver}
+use Rattle.spelling.specs.Answers.{handedOver}
 
 module _ (image points out : List ℕ) where
   abbrev word : List ℕ
@@ -34,20 +34,20 @@ module _ (image points out : List ℕ) where
   unfolding spellingVerdict spellingTests imageVerdict
   image-refused k e = by-verdict (refused k) (tests-refused (imageTests image) (pointTests image points (length out)) k e)
 
-  module _ (passed : imageVerdict image ≡ accepted) where
-    -- tests 9 and 23 as the code makes them, and 24
-    abbrev pub test9 : Bool
-    test9 = eqb (length points % 2) 0 && within 1 32 (length points / 2)
+  -- tests 9 and 23 as the code makes them
+  abbrev pub test9 : Bool
+  test9 = eqb (length points % 2) 0 && within 1 32 (length points / 2)
 
-    abbrev pub test23 : Bool
-    test23 = every (leb 2) word
+  abbrev pub test23 : Bool
+  test23 = every (leb 2) word
 
+  module _ (accepts : imageVerdict image ≡ accepted) where
     own-verdict : spellingVerdict image points (length out) ≡ unless test9 9 (unless test23 23 (unless (leb (length word) (length out)) 24 accepted))
     unfolding spellingVerdict spellingTests imageVerdict pointTests
     own-verdict =
-        tests-accepted (imageTests image) (pointTests image points (length out)) passed
+        tests-accepted (imageTests image) (pointTests image points (length out)) accepts
         ∙ ap (λ (n : ℕ). unless (eqb (length points % 2) 0 && within 1 32 n) 9 (unless test23 23 (unless (leb (length (numbers points)) (length out)) 24 accepted))) (length-numbers points)
-        ∙ ap (λ (n : ℕ). unless test9 9 (unless test23 23 (unless (leb n (length out)) 24 accepted))) (sym (length-spelled image points 0))
+        ∙ ap (λ (n : ℕ). unless test9 9 (unless test23 23 (unless (leb n (length out)) 24 accepted))) (sym (length-spelled image points))
 
     pub refused-9 : test9 ≡ false → Replies (Spelling.refused 9) out
     refused-9 e = by-verdict (refused 9) (own-verdict ∙ rw e refl)
@@ -55,10 +55,10 @@ module _ (image points out : List ℕ) where
     pub refused-23 : test9 ≡ true → test23 ≡ false → Replies (Spelling.refused 23) out
     refused-23 e f = by-verdict (refused 23) (own-verdict ∙ rw (e, f) refl)
 
-    pub handed-over : test9 ≡ true → test23 ≡ true → Replies (handedOver (length word) (length out)) (afterHandingOver word out)
+    pub handed-over : test9 ≡ true → test23 ≡ true → Replies (handedOver (length word) (length out)) (whereRoom word out)
     handed-over e f = go (leb (length word) (length out)) refl
       where
-        go : (b : Bool) → leb (length word) (length out) ≡ b → Replies (handedOver (length word) (length out)) (afterHandingOver word out)
+        go : (b : Bool) → leb (length word) (length out) ≡ b → Replies (handedOver (length word) (length out)) (whereRoom word out)
         go true h = rw h (by-verdict accepted (own-verdict ∙ rw (e, f, h) refl))
         go false h = rw h (by-verdict (refused 24) (own-verdict ∙ rw (e, f, h) refl))
 

@@ -1,4 +1,4 @@
--- A word as its letters are found: which code point each has, those found so far in their places, and whether all may stand in a word.
+-- A word's letters: which code point each has, and the word in the room that it is found in and in the output.
 use Prim.Native.Nat.{ℕ, zero, suc, _+_, _*_, _-_, _/_, _<_, _≤_}
 use native.Mathlib.Numerals.{add-one}
 use native.Mathlib.Omega.{arith}
@@ -13,22 +13,6 @@ use Rattle.model.proofs.Booleans.{right-true}
 use Rattle.model.proofs.Lists.{every-append, length-numbers, number-in}
 use Rattle.model.proofs.Spelling.{length-spelled}
 
--- one letter more
-module _ (word out : List ℕ) (i : ℕ) (inside : i < length word) where
-  pub put-more : i < length out → set (take i word ++ drop i out) i (getD word i 0) ≡ take (i + 1) word ++ drop (i + 1) out
-  put-more k =
-      ap (λ (l : List ℕ). set (take i word ++ l) i (getD word i 0)) (drop-cons out i 0 k)
-      ∙ set-at (take i word) (getD out i 0) (drop (suc i) out) (getD word i 0) i (omega (arith, length-take i word))
-      ∙ sym (append-snoc (take i word) (getD word i 0) (drop (suc i) out))
-      ∙ ap₂ (λ (l m : List ℕ). l ++ m) (sym (take-suc word i 0 inside) ∙ ap (λ (n : ℕ). take n word) (sym (add-one i))) (ap (λ (n : ℕ). drop n out) (sym (add-one i)))
-
-  pub every-one : (f : ℕ → Bool) → every f (take (i + 1) word) ≡ (every f (take i word) && f (getD word i 0))
-  every-one f =
-      ap (λ (n : ℕ). every f (take n word)) (add-one i)
-      ∙ ap (every f) (take-suc word i 0 inside)
-      ∙ every-append f (take i word) (getD word i 0 ∷ [])
-      ∙ ap (λ (b : Bool). every f (take i word) && b) (right-true (f (getD word i 0)) true refl)
-
 getD-map : (f : ℕ → ℕ) (xs : List ℕ) (i : ℕ) → i < length xs → getD (map f xs) i 0 ≡ f (getD xs i 0)
 getD-map f [] i h = absurd (omega arith)
 getD-map f (x ∷ xs) zero h = refl
@@ -37,7 +21,7 @@ getD-map f (x ∷ xs) (suc i) h = getD-map f xs i (omega arith)
 -- the letter at place i is that of code point i
 module _ (image points : List ℕ) where
   pub spelled-length : length (wordSpelled image points) ≡ length points / 2
-  spelled-length = length-spelled image points 0 ∙ length-numbers points
+  spelled-length = length-spelled image points ∙ length-numbers points
 
   pub spelled-at : (i : ℕ) → i < length points / 2 → getD (wordSpelled image points) i 0 ≡ letterSpelled image (number points (2 * i))
   unfolding wordSpelled

@@ -1,17 +1,15 @@
 // Spelling: code points become letters of the alphabet, a capital that is none as its lower case.
 ghost use mathlib.Core.Path.{_≡_};
-ghost use mathlib.Core.Bool.{_&&_};
-ghost use mathlib.Core.List.{_++_};
-ghost use Prim.Native.Nat.{_+_, _<_, _%_, _/_};
-ghost use lib.ListN.{length, drop};
-ghost use lib.Dec.{leb, eqb};
-ghost use Rattle.model.specs.Lists.{every, within, numbers};
+ghost use Prim.Native.Nat.{_<_};
+ghost use lib.ListN.{length};
+ghost use lib.Dec.{leb};
+ghost use Rattle.model.specs.Lists.{every, whereRoom, numbers};
 ghost use Rattle.model.specs.Refusals.{accepted, imageVerdict};
 ghost use Rattle.model.specs.Spelling.{letterOf, letterSpelled, wordSpelled};
 ghost use Rattle.model.specs.Beside.{spellingReply, afterSpelling};
 ghost use Rattle.image.specs.Header.{headerOf};
 ghost use Rattle.image.specs.Laid.{Laid};
-ghost use Rattle.spelling.specs.Answers.{spellingOf, handedOver, afterHandingOver};
+ghost use Rattle.spelling.specs.Answers.{spellingOf, handedOver};
 use grammar::Verdict;
 use image::Header;
 
@@ -71,7 +69,7 @@ fn spell_points(image: &[u8], h: Header, points: &[u8], word: &mut [u8]) -> bool
     right
 }
 
-// A code point of the alphabet is never folded.
+// The letter of the code point as it is; only where it has none, that of what it is folded to.
 fn letter_spelled(image: &[u8], h: Header, c: usize) -> usize
     requires { ⌜ Laid (now image) (headerOf h) ⌝ }
     ensures { λ r. ⌜ (r ≡ letterSpelled (now (image .entry)) c) × (r < 256) ⌝ }
@@ -103,7 +101,7 @@ fn letter_of(image: &[u8], h: Header, c: usize) -> usize
 // Test 24, and the word to the front of the output. Where that has no room for all of it, none of it is written.
 fn hand_over(word: &[u8], out: &mut [u8]) -> Spelling
     ensures reply { λ r. ⌜ spellingOf r ≡ handedOver (length (now (word .entry))) (length (now (out .entry))) ⌝ }
-    ensures bytes { λ _. ⌜ now (out .exit) ≡ afterHandingOver (now (word .entry)) (now (out .entry)) ⌝ }
+    ensures bytes { λ _. ⌜ now (out .exit) ≡ whereRoom (now (word .entry)) (now (out .entry)) ⌝ }
 {
     let n = word.len();
     let written = if out.len() < n { 0 } else { n };

@@ -1,22 +1,16 @@
 -- Laws of tests over what a loop has passed: the beginning of a list, an element more.
 use Prim.Native.Nat.{ℕ, zero, suc, _+_, _<_, _≤_}
-use native.Mathlib.Nat.{zero-add, add-zero, add-assoc, le-of-lt}
-use native.Mathlib.Numerals.{add-one}
+use native.Mathlib.Nat.{zero-add, add-zero, add-assoc}
 use native.Mathlib.Omega.{arith}
 use mathlib.Core.Bool.{Bool, true, false, _&&_, not, cond}
-use mathlib.Core.Path.{_≡_, refl, sym, ap, _∙_}
+use mathlib.Core.Path.{_≡_, sym, ap, _∙_}
 use mathlib.Core.List.{List, [], _∷_, _++_}
-use lib.ListN.{length, getD, take, drop, set}
-use lib.Seq.{take-suc, drop-cons, set-at, append-snoc, length-take-le}
+use lib.ListN.{length, getD, take}
 use lib.Dec.{T}
 use borrow.Author.Tests.{not-true, not-false}
 use Rattle.model.specs.Lists.{every, count}
-use Rattle.model.proofs.Booleans.{and-out, left-false, right-false}
-use Rattle.model.proofs.Lists.{every-append}
-
-and-true : (a : Bool) → (a && true) ≡ a
-and-true true = refl
-and-true false = refl
+use Rattle.model.proofs.Booleans.{and-out}
+use Rattle.model.proofs.Rest.{take-more}
 
 -- what a callee's answer says, where it is negated
 pub fails : {b : Bool} (r : Bool) → r ≡ b → not r ≡ true → b ≡ false
@@ -47,33 +41,11 @@ module _ {A : Type 0} (f : A → Bool) where
       go false h = omega arith
 
   module _ (l : List A) (p : ℕ) (d : A) (h : p < length l) where
-    take-more : take (p + 1) l ≡ take p l ++ (getD l p d ∷ [])
-    take-more = ap (λ (n : ℕ). take n l) (add-one p) ∙ take-suc l p d h
-
     count-next : count f (take (p + 1) l) ≡ count f (take p l) + (cond (f (getD l p d)) 1 0 + 0)
-    count-next = ap (count f) take-more ∙ count-append (take p l) (getD l p d ∷ [])
+    count-next = ap (count f) (take-more l p d h) ∙ count-append (take p l) (getD l p d ∷ [])
 
     pub count-more : f (getD l p d) ≡ true → count f (take (p + 1) l) ≡ count f (take p l) + 1
     count-more e = count-next ∙ ap (λ (b : Bool). count f (take p l) + (cond b 1 0 + 0)) e
 
     pub count-same : f (getD l p d) ≡ false → count f (take (p + 1) l) ≡ count f (take p l)
     count-same e = count-next ∙ ap (λ (b : Bool). count f (take p l) + (cond b 1 0 + 0)) e ∙ add-zero (count f (take p l))
-
-    every-next : every f (take (p + 1) l) ≡ (every f (take p l) && every f (getD l p d ∷ []))
-    every-next = ap (every f) take-more ∙ every-append f (take p l) (getD l p d ∷ [])
-
-    pub every-take-more : f (getD l p d) ≡ true → every f (take (p + 1) l) ≡ every f (take p l)
-    every-take-more e = every-next ∙ ap (λ (b : Bool). every f (take p l) && (b && true)) e ∙ and-true (every f (take p l))
-
-    pub every-take-fails : f (getD l p d) ≡ false → every f (take (p + 1) l) ≡ false
-    every-take-fails e = every-next ∙ right-false (every f (take p l)) (every f (getD l p d ∷ [])) (left-false (f (getD l p d)) true e)
-
--- a list written over the front of another, an element more
-module _ {A : Type 0} where
-  pub front-more : (s d : List A) (p : ℕ) (z : A) → p < length s → p < length d → set (take p s ++ drop p d) p (getD s p z) ≡ take (p + 1) s ++ drop (p + 1) d
-  front-more s d p z h k =
-      ap (λ (l : List A). set (take p s ++ l) p (getD s p z)) (drop-cons d p z k)
-      ∙ set-at (take p s) (getD d p z) (drop (suc p) d) (getD s p z) p (length-take-le p s (le-of-lt h))
-      ∙ sym (append-snoc (take p s) (getD s p z) (drop (suc p) d))
-      ∙ ap (λ (l : List A). l ++ drop (suc p) d) (sym (take-suc s p z h))
-      ∙ ap (λ (n : ℕ). take n s ++ drop n d) (sym (add-one p))

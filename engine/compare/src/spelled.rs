@@ -1,7 +1,7 @@
 //! Spellings are of several sorts, by what becomes of their code points and by the one thing for which they are refused.
 
 use draw::points::SURROGATES;
-use other_engine::calls::letter_spelled;
+use other_engine::calls::{letter_spelled, numbers};
 use other_engine::folding::{folded, lower_case, LAST_FOLDED};
 use other_engine::grammar::Grammar;
 
@@ -24,49 +24,71 @@ pub const SORTS: [&str; 15] = [
     "a byte too few",
 ];
 
-/// Which of the sorts a spelling is of.
-pub fn sorts(grammar: &Grammar, points: &[u8], room: usize) -> [bool; SORTS.len()] {
-    let mut sorts = [false; SORTS.len()];
-    let numbers: Vec<u16> = points
-        .chunks_exact(2)
-        .map(|two| u16::from_le_bytes([two[0], two[1]]))
-        .collect();
+/// The sorts that a spelling is of.
+pub fn sorts(grammar: &Grammar, points: &[u8], room: usize) -> Vec<&'static str> {
+    let numbers = numbers(points);
     let count = numbers.len();
     if points.len() % 2 == 1 || !(1..=32).contains(&count) {
-        sorts[5] = points.len() % 2 == 1 && (1..=32).contains(&count);
-        sorts[6] = points.len() == 66;
-        return sorts;
+        return met(&[
+            ("an odd byte", (1..=32).contains(&count)),
+            ("33 code points", points.len() == 66),
+        ]);
     }
-    let is_letter = |point: u16| grammar.letter(point).is_some();
-    let is_cased = |point: u16| folded(point) != point;
     let without: Vec<u16> = numbers
         .iter()
         .copied()
         .filter(|&point| letter_spelled(grammar, point).is_none())
         .collect();
     match without[..] {
-        [] if count <= room => {
-            let some = |is: &dyn Fn(u16) -> bool| numbers.iter().any(|&point| is(point));
-            sorts[0] = some(&|point| !is_letter(point));
-            sorts[1] = some(&|point| is_letter(point) && is_cased(point));
-            sorts[2] =
-                some(&|point| is_letter(point) && is_cased(point) && is_letter(folded(point)));
-            sorts[3] = count == 32;
-            sorts[4] = count < room;
-        }
-        [] => sorts[14] = count == room + 1,
-        [point] => {
-            let mut letters = grammar.letters[1..].iter().copied();
-            sorts[7] = point == 0;
-            sorts[8] = SURROGATES.contains(&point);
-            sorts[9] = is_letter(point);
-            sorts[10] = !is_letter(point) && is_letter(folded(point));
-            sorts[11] = point > LAST_FOLDED && letter_spelled(grammar, lower_case(point)).is_some();
-            sorts[12] = !is_letter(point)
-                && letters.any(|letter| is_cased(letter) && folded(letter) == point);
-            sorts[13] = count > room;
-        }
-        _ => {}
+        [] if count <= room => spelled(grammar, &numbers, room),
+        [] => met(&[("a byte too few", count == room + 1)]),
+        [point] => stray(grammar, point, count > room),
+        _ => Vec::new(),
     }
-    sorts
+}
+
+fn spelled(grammar: &Grammar, numbers: &[u16], room: usize) -> Vec<&'static str> {
+    let is_letter = |point: u16| grammar.letter(point).is_some();
+    let stays = |point: u16| is_letter(point) && folded(point) != point;
+    let some = |is: &dyn Fn(u16) -> bool| numbers.iter().any(|&point| is(point));
+    met(&[
+        ("a code point folded", some(&|point| !is_letter(point))),
+        ("a capital that stays", some(&stays)),
+        (
+            "a capital that stays beside its lower case",
+            some(&|point| stays(point) && is_letter(folded(point))),
+        ),
+        ("32 letters", numbers.len() == 32),
+        ("bytes past the word", numbers.len() < room),
+    ])
+}
+
+/// Of the one code point that has no letter of a word.
+fn stray(grammar: &Grammar, point: u16, no_room: bool) -> Vec<&'static str> {
+    let is_letter = |point: u16| grammar.letter(point).is_some();
+    let mut letters = grammar.letters[1..].iter().copied();
+    let is_lower_case = letters.any(|letter| folded(letter) != letter && folded(letter) == point);
+    met(&[
+        ("nought", point == 0),
+        ("a surrogate", SURROGATES.contains(&point)),
+        ("the boundary", is_letter(point)),
+        (
+            "a capital of the boundary",
+            !is_letter(point) && is_letter(folded(point)),
+        ),
+        (
+            "a capital too high",
+            point > LAST_FOLDED && letter_spelled(grammar, lower_case(point)).is_some(),
+        ),
+        (
+            "a lower case of a capital",
+            !is_letter(point) && is_lower_case,
+        ),
+        ("no letter and no room", no_room),
+    ])
+}
+
+fn met(sorts: &[(&'static str, bool)]) -> Vec<&'static str> {
+    let met = sorts.iter().filter(|(_, is)| *is);
+    met.map(|(sort, _)| *sort).collect()
 }

@@ -159,9 +159,9 @@ impl Tally {
 
     /// Counts the sorts that a spelling is of, by an accepted image, into so many bytes.
     pub fn count_spelling(&mut self, grammar: &Grammar, points: &[u8], room: usize) {
-        let sorts = spelled::sorts(grammar, points, room);
-        for (count, sort) in self.spellings.iter_mut().zip(sorts) {
-            *count += u64::from(sort);
+        let met = spelled::sorts(grammar, points, room);
+        for (count, sort) in self.spellings.iter_mut().zip(spelled::SORTS) {
+            *count += u64::from(met.contains(&sort));
         }
     }
 

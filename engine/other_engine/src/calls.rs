@@ -15,7 +15,7 @@ fn accepted(known: &Known) -> Result<&Grammar, u8> {
 }
 
 /// Bytes as numbers of two bytes each.
-fn numbers(bytes: &[u8]) -> Vec<u16> {
+pub fn numbers(bytes: &[u8]) -> Vec<u16> {
     bytes
         .chunks_exact(2)
         .map(|two| u16::from_le_bytes([two[0], two[1]]))

@@ -1,6 +1,6 @@
--- `right_count` meets its contract: the bytes are even in number, and make one number or more.
+-- `right_count` meets its contract: an even count of bytes, from one number to the most.
 use native.Mathlib.Omega.{arith}
-use mathlib.Core.Path.{_≡_, sym, _∙_}
+use mathlib.Core.Path.{sym, _∙_}
 use Prim.Native.Nat.{_/_, _%_}
 use lib.Dec.{leb, eqb}
 use borrow.Author.Tests.{le-leb, eq-eqb, ne-eqb}

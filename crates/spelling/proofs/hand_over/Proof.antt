@@ -3,13 +3,14 @@ use borrow.Author.Needs.{needs}
 use native.Mathlib.Omega.{arith}
 use Prim.Native.Nat.{ℕ, _<_, _≤_}
 use mathlib.Core.Logic.{⊎-elim}
-use mathlib.Core.Path.{_≡_, refl, sym, ap, ap₂, _∙_}
+use mathlib.Core.Path.{_≡_, refl, ap, ap₂, _∙_}
 use mathlib.Core.List.{List, _++_}
 use lib.ListN.{length, take, drop, length-take}
 use lib.Seq.{take-all}
 use borrow.Author.Tests.{le-leb, lt-leb}
+use Rattle.model.specs.Lists.{whereRoom}
 use Rattle.model.specs.Beside.{Spelling}
-use Rattle.spelling.specs.Answers.{handedOver, afterHandingOver}
+use Rattle.spelling.specs.Answers.{handedOver}
 use Rattle.spelling.proofs.Words.{part-copied}
 use Rattle.spelling.proofs.hand_over.Statement.{statement}
 use Rattle.spelling.proofs.hand_over.Tie as tie
@@ -38,7 +39,7 @@ module _ (c : tie.Joined1) where
   none h = ⊎-elim (λ w. w .1) (λ w. absurd (omega (arith, w .1))) (c .if1 .came)
 
   abbrev Handed : Spelling → Type 0
-  Handed reply = (reply ≡ handedOver (length word) (length out)) × (take written word ++ drop written out ≡ afterHandingOver word out)
+  Handed reply = (reply ≡ handedOver (length word) (length out)) × (take written word ++ drop written out ≡ whereRoom word out)
 
   short : written < length word → Handed (Spelling.refused 24)
   short h =

@@ -1,22 +1,20 @@
 -- `spell_accepted` meets its contract: tests 9, 23 and 24, and then the word.
 use borrow.Author.Needs.{needs}
-use native.Mathlib.Omega.{arith}
 use Prim.Native.Nat.{ℕ, _/_, _%_, _≤_}
-use mathlib.Core.Bool.{true, _&&_}
-use mathlib.Core.Path.{_≡_, refl, sym, ap, ap₂, _∙_, subst}
-use mathlib.Core.List.{List, _++_}
+use mathlib.Core.Bool.{true}
+use mathlib.Core.Path.{_≡_, sym, ap, _∙_, subst}
+use mathlib.Core.List.{List}
 use lib.ListN.{length, replicate}
 use lib.Dec.{eqb}
 use borrow.Author.Tests.{not-true, not-false}
-use Rattle.model.specs.Lists.{within}
+use Rattle.model.specs.Lists.{within, whereRoom}
 use Rattle.model.specs.Blocks.{header}
 use Rattle.model.specs.Spelling.{wordSpelled}
-use Rattle.model.specs.Beside.{Spelling}
 use Rattle.model.proofs.Booleans.{and-out, of-true, within-out}
 use Rattle.model.proofs.Lists.{length-numbers}
 use Rattle.image.specs.Laid.{Laid}
 use Rattle.grammar.proofs.Verdicts.{accepted-image, laid-some}
-use Rattle.spelling.specs.Answers.{handedOver, afterHandingOver}
+use Rattle.spelling.specs.Answers.{handedOver}
 use Rattle.spelling.proofs.Words.{spelled-length, room-for, word-within, word-back}
 use Rattle.spelling.proofs.Replies.{test9, refused-9, refused-23, handed-over}
 use Rattle.spelling.proofs.spell_accepted.Statement.{statement}
@@ -40,11 +38,11 @@ module _ (c : tie.Else1) where
   abbrev start : tie.Start
   start = c .before .before .before .before .before
 
-  passed : test9 (image start) (points start) (out start) (start .pre) ≡ true
+  passed : test9 (image start) (points start) (out start) ≡ true
   passed = sym (c .before .right-count .ensures) ∙ not-false (c .before .right-count .result) (c .if1 .left)
 
   few : length (points start) / 2 ≤ 32
-  few = let n = length (points start) in within-out 1 32 (n / 2) (and-out (eqb (n % 2) 0) (within 1 32 (n / 2)) (of-true (test9 (image start) (points start) (out start) (start .pre)) passed) .1) .1
+  few = let n = length (points start) in within-out 1 32 (n / 2) (and-out (eqb (n % 2) 0) (within 1 32 (n / 2)) (of-true (test9 (image start) (points start) (out start)) passed) .1) .1
 
 right-count-requires : tie.Need-right-count-requires
 right-count-requires c κs = search needs
@@ -118,7 +116,7 @@ returns-3 c =
     let t = handed-over (image s) (points s) (out s) (s .pre) (passed (w .before .before .before)) (sym (w .spell-points .ensures .0) ∙ not-false (w .spell-points .result) (e .if2 .left)) in
     let word = word-back (found w) _ _ (found-long w) ∙ found-is w in (
       called .hand-over .ensures .0 ∙ ap (λ (l : List ℕ). handedOver (length l) (length (out s))) word ∙ t .0,
-      called .hand-over .ensures .1 ∙ ap (λ (l : List ℕ). afterHandingOver l (out s)) word ∙ t .1,
+      called .hand-over .ensures .1 ∙ ap (λ (l : List ℕ). whereRoom l (out s)) word ∙ t .1,
     )
 
 pub spell-accepted-spec : {M : Type 1} → statement M

@@ -1,8 +1,7 @@
 -- `spell_points` meets its contract: the letters found so far stand in their places, and each of them may stand in a word or one may not.
 use borrow.Author.Needs.{needs}
 use native.Mathlib.Omega.{arith}
-use Prim.Native.Nat.{ℕ, _+_, _*_, _-_, _/_, _<_, _≤_}
-use mathlib.Core.Bool.{Bool, true, false, _&&_}
+use Prim.Native.Nat.{ℕ, _-_, _/_, _<_, _≤_}
 use mathlib.Core.Logic.{⊎-elim}
 use mathlib.Core.Path.{_≡_, refl, sym, ap, ap₂, _∙_}
 use mathlib.Core.List.{List, _++_, append-nil}
@@ -10,11 +9,11 @@ use lib.ListN.{length, getD, set, take, drop, length-set, drop-of-length-le}
 use lib.Seq.{take-all}
 use lib.Dec.{leb}
 use borrow.Author.Tests.{le-leb, lt-leb}
-use Rattle.model.specs.Lists.{every, numbers}
+use Rattle.model.specs.Lists.{every}
 use Rattle.model.specs.Spelling.{letterSpelled, wordSpelled}
 use Rattle.model.proofs.Lists.{length-numbers}
-use Rattle.model.proofs.Booleans.{right-true, right-false}
-use Rattle.spelling.proofs.Words.{put-more, every-one, spelled-length, spelled-at}
+use Rattle.model.proofs.Rest.{every-take-more, every-take-fails, front-more}
+use Rattle.spelling.proofs.Words.{spelled-length, spelled-at}
 use Rattle.spelling.proofs.spell_points.Statement.{statement}
 use Rattle.spelling.proofs.spell_points.Tie as tie
 
@@ -65,13 +64,6 @@ module _ (c : tie.After-letter-spelled Inv-loop μ-loop) where
       ∙ ap (letterSpelled (image at)) (c .before .number-at .ensures .0)
       ∙ sym (spelled-at (image at) (points at) (i at) (omega (arith, size at)))
 
-  -- whether the letters so far may stand in a word, and one more
-  abbrev so-far : Bool
-  so-far = every (leb 2) (take (i at) (spelled at))
-
-  one-more : (b : Bool) → leb 2 (c .letter-spelled .result) ≡ b → every (leb 2) (take (i at + 1) (spelled at)) ≡ (so-far && b)
-  one-more b e = every-one (spelled at) (spelled at) (i at) inside (leb 2) ∙ ap (λ (x : Bool). so-far && x) (ap (leb 2) (sym found) ∙ e)
-
 mul-number-at : tie.Need-mul-number-at Inv-loop μ-loop
 mul-number-at c = record { fits = omega (arith, size (c .before)) }
 
@@ -99,11 +91,11 @@ loop-again c =
     let a = at b in
     let out = start a .args .word .now in (
       omega arith,
-      ap₂ (λ (l : List ℕ) (x : ℕ). set l (i a) x) (a .loop .inv .1) (found b) ∙ put-more (spelled a) out (i a) (inside b) (omega arith),
+      ap₂ (λ (l : List ℕ) (x : ℕ). set l (i a) x) (a .loop .inv .1) (found b) ∙ front-more (spelled a) (i a) 0 (inside b) out (omega arith),
       length-set (a .loop .word) (i a) (b .letter-spelled .result) ∙ a .loop .inv .2,
       ⊎-elim
-          (λ w. w .1 ∙ sym (one-more b false (lt-leb 2 (b .letter-spelled .result) (w .0 .taken)) ∙ right-false (so-far b) false refl))
-          (λ w. w .1 ∙ a .loop .inv .3 ∙ sym (one-more b true (le-leb 2 (b .letter-spelled .result) (w .0 .left)) ∙ right-true (so-far b) true refl))
+          (λ w. w .1 ∙ sym (every-take-fails (spelled a) (i a) 0 (inside b) (leb 2) (ap (leb 2) (sym (found b)) ∙ lt-leb 2 (b .letter-spelled .result) (w .0 .taken))))
+          (λ w. w .1 ∙ a .loop .inv .3 ∙ sym (every-take-more (spelled a) (i a) 0 (inside b) (leb 2) (ap (leb 2) (sym (found b)) ∙ le-leb 2 (b .letter-spelled .result) (w .0 .left))))
           (c .if1 .came),
     )
 

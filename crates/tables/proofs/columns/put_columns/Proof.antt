@@ -13,7 +13,7 @@ use lib.Seq.{take-all}
 use Rattle.model.specs.Lists.{every, byte}
 use Rattle.model.proofs.Lists.{length-map-below, getD-map-below}
 use Rattle.tables.specs.Passes.{front}
-use Rattle.tables.proofs.Lists.{front-more, every-take-more, every-take-fails}
+use Rattle.model.proofs.Rest.{front-more, every-take-more, every-take-fails}
 use Rattle.tables.proofs.columns.put_columns.Statement.{statement}
 use Rattle.tables.proofs.columns.put_columns.Tie as tie
 
@@ -57,10 +57,10 @@ loop-again c =
     let read : byte (a .best .now) p ≡ byte l p = sym (getD-map-below (byte (a .best .now)) (a .pairs) p 0 (omega arith)) in (
       omega arith,
       length-set (b .loop .out) p (byte (a .best .now) p) ∙ b .loop .inv .1,
-      ap₂ (λ (o : List ℕ) (y : ℕ). set o p y) (b .loop .inv .2) read ∙ front-more l (a .out .now) p 0 there room,
+      ap₂ (λ (o : List ℕ) (y : ℕ). set o p y) (b .loop .inv .2) read ∙ front-more l p 0 there (a .out .now) room,
       ⊎-elim
-          (λ w. w .1 ∙ sym (every-take-fails f l p 0 there (ap f (sym read) ∙ ap not (eq-eqb (byte (a .best .now) p) (a .columns) (w .0 .taken)))))
-          (λ w. w .1 ∙ b .loop .inv .3 ∙ sym (every-take-more f l p 0 there (ap f (sym read) ∙ ap not (ne-eqb (byte (a .best .now) p) (a .columns) (w .0 .left)))))
+          (λ w. w .1 ∙ sym (every-take-fails l p 0 there f (ap f (sym read) ∙ ap not (eq-eqb (byte (a .best .now) p) (a .columns) (w .0 .taken)))))
+          (λ w. w .1 ∙ b .loop .inv .3 ∙ sym (every-take-more l p 0 there f (ap f (sym read) ∙ ap not (ne-eqb (byte (a .best .now) p) (a .columns) (w .0 .left)))))
           (c .if1 .came),
     )
 
