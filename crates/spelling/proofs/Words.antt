@@ -1,16 +1,13 @@
 -- A word's letters: which code point each has, and the word in the room that it is found in and in the output.
-use Prim.Native.Nat.{ℕ, zero, suc, _+_, _*_, _-_, _/_, _<_, _≤_}
-use native.Mathlib.Numerals.{add-one}
+use Prim.Native.Nat.{ℕ, zero, suc, _*_, _-_, _/_, _<_, _≤_}
 use native.Mathlib.Omega.{arith}
-use mathlib.Core.Bool.{Bool, true, _&&_}
-use mathlib.Core.Path.{_≡_, refl, sym, ap, ap₂, _∙_}
+use mathlib.Core.Path.{_≡_, refl, ap, ap₂, _∙_}
 use mathlib.Core.List.{List, [], _∷_, _++_, map}
-use lib.ListN.{length, getD, set, take, drop, length-take, length-append}
-use lib.Seq.{take-all, take-at, take-suc, drop-cons, set-at, append-snoc}
-use Rattle.model.specs.Lists.{every, number, numbers}
+use lib.ListN.{length, getD, take, drop, length-take, length-append}
+use lib.Seq.{take-all, take-at}
+use Rattle.model.specs.Lists.{number, numbers}
 use Rattle.model.specs.Spelling.{letterSpelled, wordSpelled}
-use Rattle.model.proofs.Booleans.{right-true}
-use Rattle.model.proofs.Lists.{every-append, length-numbers, number-in}
+use Rattle.model.proofs.Lists.{length-numbers, number-in}
 use Rattle.model.proofs.Spelling.{length-spelled}
 
 getD-map : (f : ℕ → ℕ) (xs : List ℕ) (i : ℕ) → i < length xs → getD (map f xs) i 0 ≡ f (getD xs i 0)
