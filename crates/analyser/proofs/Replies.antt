@@ -12,15 +12,16 @@ use Rattle.model.specs.Blocks.{Header, header}
 use Rattle.model.specs.Query.{Request}
 use Rattle.model.specs.Refusals.{Verdict, accepted, refused, firstFailing, imageTests, imageVerdict, wordTests, ownTests, requestTests}
 use Rattle.model.specs.Rows.{Reply, rowCount, filled}
+use Rattle.model.specs.Demand.{replyRows}
 use Rattle.model.specs.Calls.{replyAfter, rowsAfter, requestVerdict, allReadings, listingReply, listingRows, afterListing}
 use Rattle.image.specs.Accepted.{Accepted}
 use Rattle.model.proofs.Tests.{tests-refused, tests-accepted}
 use Rattle.grammar.proofs.Verdicts.{accepted-image}
 use Rattle.filter.specs.Sieve.{MayBe}
-use Rattle.analyser.specs.Indexed.{Indexed}
+use Rattle.prepare.specs.Indexed.{Indexed}
 use Rattle.rows.specs.Offering.{offerAll}
 use Rattle.rows.specs.Fill.{put, replyFor}
-use Rattle.rows.proofs.Fill.{listed}
+use Rattle.rows.proofs.Fill.{listed, replyAfter-rows}
 
 -- what the code that reads an accepted image asks
 pub accepted-by : (image : List ℕ) (h : Header) → imageVerdict image ≡ accepted → h ≡ header image → Accepted image h
@@ -87,3 +88,8 @@ module _ (image : List ℕ) (request : Request) (before : List ℕ) where
         let r = by-verdict accepted (own-decides ∙ e) in
         let l = listed before (allReadings image request) after found p in
         (l .1 ∙ r .0, l .0 ∙ r .1)
+
+-- a reply has at most as many rows as the buffer
+pub listing-rows : (image : List ℕ) (request : Request) (rows : ℕ) → replyRows (listingReply image request rows) ≤ rows
+unfolding listingReply
+listing-rows image request rows = replyAfter-rows rows (requestVerdict image request) (allReadings image request)

@@ -1,3 +1,2 @@
 pub mod Request
-pub mod Indexed
 pub mod Tried

@@ -8,7 +8,7 @@ ghost use Rattle.model.specs.Calls.{listingReply, afterListing};
 ghost use Rattle.image.specs.Header.{headerOf};
 ghost use Rattle.rows.specs.Fill.{replyOf};
 ghost use Rattle.analyser.specs.Request.{requestOf};
-ghost use Rattle.analyser.specs.Indexed.{Indexed};
+ghost use Rattle.prepare.specs.Indexed.{Indexed};
 ghost use Rattle.analyser.specs.Tried.{TriedOf};
 use crate::request::Direction;
 use grammar::Verdict;

@@ -4,22 +4,15 @@ pub mod own;
 pub mod request;
 
 ghost use mathlib.Core.Path.{_≡_};
-ghost use mathlib.Core.List.{_++_};
-ghost use lib.ListN.{replicate};
-ghost use Rattle.model.specs.Lists.{below, flatMap};
-ghost use Rattle.model.specs.Blocks.{header};
 ghost use Rattle.model.specs.Query.{analysis, generation};
-ghost use Rattle.model.specs.Refusals.{accepted, imageVerdict};
+ghost use Rattle.model.specs.Refusals.{accepted};
 ghost use Rattle.model.specs.Rows.{rowCount};
 ghost use Rattle.model.specs.Calls.{listingReply, afterListing};
-ghost use Rattle.image.specs.Header.{headerOf};
-ghost use Rattle.image.specs.Index.{columnRow};
 ghost use Rattle.grammar.specs.Answers.{tablesVerdict};
 ghost use Rattle.rows.specs.Fill.{replyOf};
 ghost use Rattle.analyser.specs.Request.{requestOf};
 use crate::request::Direction;
 use grammar::Verdict;
-use image::Header;
 use rows::Reply;
 
 // All readings of a word, as rows in the lent buffer.
@@ -50,38 +43,18 @@ fn list(image: &[u8], d: Direction, asked: &[u8], out: &mut [u8]) -> Reply
     }
 }
 
-// The image's other tests, which keep the index's first rows.
+// The image's other tests, and of an accepted image the index, over which the listing is made.
 fn list_tabled(image: &[u8], d: Direction, asked: &[u8], out: &mut [u8]) -> Reply
     requires { ⌜ tablesVerdict (now image) ≡ accepted ⌝ }
     ensures reply { λ r. ⌜ replyOf r ≡ listingReply (now (image .entry)) (requestOf d (now (asked .entry))) (rowCount (now (out .entry))) ⌝ }
     ensures bytes { λ r. ⌜ now (out .exit) ≡ afterListing (now (image .entry)) (requestOf d (now (asked .entry))) (now (out .entry)) ⌝ }
 {
     let mut index = [0u8; 39424];
-    let verdict = grammar::check_columns(image, &mut index);
+    let had = prepare::for_few(image, &mut index);
+    let h = had.h;
+    let verdict = had.verdict;
     match verdict {
         Verdict::Refused(k) => Reply::Refused(k),
-        Verdict::Accepted => {
-            let h = image::read_header(image);
-            list_accepted(image, h, &mut index, d, asked, out)
-        }
+        Verdict::Accepted => crate::indexed::list(image, &index, h, d, asked, out),
     }
-}
-
-// `index` has the rows of columns, and is all 0 after them.
-fn list_accepted(
-    image: &[u8],
-    h: Header,
-    index: &mut [u8],
-    d: Direction,
-    asked: &[u8],
-    out: &mut [u8],
-) -> Reply
-    requires { ⌜ imageVerdict (now image) ≡ accepted ⌝ }
-    requires { ⌜ headerOf h ≡ header (now image) ⌝ }
-    requires { ⌜ now index ≡ flatMap (columnRow (now image)) (below 32) ++ replicate 31232 0 ⌝ }
-    ensures reply { λ r. ⌜ replyOf r ≡ listingReply (now (image .entry)) (requestOf d (now (asked .entry))) (rowCount (now (out .entry))) ⌝ }
-    ensures bytes { λ r. ⌜ now (out .exit) ≡ afterListing (now (image .entry)) (requestOf d (now (asked .entry))) (now (out .entry)) ⌝ }
-{
-    index::fill_index(image, h, index);
-    crate::indexed::list(image, index, h, d, asked, out)
 }

@@ -23,7 +23,7 @@ use Rattle.print.proofs.Text.{put-none, put-same, put-then}
 use Rattle.parse.specs.Fields.{Begun, lineAfter}
 use Rattle.answers.specs.declared.line.Answered.{Answered}
 use Rattle.answers.specs.declared.line.Answered.the-variants as answered
-use Rattle.answers.specs.OnceARun.{OnceARun}
+use Rattle.prepare.specs.Had.{Had}
 use Rattle.answers.specs.Answered.{WordAnswered, LineAnswered}
 use Rattle.answers.specs.Input.{begunAfter, bufferAfter, Grown, textAfter, lastText}
 
@@ -31,7 +31,7 @@ pub refused-not : (k : ℕ) → refused k ≡ accepted → ⊥
 refused-not k e = let z : _≡_ {A = ℕ} 0 1 = cc in omega arith
 
 -- of a refused image there is the verdict alone
-pub refused-once : {image index : List ℕ} {h : Header} {v : Verdict} (k : ℕ) → v ≡ refused k → refused k ≡ imageVerdict image → OnceARun image index h v
+pub refused-once : {image index : List ℕ} {h : Header} {v : Verdict} (k : ℕ) → v ≡ refused k → refused k ≡ imageVerdict image → Had image index h v
 refused-once k e f = record { verdict-is = e ∙ f; header-is = λ a. absurd (refused-not k (sym e ∙ a)); indexed = λ a. absurd (refused-not k (sym e ∙ a)) }
 
 -- a line over 255 bytes holds no word

@@ -1,3 +1,2 @@
-pub mod OnceARun
 pub mod Answered
 pub mod Input

@@ -7,10 +7,10 @@ ghost use Rattle.image.specs.Header.{headerOf};
 ghost use Rattle.grammar.specs.Answers.{verdictOf};
 ghost use Rattle.print.specs.Text.{Put};
 ghost use Rattle.parse.specs.Fields.{Begun};
-ghost use Rattle.answers.specs.OnceARun.{OnceARun};
+ghost use Rattle.prepare.specs.Had.{Had};
 ghost use Rattle.answers.specs.Input.{Grown, ByteRead, textAfter, lastText};
 use crate::line::Answered;
-use crate::run::Prepared;
+use prepare::Prepared;
 
 // How far the input is read: bytes of the line begun that are kept, and where the text ends.
 pub struct Reached {
@@ -36,7 +36,7 @@ fn read_byte(
     out: &mut [u8],
     from: Reached,
 ) -> Onward
-    requires { ⌜ OnceARun (now image) (now index) (headerOf (run .h)) (verdictOf (run .verdict)) ⌝ }
+    requires { ⌜ Had (now image) (now index) (headerOf (run .h)) (verdictOf (run .verdict)) ⌝ }
     requires { ⌜ (length (now line) ≡ 256) × (from .kept ≤ 256) ⌝ }
     requires { ⌜ (length (now word) ≡ 128) × (length (now rows) ≡ 7424) ⌝ }
     requires { ⌜ from .end + 22032 ≤ length (now out) ⌝ }
@@ -88,7 +88,7 @@ fn read_bytes(
     out: &mut [u8],
     from: Reached,
 ) -> Read
-    requires { ⌜ OnceARun (now image) (now index) (headerOf (run .h)) (verdictOf (run .verdict)) ⌝ }
+    requires { ⌜ Had (now image) (now index) (headerOf (run .h)) (verdictOf (run .verdict)) ⌝ }
     requires { ⌜ at ≤ length (now chunk) ⌝ }
     requires { ⌜ (length (now line) ≡ 256) × (from .kept ≤ 256) ⌝ }
     requires { ⌜ (length (now word) ≡ 128) × (length (now rows) ≡ 7424) ⌝ }
@@ -151,7 +151,7 @@ pub fn read_chunk(
     out: &mut [u8],
     from: Reached,
 ) -> Read
-    requires { ⌜ OnceARun (now image) (now index) (headerOf (run .h)) (verdictOf (run .verdict)) ⌝ }
+    requires { ⌜ Had (now image) (now index) (headerOf (run .h)) (verdictOf (run .verdict)) ⌝ }
     requires { ⌜ at ≤ length (now chunk) ⌝ }
     requires { ⌜ (length (now line) ≡ 256) × (from .kept ≤ 256) ⌝ }
     requires { ⌜ (22032 ≤ length (now out)) × (from .end ≤ length (now out)) ⌝ }
@@ -184,7 +184,7 @@ pub fn read_end(
     out: &mut [u8],
     kept: usize,
 ) -> usize
-    requires { ⌜ OnceARun (now image) (now index) (headerOf (run .h)) (verdictOf (run .verdict)) ⌝ }
+    requires { ⌜ Had (now image) (now index) (headerOf (run .h)) (verdictOf (run .verdict)) ⌝ }
     requires { ⌜ (length (now line) ≡ 256) × (kept ≤ 256) ⌝ }
     requires { ⌜ 22032 ≤ length (now out) ⌝ }
     ensures { λ r. ⌜ ((l : List ℕ) → Begun (now (line .entry)) kept l → Put (now (out .entry)) (now (out .exit)) 0 r (lastText (now (image .entry)) l)) × (r ≤ 22032) ⌝ }

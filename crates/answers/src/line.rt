@@ -6,11 +6,11 @@ ghost use Rattle.model.specs.Blocks.{header};
 ghost use Rattle.model.specs.Refusals.{accepted, imageVerdict};
 ghost use Rattle.model.specs.Demand.{replyRows};
 ghost use Rattle.image.specs.Header.{headerOf};
-ghost use Rattle.analyser.specs.Indexed.{Indexed};
+ghost use Rattle.prepare.specs.Indexed.{Indexed};
 ghost use Rattle.analyser.specs.Tried.{TriedOf};
 ghost use Rattle.grammar.specs.Answers.{verdictOf};
 ghost use Rattle.rows.specs.Fill.{replyOf};
-ghost use Rattle.answers.specs.OnceARun.{OnceARun};
+ghost use Rattle.prepare.specs.Had.{Had};
 ghost use Rattle.answers.specs.Answered.{WordAnswered, LineAnswered};
 use analyser::indexed::Tried;
 use grammar::Verdict;
@@ -96,7 +96,7 @@ pub fn answer(
     out: &mut [u8],
     at: usize,
 ) -> Answered
-    requires { ⌜ OnceARun (now image) (now index) (headerOf h) (verdictOf verdict) ⌝ }
+    requires { ⌜ Had (now image) (now index) (headerOf h) (verdictOf verdict) ⌝ }
     requires { ⌜ (length (now word) ≡ 128) × (length (now rows) ≡ 7424) ⌝ }
     requires { ⌜ at + 22032 ≤ length (now out) ⌝ }
     ensures { λ r. ⌜ LineAnswered (now (image .entry)) (now (out .entry)) (now (out .exit)) at (now (line .entry)) r ⌝ }

@@ -1,4 +1,4 @@
--- What the numbers and the copied letters take: a listing has few rows; a form's letters, by its reply.
+-- What the copied letters take: a form's letters, by its reply.
 use Prim.Native.Nat.{ℕ, _<_, _≤_}
 use native.Mathlib.Omega.{arith}
 use mathlib.Core.Path.{_≡_, refl, ap, _∙_}
@@ -6,18 +6,10 @@ use mathlib.Core.List.{List, _++_}
 use lib.ListN.{length, drop}
 use lib.Dec.{leb}
 use borrow.Author.Tests.{le-leb, lt-leb}
-use Rattle.model.specs.Query.{Request}
-use Rattle.model.specs.Demand.{replyRows}
-use Rattle.model.specs.Calls.{requestVerdict, allReadings, listingReply}
 use Rattle.model.specs.Beside.{formReply, viewed}
 use Rattle.model.specs.Beside as beside
-use Rattle.rows.proofs.Fill.{replyAfter-rows}
 use Rattle.grammar.proofs.Verdicts.{view-agrees}
 use Rattle.headwords.specs.Numbers.{afterForm}
-
-pub listing-rows : (image : List ℕ) (request : Request) (rows : ℕ) → replyRows (listingReply image request rows) ≤ rows
-unfolding listingReply
-listing-rows image request rows = replyAfter-rows rows (requestVerdict image request) (allReadings image request)
 
 -- the form's reply and bytes: refused, no room, room
 module _ (image : List ℕ) (e : ℕ) (out : List ℕ) where

@@ -5,10 +5,10 @@ ghost use Prim.Native.Nat.{ℕ};
 ghost use lib.ListN.{length};
 ghost use Rattle.image.specs.Header.{headerOf};
 ghost use Rattle.grammar.specs.Answers.{verdictOf};
-ghost use Rattle.answers.specs.OnceARun.{OnceARun};
+ghost use Rattle.prepare.specs.Had.{Had};
 ghost use Rattle.lines.specs.Sofar.{Rooms, Within, Stepped, Ended};
 use answers::input::Reached;
-use answers::run::Prepared;
+use prepare::Prepared;
 use moving::Count;
 use moving::Given;
 use moving::Taken;
@@ -40,7 +40,7 @@ fn answer_part(
     out: &mut [u8],
     s: Stand,
 ) -> Step
-    requires { ⌜ OnceARun (now image) (now index) (headerOf (run .h)) (verdictOf (run .verdict)) ⌝ }
+    requires { ⌜ Had (now image) (now index) (headerOf (run .h)) (verdictOf (run .verdict)) ⌝ }
     requires { ⌜ (length (now chunk) ≡ 65536) × Rooms (now line) (now out) ⌝ }
     requires { ⌜ Within s ⌝ }
     ensures { λ r. ⌜ Stepped (now (image .entry)) (now (chunk .entry)) (now (chunk .entry)) (now (line .entry)) (now (line .exit)) (now (out .exit)) s r ⌝ }
@@ -78,7 +78,7 @@ fn answer_last(
     out: &mut [u8],
     s: Stand,
 ) -> Step
-    requires { ⌜ OnceARun (now image) (now index) (headerOf (run .h)) (verdictOf (run .verdict)) ⌝ }
+    requires { ⌜ Had (now image) (now index) (headerOf (run .h)) (verdictOf (run .verdict)) ⌝ }
     requires { ⌜ Rooms (now line) (now out) ⌝ }
     requires { ⌜ Within s × (s .at ≡ s .n) ⌝ }
     ensures { λ r. ⌜ ((chunk chunk′ : List ℕ) → Stepped (now (image .entry)) chunk chunk′ (now (line .entry)) (now (line .entry)) (now (out .exit)) s r) ⌝ }
@@ -102,7 +102,7 @@ fn take_chunk(
     out: &mut [u8],
     s: Stand,
 ) -> Step
-    requires { ⌜ OnceARun (now image) (now index) (headerOf (run .h)) (verdictOf (run .verdict)) ⌝ }
+    requires { ⌜ Had (now image) (now index) (headerOf (run .h)) (verdictOf (run .verdict)) ⌝ }
     requires { ⌜ (length (now chunk) ≡ 65536) × Rooms (now line) (now out) ⌝ }
     requires { ⌜ Within s × (s .at ≡ s .n) ⌝ }
     ensures { λ r. ⌜ Stepped (now (image .entry)) (now (chunk .entry)) (now (chunk .exit)) (now (line .entry)) (now (line .entry)) (now (out .exit)) s r ⌝ }
@@ -135,7 +135,7 @@ fn turn(
     out: &mut [u8],
     s: Stand,
 ) -> Step
-    requires { ⌜ OnceARun (now image) (now index) (headerOf (run .h)) (verdictOf (run .verdict)) ⌝ }
+    requires { ⌜ Had (now image) (now index) (headerOf (run .h)) (verdictOf (run .verdict)) ⌝ }
     requires { ⌜ (length (now chunk) ≡ 65536) × Rooms (now line) (now out) ⌝ }
     requires { ⌜ Within s ⌝ }
     ensures { λ r. ⌜ Stepped (now (image .entry)) (now (chunk .entry)) (now (chunk .exit)) (now (line .entry)) (now (line .exit)) (now (out .exit)) s r ⌝ }
@@ -163,7 +163,7 @@ fn answer_input(
     line: &mut [u8],
     out: &mut [u8],
 ) -> Ending
-    requires { ⌜ OnceARun (now image) (now index) (headerOf (run .h)) (verdictOf (run .verdict)) ⌝ }
+    requires { ⌜ Had (now image) (now index) (headerOf (run .h)) (verdictOf (run .verdict)) ⌝ }
     requires { ⌜ (length (now chunk) ≡ 65536) × Rooms (now line) (now out) ⌝ }
     ensures { λ r. ⌜ Ended (now (image .entry)) r ⌝ }
 {
@@ -198,7 +198,7 @@ fn main() {
     let mut image = [0u8; 65537];
     let n = moving::load_image(&mut image);
     let mut index = [0u8; 186112];
-    let run = answers::run::prepare(&image[..n], &mut index);
+    let run = prepare::for_run(&image[..n], &mut index);
     let mut chunk = [0u8; 65536];
     let mut line = [0u8; 256];
     let mut out = [0u8; 65536];

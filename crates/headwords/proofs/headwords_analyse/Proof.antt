@@ -5,7 +5,7 @@ use mathlib.Core.Path.{ap, _∙_}
 use Rattle.model.specs.Query.{analysis}
 use Rattle.model.specs.Rows.{rowCount, replyNumber}
 use Rattle.model.specs.Demand.{replyRows}
-use Rattle.headwords.proofs.Replies.{listing-rows}
+use Rattle.analyser.proofs.Replies.{listing-rows}
 use Rattle.headwords.proofs.headwords_analyse.Statement.{statement}
 use Rattle.headwords.proofs.headwords_analyse.Tie as tie
 

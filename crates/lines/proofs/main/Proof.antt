@@ -13,14 +13,14 @@ load-image-requires c κs = refl
 array-share-prefix-image : tie.Need-array-share-prefix-image
 array-share-prefix-image c = search needs
 
-slice-aggregate-prepare : tie.Need-slice-aggregate-prepare
-slice-aggregate-prepare c = search needs
+slice-aggregate-for-run : tie.Need-slice-aggregate-for-run
+slice-aggregate-for-run c = search needs
 
-slice-aggregate-prepare-2 : tie.Need-slice-aggregate-prepare-2
-slice-aggregate-prepare-2 c = search needs
+slice-aggregate-for-run-2 : tie.Need-slice-aggregate-for-run-2
+slice-aggregate-for-run-2 c = search needs
 
-prepare-requires : tie.Need-prepare-requires
-prepare-requires c κs = search needs
+for-run-requires : tie.Need-for-run-requires
+for-run-requires c κs = search needs
 
 array-share-prefix-image-2 : tie.Need-array-share-prefix-image-2
 array-share-prefix-image-2 c = search needs
@@ -41,7 +41,7 @@ slice-aggregate-answer-input-5 : tie.Need-slice-aggregate-answer-input-5
 slice-aggregate-answer-input-5 c = search needs
 
 answer-input-requires : tie.Need-answer-input-requires
-answer-input-requires c κs = (c .before .before .before .before .before .before .prepare .ensures .0, (refl, record { line-long = refl; out-long = refl }))
+answer-input-requires c κs = (c .before .before .before .before .before .before .for-run .ensures .0, (refl, record { line-long = refl; out-long = refl }))
 
 returns : tie.Need-returns
 returns c = search needs
@@ -53,9 +53,9 @@ main-spec =
     slice-aggregate-load-image
     load-image-requires
     array-share-prefix-image
-    slice-aggregate-prepare
-    slice-aggregate-prepare-2
-    prepare-requires
+    slice-aggregate-for-run
+    slice-aggregate-for-run-2
+    for-run-requires
     array-share-prefix-image-2
     slice-aggregate-answer-input
     slice-aggregate-answer-input-2

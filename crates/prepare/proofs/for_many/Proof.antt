@@ -1,4 +1,4 @@
--- `prepare_tabled` meets its contract: the other tests of the image, and then the index, filled or cleared.
+-- `for_many` meets its contract: the other tests of the image, and then the index, filled or cleared.
 use Prim.Native.Nat.{ℕ}
 use native.Mathlib.Omega.{arith}
 use borrow.Author.Needs.{needs}
@@ -12,9 +12,9 @@ use Rattle.image.specs.Accepted.{Accepted}
 use Rattle.grammar.specs.Answers.{verdictOf}
 use Rattle.grammar.proofs.Verdicts.{accepted-image, laid-some}
 use Rattle.index.proofs.Parts.{length-zeros, first-part, one-part}
-use Rattle.answers.proofs.Reading.{refused-not, refused-once}
-use Rattle.answers.proofs.run.prepare_tabled.Statement.{statement}
-use Rattle.answers.proofs.run.prepare_tabled.Tie as tie
+use Rattle.prepare.proofs.Had.{refused-not, refused-had}
+use Rattle.prepare.proofs.for_many.Statement.{statement}
+use Rattle.prepare.proofs.for_many.Tie as tie
 
 -- the check leaves the length as it was
 same-long : (c : tie.After-check-columns) → let s = c .before .before .before .before in length (putMid 0 39424 (s .args .index .now) (c .check-columns .last .1 .0)) ≡ length (s .args .index .now)
@@ -75,7 +75,7 @@ returns : tie.Need-returns
 returns c =
     let cleared = c .before .before .before in
     let told = cleared .before .before .before in
-    (refused-once (told .verdict .given .0 .0) (c .refused-with .ensures) (sym (ap verdictOf (told .verdict .given .1)) ∙ told .before .before .before .before .check-columns .ensures .0), λ k e. restored cleared)
+    (refused-had (told .verdict .given .0 .0) (c .refused-with .ensures) (sym (ap verdictOf (told .verdict .given .1)) ∙ told .before .before .before .before .check-columns .ensures .0), λ k e. restored cleared)
 
 same-length-2 : tie.Need-same-length-2
 same-length-2 c = c .before .before .fill .kept .1 .1 .0 ∙ same-long (c .before .before .before .before .before .before .before .before .before)
@@ -85,8 +85,8 @@ returns-2 c =
     let told = c .before .before .before .before .before in
     (record { verdict-is = sym (passed told); header-is = λ e. c .before .before .before .before .read-header .ensures; indexed = λ e. c .before .before .fill .ensures }, λ k e. absurd (refused-not k (sym e)))
 
-pub prepare-tabled-spec : {M : Type 1} → statement M
-prepare-tabled-spec =
+pub for-many-spec : {M : Type 1} → statement M
+for-many-spec =
     tie.close
     (tie.spec
     sub-check-columns

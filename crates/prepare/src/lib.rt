@@ -1,4 +1,4 @@
-// What the line program has once a run: the verdict on the image, and of an accepted one the header and the index.
+// What is had of an image before anything is asked of it: the verdict, and of an accepted image the header and the index. Who asks much has the index of forms too.
 ghost use mathlib.Core.Path.{_≡_};
 ghost use mathlib.Core.List.{_++_};
 ghost use Prim.Native.Nat.{ℕ};
@@ -8,9 +8,9 @@ ghost use Rattle.model.specs.Refusals.{accepted, refused};
 ghost use Rattle.image.specs.Header.{headerOf};
 ghost use Rattle.image.specs.Accepted.{Accepted};
 ghost use Rattle.image.specs.Index.{columnRow};
-ghost use Rattle.analyser.specs.Indexed.{Indexed};
+ghost use Rattle.prepare.specs.Indexed.{Indexed};
 ghost use Rattle.grammar.specs.Answers.{verdictOf, tablesVerdict};
-ghost use Rattle.answers.specs.OnceARun.{OnceARun};
+ghost use Rattle.prepare.specs.Had.{Had};
 use grammar::Verdict;
 use image::Header;
 
@@ -59,24 +59,31 @@ fn refused_with(k: u8) -> Prepared
     }
 }
 
-// The image check, and of an accepted image the header and the larger index. `index` is all 0 before, and after a refusal; tests 1 to 6 leave it alone.
-pub fn prepare(image: &[u8], index: &mut [u8]) -> Prepared
-    requires { ⌜ now index ≡ replicate 186112 0 ⌝ }
-    ensures had { λ r. ⌜ OnceARun (now (image .entry)) (now (index .exit)) (headerOf (r .h)) (verdictOf (r .verdict)) ⌝ }
-    ensures kept { λ r. ⌜ ((k : ℕ) → verdictOf (r .verdict) ≡ refused k → now (index .exit) ≡ now (index .entry)) ⌝ }
+// The tests of the image that are left after 1 to 6, and of an accepted image the header and the index alone. `index` is all 0 before.
+pub fn for_few(image: &[u8], index: &mut [u8]) -> Prepared
+    requires { ⌜ tablesVerdict (now image) ≡ accepted ⌝ }
+    requires { ⌜ now index ≡ replicate 39424 0 ⌝ }
+    ensures { λ r. ⌜ Had (now (image .entry)) (now (index .exit)) (headerOf (r .h)) (verdictOf (r .verdict)) ⌝ }
 {
-    let early = grammar::check_tables(image);
-    match early {
+    let verdict = grammar::check_columns(image, index);
+    match verdict {
         Verdict::Refused(k) => refused_with(k),
-        Verdict::Accepted => prepare_tabled(image, index),
+        Verdict::Accepted => {
+            let h = image::read_header(image);
+            index::fill_index(image, h, index);
+            Prepared {
+                verdict: Verdict::Accepted,
+                h: h,
+            }
+        }
     }
 }
 
-// The image's other tests, which write to the index: after a refusal it is cleared.
-fn prepare_tabled(image: &[u8], index: &mut [u8]) -> Prepared
+// The same with the larger index, which is cleared after a refusal.
+pub fn for_many(image: &[u8], index: &mut [u8]) -> Prepared
     requires { ⌜ tablesVerdict (now image) ≡ accepted ⌝ }
     requires { ⌜ now index ≡ replicate 186112 0 ⌝ }
-    ensures had { λ r. ⌜ OnceARun (now (image .entry)) (now (index .exit)) (headerOf (r .h)) (verdictOf (r .verdict)) ⌝ }
+    ensures had { λ r. ⌜ Had (now (image .entry)) (now (index .exit)) (headerOf (r .h)) (verdictOf (r .verdict)) ⌝ }
     ensures kept { λ r. ⌜ ((k : ℕ) → verdictOf (r .verdict) ≡ refused k → now (index .exit) ≡ now (index .entry)) ⌝ }
 {
     let verdict = grammar::check_columns(image, &mut index[0..39424]);
@@ -93,5 +100,18 @@ fn prepare_tabled(image: &[u8], index: &mut [u8]) -> Prepared
                 h: h,
             }
         }
+    }
+}
+
+// The whole image check, and the larger index. `index` is all 0 before, and after a refusal; tests 1 to 6 leave it alone.
+pub fn for_run(image: &[u8], index: &mut [u8]) -> Prepared
+    requires { ⌜ now index ≡ replicate 186112 0 ⌝ }
+    ensures had { λ r. ⌜ Had (now (image .entry)) (now (index .exit)) (headerOf (r .h)) (verdictOf (r .verdict)) ⌝ }
+    ensures kept { λ r. ⌜ ((k : ℕ) → verdictOf (r .verdict) ≡ refused k → now (index .exit) ≡ now (index .entry)) ⌝ }
+{
+    let early = grammar::check_tables(image);
+    match early {
+        Verdict::Refused(k) => refused_with(k),
+        Verdict::Accepted => for_many(image, index),
     }
 }

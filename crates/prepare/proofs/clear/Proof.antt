@@ -6,8 +6,8 @@ use mathlib.Core.Path.{_≡_, refl, ap, ap₂, _∙_}
 use mathlib.Core.List.{List, [], _∷_}
 use lib.ListN.{length, getD, replicate}
 use Rattle.forms.proofs.Stores.{zeros-more}
-use Rattle.answers.proofs.run.clear.Statement.{statement}
-use Rattle.answers.proofs.run.clear.Tie as tie
+use Rattle.prepare.proofs.clear.Statement.{statement}
+use Rattle.prepare.proofs.clear.Tie as tie
 
 all-zeros : (l : List ℕ) → ((i : ℕ) → i < length l → getD l i 0 ≡ 0) → l ≡ replicate (length l) 0
 all-zeros [] f = refl

@@ -14,9 +14,9 @@ use Rattle.tables.proofs.Rows.{columns-part}
 use Rattle.index.proofs.Laws.{length-indexOf}
 use Rattle.index.proofs.Parts.{length-bytes, last-filled}
 use Rattle.forms.specs.Forms.{FormsOf}
-use Rattle.analyser.specs.Indexed.{Indexed}
-use Rattle.answers.proofs.run.fill.Statement.{statement}
-use Rattle.answers.proofs.run.fill.Tie as tie
+use Rattle.prepare.specs.Indexed.{Indexed}
+use Rattle.prepare.proofs.fill.Statement.{statement}
+use Rattle.prepare.proofs.fill.Tie as tie
 
 joined : {image index forms : List ℕ} → index ≡ indexOf image → length index ≡ 39424 → FormsOf image forms → Indexed image (index ++ forms)
 joined {image} {index} {forms} e long f = record {
