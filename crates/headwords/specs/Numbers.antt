@@ -7,6 +7,7 @@ use Rattle.model.specs.Lists.{whereRoom}
 use Rattle.model.specs.Refusals.{Verdict}
 use Rattle.model.specs.Calls.{Sealing}
 use Rattle.model.specs.Beside.{Judgement, FormReply, Spelling}
+use Rattle.many.specs.Words.{ManyReply}
 
 abbrev pub refusedNumber : ℕ → ℕ
 refusedNumber k = 4 * k + 3
@@ -36,3 +37,8 @@ afterForm form buffer = whereRoom form buffer
 abbrev pub spellingNumber : Spelling → ℕ
 spellingNumber (Spelling.letters n) = 4 * n + 1
 spellingNumber (Spelling.refused k) = refusedNumber k
+
+-- "otherwise the reply is 4n + 1"
+abbrev pub manyNumber : ManyReply → ℕ
+manyNumber (ManyReply.words n) = 4 * n + 1
+manyNumber (ManyReply.refused k) = refusedNumber k

@@ -6,11 +6,13 @@ ghost use Rattle.model.specs.Refusals.{imageVerdict};
 ghost use Rattle.model.specs.Rows.{rowCount, replyNumber};
 ghost use Rattle.model.specs.Calls.{sealingReply, afterSealing, listingReply, afterListing};
 ghost use Rattle.model.specs.Beside.{judged, formReply, viewed, spellingReply, afterSpelling};
-ghost use Rattle.headwords.specs.Numbers.{refusedNumber, verdictNumber, sealingNumber, judgementNumber, formNumber, afterForm, spellingNumber};
+ghost use Rattle.many.specs.Words.{manyReply, afterReplies, afterRows};
+ghost use Rattle.headwords.specs.Numbers.{refusedNumber, verdictNumber, sealingNumber, judgementNumber, formNumber, afterForm, spellingNumber, manyNumber};
 use grammar::FormReply;
 use grammar::Verdict;
 use image::seal::Sealing;
 use judge::Judgement;
+use many::Many;
 use spelling::Spelling;
 
 #[no_mangle]
@@ -19,6 +21,23 @@ pub extern "C" fn headwords_analyse(image: &[u8], word: &[u8], out: &mut [u8]) -
     ensures bytes { λ _. ⌜ now (out .exit) ≡ afterListing (now (image .entry)) (analysis (now (word .entry))) (now (out .entry)) ⌝ }
 {
     rows::reply_number(analyser::analyse(image, word, out))
+}
+
+#[no_mangle]
+pub extern "C" fn headwords_analyse_words(
+    image: &[u8],
+    words: &[u8],
+    replies: &mut [u8],
+    out: &mut [u8],
+) -> u64
+    ensures reply { λ r. ⌜ r ≡ manyNumber (manyReply (now (image .entry)) (now (words .entry)) (now (replies .entry))) ⌝ }
+    ensures replies { λ _. ⌜ now (replies .exit) ≡ afterReplies (now (image .entry)) (now (words .entry)) (now (replies .entry)) (now (out .entry)) ⌝ }
+    ensures rows { λ _. ⌜ now (out .exit) ≡ afterRows (now (image .entry)) (now (words .entry)) (now (replies .entry)) (now (out .entry)) ⌝ }
+{
+    match many::analyse_words(image, words, replies, out) {
+        Many::Words(n) => 4 * (n as u64) + 1,
+        Many::Refused(k) => refusal(k),
+    }
 }
 
 #[no_mangle]

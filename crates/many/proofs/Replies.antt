@@ -6,6 +6,7 @@ use mathlib.Core.Path.{_≡_, refl, sym, ap, _∙_}
 use mathlib.Core.List.{List}
 use lib.ListN.{length, drop}
 use Rattle.model.specs.Refusals.{Verdict, accepted, refused, imageVerdict}
+use Rattle.model.proofs.Tests.{clash}
 use Rattle.many.specs.Words.{ManyReply, placeAt, shareAt, laidOver, manyAfter, bytesAfter, wordsAsked, shareRows, manyReply, afterReplies, afterRows}
 
 module _ (image words replies rows : List ℕ) where
@@ -46,3 +47,16 @@ module _ (image words replies rows : List ℕ) where
 -- as many words as both have room for
 pub count-inside : (words replies : ℕ) → (33 * min (words / 33) (replies / 8) ≤ words) × (8 * min (words / 33) (replies / 8) ≤ replies)
 count-inside words replies = (omega arith, omega arith)
+
+-- where words are answered, every test of the image has passed, and there are as many as both have room for
+module _ (image words replies : List ℕ) (n : ℕ) (replied : manyReply image words replies ≡ ManyReply.words n) where
+  pub answered-when : (imageVerdict image ≡ accepted) × (n ≡ wordsAsked image words replies)
+  unfolding manyReply
+  answered-when = go (imageVerdict image) refl replied
+    where
+      go : (v : Verdict) → imageVerdict image ≡ v → manyAfter v (wordsAsked image words replies) ≡ ManyReply.words n → (imageVerdict image ≡ accepted) × (n ≡ wordsAsked image words replies)
+      go Verdict.accepted e f = (e, cc)
+      go (Verdict.refused k) e f = clash (cc)
+
+  pub answered-few : 8 * n ≤ length replies
+  answered-few = omega (arith, count-inside (length words) (length replies) .1, answered-when .1)
