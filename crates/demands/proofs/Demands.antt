@@ -40,26 +40,32 @@ use Rattle.grammar.proofs.form_reply.Reads as form-reply
 use Rattle.grammar.proofs.form_view.Reads as form-view
 use Rattle.judge.proofs.judge.Reads as judge
 use Rattle.spelling.proofs.spell.Reads as spell
+use Rattle.many.specs.Words.{ManyReply, wordsAsked}
+use Rattle.many.specs.Answers.{manyOf}
+use Rattle.many.proofs.analyse_words.Reads as analyse-words
 use Rattle.headwords.proofs.headwords_analyse.Reads as headwords-analyse
+use Rattle.headwords.proofs.headwords_analyse_words.Reads as headwords-analyse-words
 use Rattle.headwords.proofs.headwords_generate.Reads as headwords-generate
 use Rattle.headwords.proofs.headwords_check.Reads as headwords-check
 use Rattle.headwords.proofs.headwords_seal.Reads as headwords-seal
 use Rattle.headwords.proofs.headwords_judge.Reads as headwords-judge
 use Rattle.headwords.proofs.headwords_form.Reads as headwords-form
 use Rattle.headwords.proofs.headwords_spell.Reads as headwords-spell
-use Rattle.headwords.specs.Numbers.{verdictNumber, sealingNumber, judgementNumber, formNumber, spellingNumber}
+use Rattle.headwords.specs.Numbers.{verdictNumber, sealingNumber, judgementNumber, formNumber, spellingNumber, manyNumber}
 use Rattle.print.proofs.Small.{Small}
-use Rattle.demands.specs.Words.{inTable, FirstFails, Coding, Judged, JudgedNumber, formLetters, FormCopied, SpelledOut, Asks, pathBytes}
+use Rattle.demands.specs.Words.{inTable, FirstFails, Coding, Judged, JudgedNumber, formLetters, FormCopied, SpelledOut, wordAt, shareOf, WordsAnswered, AmongWords, Asks, pathBytes}
 use Rattle.demands.proofs.Ends.{Ends, each-ends}
 use Rattle.demands.proofs.Refusing.{InTable, fails-first, Case, either-of, not-both-of, by-first, by-table, unchanged-of}
 use Rattle.demands.proofs.Calls as calls
 use Rattle.demands.proofs.Calls.{Promised}
 use Rattle.demands.proofs.Numbers as numbers
 use Rattle.demands.proofs.Spelled.{word-handed, analysis-taken}
+use Rattle.demands.proofs.Many.{words-case, many-coding, words-number-case, among-promised}
 use Rattle.demands.proofs.Given.{reading-path, reading-forms, reading-tables, row-given}
 use Rattle.demands.proofs.BothWays.{word-taken, path-taken, both-taken, image-accepted, rows-converse, readings-converse, path-in-row}
 
--- A listing: what one of the four calls that list may reply and leave, by the image, what is asked, and the lent buffer before and after it.
+-- A listing: what one of the calls that list may reply and leave, by the image, what is asked, and the lent buffer before and after it. Each word of a call of
+-- many words is one, unless its length byte is over 32: its buffer is its share of the rows, its reply what stands at its place.
 -- In C the reply is the one that the number stands for; no two have one number (`codings`).
 pub data Listing : List ℕ → Request → List ℕ → List ℕ → Reply → Type 1 where
   by-analyse : (κs : _) (a : _) (r : _) (s : _) → analyse.Post κs a r s → Listing (a .0 .now) (analysis (a .1 .0 .now)) (a .1 .1 .0 .now) (s .1 .1 .0 .now) (replyOf r)
@@ -69,12 +75,22 @@ pub data Listing : List ℕ → Request → List ℕ → List ℕ → Reply → 
   in-C-generate : (κs : _) (a : _) (r : _) (s : _) (reply : Reply) → headwords-generate.Post κs a r s → r ≡ replyNumber reply
       → Listing (a .0 .now) (generation (a .1 .0 .now)) (a .1 .1 .0 .now) (s .1 .1 .0 .now) reply
 
--- what all four promise
+  among-words : (κs : _) (a : _) (r : _) (s : _) (n i : ℕ) (reply : Reply) → analyse-words.Post κs a r s → manyOf r ≡ ManyReply.words n
+      → AmongWords (a .1 .0 .now) (a .1 .1 .1 .0 .now) (s .1 .1 .0 .now) n i reply
+      → Listing (a .0 .now) (analysis (wordAt (a .1 .0 .now) i)) (shareOf (a .0 .now) (a .1 .0 .now) (a .1 .1 .0 .now) (a .1 .1 .1 .0 .now) (a .1 .1 .1 .0 .now) i) (shareOf (a .0 .now) (a .1 .0 .now) (a .1 .1 .0 .now) (a .1 .1 .1 .0 .now) (s .1 .1 .1 .0 .now) i) reply
+  in-C-among-words : (κs : _) (a : _) (r : _) (s : _) (n i : ℕ) (reply : Reply) → headwords-analyse-words.Post κs a r s → r ≡ 4 * n + 1
+      → AmongWords (a .1 .0 .now) (a .1 .1 .1 .0 .now) (s .1 .1 .0 .now) n i reply
+      → Listing (a .0 .now) (analysis (wordAt (a .1 .0 .now) i)) (shareOf (a .0 .now) (a .1 .0 .now) (a .1 .1 .0 .now) (a .1 .1 .1 .0 .now) (a .1 .1 .1 .0 .now) i) (shareOf (a .0 .now) (a .1 .0 .now) (a .1 .1 .0 .now) (a .1 .1 .1 .0 .now) (s .1 .1 .1 .0 .now) i) reply
+
+-- what all of them promise
 promise : {image : List ℕ} {request : Request} {before after : List ℕ} {reply : Reply} → Listing image request before after reply → Promised image request before after reply
 promise (by-analyse κs a r s p) = record { replies = p .0; leaves = p .1 }
 promise (by-generate κs a r s p) = record { replies = p .0; leaves = p .1 }
 promise (in-C-analyse κs a r s reply p e) = record { replies = numbers.listing-coding .apart reply _ (sym e ∙ p .0); leaves = p .1 }
 promise (in-C-generate κs a r s reply p e) = record { replies = numbers.listing-coding .apart reply _ (sym e ∙ p .0); leaves = p .1 }
+promise (among-words κs a r s n i reply p e w) = among-promised (a .0 .now) (a .1 .0 .now) (a .1 .1 .0 .now) (a .1 .1 .1 .0 .now) (s .1 .1 .0 .now) (s .1 .1 .1 .0 .now) n i reply (sym (p .0) ∙ e) (p .1 .0) (p .1 .1) w
+promise (in-C-among-words κs a r s n i reply p e w) =
+    among-promised (a .0 .now) (a .1 .0 .now) (a .1 .1 .0 .now) (a .1 .1 .1 .0 .now) (s .1 .1 .0 .now) (s .1 .1 .1 .0 .now) n i reply (many-coding .apart _ (ManyReply.words n) (sym (p .0) ∙ e)) (p .1 .0) (p .1 .1) w
 
 -- DEMAND 1
 
@@ -88,6 +104,7 @@ pub takes-every :
     × ((κs : _) (a : _) → form-view.Asked κs a)
     × ((κs : _) (a : _) → judge.Asked κs a)
     × ((κs : _) (a : _) → spell.Asked κs a)
+    × ((κs : _) (a : _) → analyse-words.Asked κs a)
     × ((κs : _) (a : _) → headwords-analyse.Asked κs a)
     × ((κs : _) (a : _) → headwords-generate.Asked κs a)
     × ((κs : _) (a : _) → headwords-seal.Asked κs a)
@@ -95,9 +112,10 @@ pub takes-every :
     × ((κs : _) (a : _) → headwords-judge.Asked κs a)
     × ((κs : _) (a : _) → headwords-form.Asked κs a)
     × ((κs : _) (a : _) → headwords-spell.Asked κs a)
-takes-every = (λ κs a. tt, λ κs a. tt, λ κs a. tt, λ κs a. tt, λ κs a. tt, λ κs a. tt, λ κs a. tt, λ κs a. tt, λ κs a. tt, λ κs a. tt, λ κs a. tt, λ κs a. tt, λ κs a. tt, λ κs a. tt, λ κs a. tt)
+    × ((κs : _) (a : _) → headwords-analyse-words.Asked κs a)
+takes-every = (λ κs a. tt, λ κs a. tt, λ κs a. tt, λ κs a. tt, λ κs a. tt, λ κs a. tt, λ κs a. tt, λ κs a. tt, λ κs a. tt, λ κs a. tt, λ κs a. tt, λ κs a. tt, λ κs a. tt, λ κs a. tt, λ κs a. tt, λ κs a. tt, λ κs a. tt)
 
--- "ends": each of the fifteen returns, from whatever it is lent.
+-- "ends": each of the seventeen returns, from whatever it is lent.
 pub ends : {M : Type 1} → Ends M
 ends = each-ends
 
@@ -178,6 +196,13 @@ pub demand1-spell : (κs : _) (a : _) (r : _) (s : _) → spell.Post κs a r s
 demand1-spell κs a r s p =
     demand1 (calls.spelling-table (a .0 .now) (a .1 .0 .now) (length (a .1 .1 .0 .now))) (calls.spelling-case (a .0 .now) (a .1 .0 .now) (a .1 .1 .0 .now) (s .1 .1 .0 .now) (spellingOf r) (p .0) (p .1))
 
+-- many words: the image's tests alone; what each word is refused for stands at its place
+pub demand1-analyse-words : (κs : _) (a : _) (r : _) (s : _) → analyse-words.Post κs a r s
+    → let image = a .0 .now in let words = a .1 .0 .now in let replies = a .1 .1 .0 .now in let rows = a .1 .1 .1 .0 .now in let places = s .1 .1 .0 .now in let shares = s .1 .1 .1 .0 .now in
+    Demand1 (imageTests image) (λ k. manyOf r ≡ ManyReply.refused k) ((places ≡ replies) × (shares ≡ rows)) ((manyOf r ≡ ManyReply.words (wordsAsked image words replies)) × WordsAnswered image words replies rows places shares)
+demand1-analyse-words κs a r s p =
+    demand1 (calls.check-table (a .0 .now)) (words-case (a .0 .now) (a .1 .0 .now) (a .1 .1 .0 .now) (a .1 .1 .1 .0 .now) (s .1 .1 .0 .now) (s .1 .1 .1 .0 .now) (manyOf r) (p .0) (p .1 .0) (p .1 .1))
+
 -- The calls from C. Their coding loses nothing: no two replies have one number, and 4k + 3 is refused k alone.
 pub codings :
     Coding replyNumber Reply.refused
@@ -186,7 +211,8 @@ pub codings :
     × Coding judgementNumber Judgement.refused
     × ((room : ℕ) → Coding (formNumber room) FormReply.refused)
     × Coding spellingNumber Spelling.refused
-codings = (numbers.listing-coding, numbers.sealing-coding, numbers.check-coding, numbers.judge-coding, numbers.form-coding, numbers.spelling-coding)
+    × Coding manyNumber ManyReply.refused
+codings = (numbers.listing-coding, numbers.sealing-coding, numbers.check-coding, numbers.judge-coding, numbers.form-coding, numbers.spelling-coding, many-coding)
 
 pub demand1-headwords-analyse : (κs : _) (a : _) (r : _) (s : _) → headwords-analyse.Post κs a r s
     → let image = a .0 .now in let request = analysis (a .1 .0 .now) in let before = a .1 .1 .0 .now in let after = s .1 .1 .0 .now in
@@ -227,8 +253,14 @@ pub demand1-headwords-spell : (κs : _) (a : _) (r : _) (s : _) → headwords-sp
 demand1-headwords-spell κs a r s p =
     demand1 (calls.spelling-table (a .0 .now) (a .1 .0 .now) (length (a .1 .1 .0 .now))) (numbers.spelling-number-case (a .0 .now) (a .1 .0 .now) (a .1 .1 .0 .now) (s .1 .1 .0 .now) r (p .0) (p .1))
 
+pub demand1-headwords-analyse-words : (κs : _) (a : _) (r : _) (s : _) → headwords-analyse-words.Post κs a r s
+    → let image = a .0 .now in let words = a .1 .0 .now in let replies = a .1 .1 .0 .now in let rows = a .1 .1 .1 .0 .now in let places = s .1 .1 .0 .now in let shares = s .1 .1 .1 .0 .now in
+    Demand1 (imageTests image) (λ k. r ≡ 4 * k + 3) ((places ≡ replies) × (shares ≡ rows)) ((r ≡ 4 * wordsAsked image words replies + 1) × WordsAnswered image words replies rows places shares)
+demand1-headwords-analyse-words κs a r s p =
+    demand1 (calls.check-table (a .0 .now)) (words-number-case (a .0 .now) (a .1 .0 .now) (a .1 .1 .0 .now) (a .1 .1 .1 .0 .now) (s .1 .1 .0 .now) (s .1 .1 .1 .0 .now) r (p .0) (p .1 .0) (p .1 .1))
+
 -- Document 02, (b): "Such an image is to be refused by every call but sealing.": one that passes tests 1 to 8 and has an entry that can never be spelled is
--- refused with 14 by each of the other thirteen, whatever it is asked for, and no byte changes. In C 4k + 3 is 59.
+-- refused with 14 by each of the other fifteen, whatever it is asked for, and no byte changes. In C 4k + 3 is 59.
 abbrev pub Slipped : List ℕ → Type 0
 Slipped image = (firstFailing (formatTests image) ≡ accepted) × ((e : ℕ) × Unspelled image e)
 
@@ -249,12 +281,14 @@ pub unspelled-refused :
     × ((κs : _) (a : _) (r : _) (s : _) → form-reply.Post κs a r s → Slipped (a .0 .now) → formReplyOf r ≡ FormReply.refused 14)
     × ((κs : _) (a : _) (r : _) (s : _) → form-view.Post κs a r s → Slipped (a .0 .now) → r .now ≡ [])
     × ((κs : _) (a : _) (r : _) (s : _) → spell.Post κs a r s → Slipped (a .0 .now) → (spellingOf r ≡ Spelling.refused 14) × (s .1 .1 .0 .now ≡ a .1 .1 .0 .now))
+    × ((κs : _) (a : _) (r : _) (s : _) → analyse-words.Post κs a r s → Slipped (a .0 .now) → (manyOf r ≡ ManyReply.refused 14) × (s .1 .1 .0 .now ≡ a .1 .1 .0 .now) × (s .1 .1 .1 .0 .now ≡ a .1 .1 .1 .0 .now))
     × ((κs : _) (a : _) (r : _) (s : _) → headwords-analyse.Post κs a r s → Slipped (a .0 .now) → (r ≡ 59) × (s .1 .1 .0 .now ≡ a .1 .1 .0 .now))
     × ((κs : _) (a : _) (r : _) (s : _) → headwords-generate.Post κs a r s → Slipped (a .0 .now) → (r ≡ 59) × (s .1 .1 .0 .now ≡ a .1 .1 .0 .now))
     × ((κs : _) (a : _) (r : _) (s : _) → headwords-check.Post κs a r s → Slipped (a .0 .now) → r ≡ 59)
     × ((κs : _) (a : _) (r : _) (s : _) → headwords-judge.Post κs a r s → Slipped (a .0 .now) → r ≡ 59)
     × ((κs : _) (a : _) (r : _) (s : _) → headwords-form.Post κs a r s → Slipped (a .0 .now) → (r ≡ 59) × (s .1 .1 .0 .now ≡ a .1 .1 .0 .now))
     × ((κs : _) (a : _) (r : _) (s : _) → headwords-spell.Post κs a r s → Slipped (a .0 .now) → (r ≡ 59) × (s .1 .1 .0 .now ≡ a .1 .1 .0 .now))
+    × ((κs : _) (a : _) (r : _) (s : _) → headwords-analyse-words.Post κs a r s → Slipped (a .0 .now) → (r ≡ 59) × (s .1 .1 .0 .now ≡ a .1 .1 .0 .now) × (s .1 .1 .1 .0 .now ≡ a .1 .1 .1 .0 .now))
 unfolding imageVerdict
 unspelled-refused = (
   λ κs a r s p u. refused-with-14 (slip-refused (a .0 .now) u) (demand1-check κs a r s p) .0,
@@ -262,12 +296,14 @@ unspelled-refused = (
   λ κs a r s p u. refused-with-14 (refused-by-each (a .0 .now) (slip-refused (a .0 .now) u) .2 (a .1 .0)) (demand1-form-reply κs a r s p) .0,
   λ κs a r s p u. p ∙ sym (view-none (a .0 .now) (a .1 .0) 14 (sym (form-refused (a .0 .now) (a .1 .0) 14 (slip-refused (a .0 .now) u)))),
   λ κs a r s p u. refused-with-14 (refused-by-each (a .0 .now) (slip-refused (a .0 .now) u) .3 (a .1 .0 .now) (length (a .1 .1 .0 .now))) (demand1-spell κs a r s p),
+  λ κs a r s p u. let t = refused-with-14 (slip-refused (a .0 .now) u) (demand1-analyse-words κs a r s p) in (t .0, t .1 .0, t .1 .1),
   λ κs a r s p u. refused-with-14 (refused-by-each (a .0 .now) (slip-refused (a .0 .now) u) .0 (analysis (a .1 .0 .now))) (demand1-headwords-analyse κs a r s p),
   λ κs a r s p u. refused-with-14 (refused-by-each (a .0 .now) (slip-refused (a .0 .now) u) .0 (generation (a .1 .0 .now))) (demand1-headwords-generate κs a r s p),
   λ κs a r s p u. refused-with-14 (slip-refused (a .0 .now) u) (demand1-headwords-check κs a r s p) .0,
   λ κs a r s p u. refused-with-14 (refused-by-each (a .0 .now) (slip-refused (a .0 .now) u) .1 (a .1 .0 .now) (a .1 .1 .0 .now)) (demand1-headwords-judge κs a r s p) .0,
   λ κs a r s p u. refused-with-14 (refused-by-each (a .0 .now) (slip-refused (a .0 .now) u) .2 (a .1 .0)) (demand1-headwords-form κs a r s p),
   λ κs a r s p u. refused-with-14 (refused-by-each (a .0 .now) (slip-refused (a .0 .now) u) .3 (a .1 .0 .now) (length (a .1 .1 .0 .now))) (demand1-headwords-spell κs a r s p),
+  λ κs a r s p u. let t = refused-with-14 (slip-refused (a .0 .now) u) (demand1-headwords-analyse-words κs a r s p) in (t .0, t .1 .0, t .1 .1),
 )
 
 -- Document 02, (m): the letters that the spelling call hands over pass 9 and 10, and analysis of them on the same image refuses nothing.

@@ -15,8 +15,12 @@ use Rattle.judge.proofs.judge.Statement as judge-statement
 use Rattle.judge.proofs.judge.Met as judge-met
 use Rattle.spelling.proofs.spell.Statement as spell-statement
 use Rattle.spelling.proofs.spell.Met as spell-met
+use Rattle.many.proofs.analyse_words.Statement as analyse-words-statement
+use Rattle.many.proofs.analyse_words.Met as analyse-words-met
 use Rattle.headwords.proofs.headwords_analyse.Statement as headwords-analyse-statement
 use Rattle.headwords.proofs.headwords_analyse.Met as headwords-analyse-met
+use Rattle.headwords.proofs.headwords_analyse_words.Statement as headwords-analyse-words-statement
+use Rattle.headwords.proofs.headwords_analyse_words.Met as headwords-analyse-words-met
 use Rattle.headwords.proofs.headwords_generate.Statement as headwords-generate-statement
 use Rattle.headwords.proofs.headwords_generate.Met as headwords-generate-met
 use Rattle.headwords.proofs.headwords_seal.Statement as headwords-seal-statement
@@ -41,6 +45,7 @@ Ends M =
     × form-view-statement.statement M
     × judge-statement.statement M
     × spell-statement.statement M
+    × analyse-words-statement.statement M
     × headwords-analyse-statement.statement M
     × headwords-generate-statement.statement M
     × headwords-seal-statement.statement M
@@ -48,6 +53,7 @@ Ends M =
     × headwords-judge-statement.statement M
     × headwords-form-statement.statement M
     × headwords-spell-statement.statement M
+    × headwords-analyse-words-statement.statement M
 
 pub each-ends : {M : Type 1} → Ends M
-each-ends = (analyse-met.met, generate-met.met, seal-met.met, check-met.met, form-reply-met.met, form-view-met.met, judge-met.met, spell-met.met, headwords-analyse-met.met, headwords-generate-met.met, headwords-seal-met.met, headwords-check-met.met, headwords-judge-met.met, headwords-form-met.met, headwords-spell-met.met)
+each-ends = (analyse-met.met, generate-met.met, seal-met.met, check-met.met, form-reply-met.met, form-view-met.met, judge-met.met, spell-met.met, analyse-words-met.met, headwords-analyse-met.met, headwords-generate-met.met, headwords-seal-met.met, headwords-check-met.met, headwords-judge-met.met, headwords-form-met.met, headwords-spell-met.met, headwords-analyse-words-met.met)

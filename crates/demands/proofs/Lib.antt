@@ -5,4 +5,5 @@ pub mod Numbers
 pub mod Given
 pub mod Spelled
 pub mod BothWays
+pub mod Many
 pub mod Demands

@@ -24,7 +24,7 @@ use Rattle.demands.proofs.Refusing.{Case}
 use Rattle.demands.proofs.Calls.{listing-case, sealing-case, check-case, judge-case, view-case, spelling-case}
 
 -- the second follows from the first
-coding : {A : Type 0} (number : A → ℕ) (refused : ℕ → A) → ((k : ℕ) → number (refused k) ≡ 4 * k + 3) → ((a b : A) → number a ≡ number b → a ≡ b) → Coding number refused
+pub coding : {A : Type 0} (number : A → ℕ) (refused : ℕ → A) → ((k : ℕ) → number (refused k) ≡ 4 * k + 3) → ((a b : A) → number a ≡ number b → a ≡ b) → Coding number refused
 coding number refused told apart = record { apart = apart; refused-is = λ a k. (λ e. apart a (refused k) (e ∙ sym (told k)), λ e. ap number e ∙ told k) }
 
 pub listing-coding : Coding replyNumber Reply.refused
@@ -113,7 +113,7 @@ spelling-coding = coding spellingNumber Spelling.refused (λ k. refl) apart
 -- a call whose reply is coded: refused by the same tests, its work by what the reply says
 module _ {A : Type 0} (number : A → ℕ) (refused : ℕ → A) (code : Coding number refused) (reply : A) (n : ℕ) (is : n ≡ number reply) (Unchanged Work Work′ : Type 0)
     (to : Work → Work′) (from : Work′ → Work) where
-  coded-case : (v : Verdict) → Case (λ k. reply ≡ refused k) Unchanged Work v → Case (λ k. n ≡ 4 * k + 3) Unchanged Work′ v
+  pub coded-case : (v : Verdict) → Case (λ k. reply ≡ refused k) Unchanged Work v → Case (λ k. n ≡ 4 * k + 3) Unchanged Work′ v
   coded-case Verdict.accepted c = (to (c .0), λ k e. c .1 k (code .refused-is reply k .0 (sym is ∙ e)))
   coded-case (Verdict.refused k) c = (is ∙ code .refused-is reply k .1 (c .0), λ j e. c .1 j (code .refused-is reply j .0 (sym is ∙ e)), c .2, λ w. c .3 (from w))
 

@@ -1,20 +1,23 @@
 -- What the statements of the demands are made of: the first test that fails, the work of each call beside the listings, replies as numbers, what a listing is
 -- asked for, a path as bytes.
-use Prim.Native.Nat.{ℕ, _+_, _*_, _<_, _≤_}
+use Prim.Native.Nat.{ℕ, _+_, _*_, _^_, _<_, _≤_}
 use mathlib.Core.Bool.{Bool, false, _||_}
 use mathlib.Core.Path.{_≡_}
 use mathlib.Core.Logic.{_↔_, _⊎_}
 use mathlib.Core.List.{List, _∷_, _++_}
 use lib.ListN.{length, take, drop}
 use lib.Dec.{T}
-use Rattle.model.specs.Lists.{every, flatMap, within, numberBytes}
+use Rattle.model.specs.Lists.{every, flatMap, part, within, byte, numberBytes}
 use Rattle.model.specs.Lexicon.{entry, formLength}
 use Rattle.model.specs.Grammar.{Grammar}
 use Rattle.model.specs.GrammarOf.{grammarOf}
 use Rattle.model.specs.Readings.{Reading, spelled, isReading}
 use Rattle.model.specs.Query.{Request, analysis, generation, entryNumbers}
 use Rattle.model.specs.Spelling.{wordSpelled}
+use Rattle.model.specs.Rows.{Reply, replyNumber}
+use Rattle.model.specs.Calls.{listingReply, afterListing}
 use Rattle.model.specs.Beside.{Judgement, formStart}
+use Rattle.many.specs.Words.{wordOf, lowFirst, wordsAsked, shareRows}
 
 -- "a number of document 01's table", which the answers of document 02 join
 abbrev pub inTable : ℕ → Bool
@@ -57,6 +60,31 @@ module _ (image : List ℕ) (e : ℕ) where
 -- document 02, (m): "code points .. become letter numbers", at the front of a lent output; "output bytes past it keep their values"
 abbrev pub SpelledOut : List ℕ → List ℕ → List ℕ → List ℕ → Type 0
 SpelledOut image points before after = let w = wordSpelled image points in (length w ≤ length before) × (after ≡ w ++ drop (length w) before)
+
+-- many words in one call: word i, and share i of a buffer with the rows
+abbrev pub wordAt : List ℕ → ℕ → List ℕ
+wordAt words i = wordOf (part 33 words i)
+
+module _ (image words replies rows : List ℕ) where
+  abbrev pub shareOf : List ℕ → ℕ → List ℕ
+  shareOf buffer i = part (116 * shareRows image words replies rows) buffer i
+
+  -- its work: each word as plain analysis with its share as the buffer, a length byte over 32 refused with 9, and no other byte changed
+  pub record WordsAnswered (places shares : List ℕ) : Type 0 where
+    pub plain : (i : ℕ) → i < wordsAsked image words replies → byte (part 33 words i) 0 ≤ 32
+        → (part 8 places i ≡ lowFirst 8 (replyNumber (listingReply image (analysis (wordAt words i)) (shareRows image words replies rows))))
+        × (shareOf shares i ≡ afterListing image (analysis (wordAt words i)) (shareOf rows i))
+    pub too-long : (i : ℕ) → i < wordsAsked image words replies → 32 < byte (part 33 words i) 0 → (part 8 places i ≡ lowFirst 8 (replyNumber (Reply.refused 9))) × (shareOf shares i ≡ shareOf rows i)
+    pub past-places : drop (8 * wordsAsked image words replies) places ≡ drop (8 * wordsAsked image words replies) replies
+    pub past-shares : drop (116 * shareRows image words replies rows * wordsAsked image words replies) shares ≡ drop (116 * shareRows image words replies rows * wordsAsked image words replies) rows
+
+-- word i of n, by the reply that stands at its place. Eight bytes hold the number, and the rows are a slice, whose length a machine can tell.
+pub record AmongWords (words rows places : List ℕ) (n i : ℕ) (reply : Reply) : Type 0 where
+  pub one-of : i < n
+  pub short : byte (part 33 words i) 0 ≤ 32
+  pub told : part 8 places i ≡ lowFirst 8 (replyNumber reply)
+  pub in-eight : replyNumber reply < 256 ^ 8
+  pub slice : length rows < 2 ^ 63
 
 -- what a listing asks of a reading: the word that it spells, or its path
 abbrev pub Asks : Grammar → Request → Reading → Type 0
