@@ -74,7 +74,6 @@ pub data Listing : List ℕ → Request → List ℕ → List ℕ → Reply → 
       → Listing (a .0 .now) (analysis (a .1 .0 .now)) (a .1 .1 .0 .now) (s .1 .1 .0 .now) reply
   in-C-generate : (κs : _) (a : _) (r : _) (s : _) (reply : Reply) → headwords-generate.Post κs a r s → r ≡ replyNumber reply
       → Listing (a .0 .now) (generation (a .1 .0 .now)) (a .1 .1 .0 .now) (s .1 .1 .0 .now) reply
-
   among-words : (κs : _) (a : _) (r : _) (s : _) (n i : ℕ) (reply : Reply) → analyse-words.Post κs a r s → manyOf r ≡ ManyReply.words n
       → AmongWords (a .1 .0 .now) (a .1 .1 .1 .0 .now) (s .1 .1 .0 .now) n i reply
       → Listing (a .0 .now) (analysis (wordAt (a .1 .0 .now) i)) (shareOf (a .0 .now) (a .1 .0 .now) (a .1 .1 .0 .now) (a .1 .1 .1 .0 .now) (a .1 .1 .1 .0 .now) i) (shareOf (a .0 .now) (a .1 .0 .now) (a .1 .1 .0 .now) (a .1 .1 .1 .0 .now) (s .1 .1 .1 .0 .now) i) reply

@@ -8,10 +8,10 @@ ghost use Rattle.grammar.specs.Answers.{verdictOf};
 ghost use Rattle.prepare.specs.Had.{Had};
 ghost use Rattle.lines.specs.Sofar.{Rooms, Within, Stepped, Ended};
 use answers::input::Reached;
-use prepare::Prepared;
 use moving::Count;
 use moving::Given;
 use moving::Taken;
+use prepare::Prepared;
 
 // Where the program stands: how many bytes are kept of the line begun; the bytes of the chunk, from `at` to `n`, that are not answered yet; how many
 // bytes have come in and gone out.

@@ -1,10 +1,10 @@
 -- Parts of one width laid one after the other over the front of a buffer: places for replies, shares of the rows.
 use Prim.Native.Nat.{ℕ, suc, _+_, _*_, _/_, _<_, _≤_}
-use native.Mathlib.Nat.{mul-suc, mul-zero, mul-assoc, mul-le-mul-left, div-mul-le-self, mul-div-cancel-left}
+use native.Mathlib.Nat.{mul-suc, mul-zero, mul-assoc, mul-le-mul-left, div-mul-le-self}
 use native.Mathlib.Numerals.{add-one}
 use native.Mathlib.Omega.{arith}
 use mathlib.Core.Path.{_≡_, refl, sym, ap, ap₂, _∙_}
-use mathlib.Core.List.{List, [], _∷_, _++_, append-assoc}
+use mathlib.Core.List.{List, _++_, append-assoc}
 use lib.ListN.{length, take, drop, length-take, length-drop, length-append}
 use lib.Seq.{drop-drop, take-at, drop-at}
 use borrow.Rule.Slice.PartMut.{putMid}

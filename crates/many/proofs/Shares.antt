@@ -1,15 +1,13 @@
 -- What a call leaves at each place and in each share: the reply's eight bytes, and what plain analysis leaves.
-use Prim.Native.Nat.{ℕ, zero, suc, _+_, _*_, _/_, _%_, _^_, _<_, _≤_, min}
+use Prim.Native.Nat.{ℕ, zero, suc, _+_, _*_, _/_, _%_, _^_, _<_, _≤_}
 use native.Mathlib.Omega.{arith}
-use native.Mathlib.Nat.{mul-comm}
 use mathlib.Core.Bool.{Bool, true, false, cond}
 use mathlib.Core.Path.{_≡_, refl, sym, ap, _∙_}
 use mathlib.Core.List.{List, List·Memᴰ}
-use lib.ListN.{length, take, drop, length-take}
+use lib.ListN.{length, drop, length-take}
 use lib.Seq.{drop-at}
 use lib.Dec.{leb}
 use Rattle.model.specs.Lists.{below, flatMap, part, byte}
-use Rattle.model.specs.Readings.{Reading}
 use Rattle.model.specs.Query.{Request, analysis}
 use Rattle.model.specs.Refusals.{Verdict, accepted, imageVerdict}
 use Rattle.model.specs.Rows.{rowCount}

@@ -1,6 +1,6 @@
 -- `list_tabled` meets its contract: the other tests of the image, and then the listing of an accepted one.
 use borrow.Author.Needs.{needs}
-use mathlib.Core.Path.{_≡_, sym, ap, _∙_}
+use mathlib.Core.Path.{sym, ap, _∙_}
 use Rattle.model.specs.Refusals.{accepted}
 use Rattle.grammar.specs.Answers.{verdictOf}
 use Rattle.analyser.specs.Request.{requestOf}

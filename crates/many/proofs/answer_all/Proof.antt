@@ -1,9 +1,9 @@
 -- `answer_all` meets its contract: as many words as both have room for, each with an equal share.
 use borrow.Author.Needs.{needs}
-use Prim.Native.Nat.{ℕ, _*_, _/_, _<_, _≤_}
+use Prim.Native.Nat.{ℕ, _*_, _/_}
 use native.Mathlib.Nat.{div-le-self}
 use native.Mathlib.Omega.{arith}
-use mathlib.Core.Path.{_≡_, sym, ap, _∙_}
+use mathlib.Core.Path.{_≡_, ap, _∙_}
 use mathlib.Core.List.{List}
 use lib.ListN.{length}
 use Rattle.model.specs.Rows.{rowCount}
@@ -62,8 +62,10 @@ returns c =
     let m = rowCount (out w) in
     let accepts = start w .pre .0 in (
       n-is w,
-      (each .answer-each .ensures .0 ∙ ap (λ (k : ℕ). laidOver 8 k (placeAt (image w) (words w) (m / k)) (replies w)) (n-is w) ∙ answered-places (image w) (words w) (replies w) (out w) accepts,
-      each .answer-each .ensures .1 ∙ ap (λ (k : ℕ). laidOver (116 * (m / k)) k (shareAt (image w) (words w) (m / k) (out w)) (out w)) (n-is w) ∙ answered-shares (image w) (words w) (replies w) (out w) accepts),
+      (
+        each .answer-each .ensures .0 ∙ ap (λ (k : ℕ). laidOver 8 k (placeAt (image w) (words w) (m / k)) (replies w)) (n-is w) ∙ answered-places (image w) (words w) (replies w) (out w) accepts,
+        each .answer-each .ensures .1 ∙ ap (λ (k : ℕ). laidOver (116 * (m / k)) k (shareAt (image w) (words w) (m / k) (out w)) (out w)) (n-is w) ∙ answered-shares (image w) (words w) (replies w) (out w) accepts,
+      ),
     )
 
 returns-2 : tie.Need-returns-2
