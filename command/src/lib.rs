@@ -3,11 +3,14 @@
 mod arguments;
 mod commands;
 mod failure;
+mod layout;
 #[allow(unsafe_code)]
 mod library;
 mod loaded;
+mod readings;
 mod refusals;
 mod text;
+mod words;
 
 pub use commands::run;
 pub use text::{
