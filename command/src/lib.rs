@@ -5,13 +5,16 @@ mod checksum;
 mod commands;
 mod decode;
 mod failure;
+mod layout;
 #[allow(unsafe_code)]
 mod library;
 mod loaded;
 mod names;
+mod readings;
 mod refusals;
 mod text;
 mod warnings;
+mod words;
 
 pub use commands::run;
 pub use decode::decode;
