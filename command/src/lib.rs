@@ -10,6 +10,7 @@ mod layout;
 mod library;
 mod loaded;
 mod names;
+mod nearest;
 mod readings;
 mod refusals;
 mod text;
