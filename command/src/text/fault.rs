@@ -22,6 +22,10 @@ impl Faults {
         self.0.push(Fault::new(line, what));
     }
 
+    pub fn extend(&mut self, others: Faults) {
+        self.0.extend(others.0);
+    }
+
     /// The value of a part that was read; the fault of one that was not is kept.
     pub fn keep<T>(&mut self, part: Result<T, Fault>) -> Option<T> {
         part.map_err(|fault| self.0.push(fault)).ok()

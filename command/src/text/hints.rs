@@ -49,7 +49,9 @@ pub fn accent_meant(text: &str) -> String {
     let Some(joined) = composed(text, |_| false) else {
         return String::new();
     };
-    let shown: Vec<String> = joined.chars().filter(|&c| !text.contains(c)).map(name).collect();
+    let count = |text: &str, c: char| text.chars().filter(|&other| other == c).count();
+    let mut shown: Vec<String> = joined.chars().filter(|&c| count(&joined, c) > count(text, c)).map(name).collect();
+    shown.dedup();
     format!("; as one character it is {}", shown.join(", "))
 }
 

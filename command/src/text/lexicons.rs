@@ -44,7 +44,13 @@ pub fn read(sections: &[Section], alphabet: &Alphabet, pairs: &[Pair], faults: &
     if faults.keep(check_counts(sections)).is_none() {
         return Vec::new();
     }
-    let numbers = read_names(sections, alphabet, faults);
+    let mut wrong_names = Faults::default();
+    let numbers = read_names(sections, alphabet, &mut wrong_names);
+    // Continuations lean on the names.
+    if let Err(wrong_names) = wrong_names.or(()) {
+        faults.extend(wrong_names);
+        return Vec::new();
+    }
     let mut entry_numbers = 0..;
     let mut lexicons = Vec::new();
     for section in sections {

@@ -165,6 +165,10 @@ fn side_meant(text: &str, sides: Sides) -> String {
 }
 
 fn read_states(rows: &[Line], heading: &Heading, last_line: usize) -> Result<Vec<State>, Fault> {
+    // A row that is missing or out of order is told where it shows.
+    for (row, state) in rows.iter().zip(1..=heading.states) {
+        read_label(row, state)?;
+    }
     if let Some(extra) = rows.get(heading.states) {
         let what = format!("a row more than the rule's {} states", heading.states);
         return Err(Fault::new(extra.number, what));
@@ -176,17 +180,22 @@ fn read_states(rows: &[Line], heading: &Heading, last_line: usize) -> Result<Vec
     rows.iter().enumerate().map(|(at, row)| read_state(row, at + 1, heading)).collect()
 }
 
-/// A row: the state's number, a colon where it is final or a full stop, and the next states.
-fn read_state(row: &Line, state: usize, heading: &Heading) -> Result<State, Fault> {
+/// Whether a state is final: its row begins with its number and a colon, or else a full stop.
+fn read_label(row: &Line, state: usize) -> Result<bool, Fault> {
     let label = row.words[0].bare().unwrap_or("");
-    let is_final = if label == format!("{state}:") {
-        true
-    } else if label == format!("{state}.") {
-        false
-    } else {
-        let begins = format!("the row of state {state} begins with {state}: if it is final, else {state}.");
-        return Err(Fault::new(row.number, format!("{begins}, not with {}", row.words[0].text())));
-    };
+    if label == format!("{state}:") {
+        return Ok(true);
+    }
+    if label == format!("{state}.") {
+        return Ok(false);
+    }
+    let begins = format!("the row of state {state} begins with {state}: if it is final, else {state}.");
+    Err(Fault::new(row.number, format!("{begins}, not with {}", row.words[0].text())))
+}
+
+/// A row: the state, and the next states.
+fn read_state(row: &Line, state: usize, heading: &Heading) -> Result<State, Fault> {
+    let is_final = read_label(row, state)?;
     let next = &row.words[1..];
     if next.len() != heading.columns {
         let what = format!("{} next states where the rule has {} columns", next.len(), heading.columns);
