@@ -15,10 +15,13 @@ mod paths;
 mod readings;
 mod refusals;
 mod text;
+mod warnings;
 mod words;
 
 pub use commands::run;
+pub use decode::decode;
 pub use text::{
-    list_entries, list_letters, list_pairs, list_sets, read_grammar, read_source, sealed_image, warnings, written,
-    Fault, Faults, Grammar,
+    list_entries, list_letters, list_pairs, list_sets, read_grammar, read_source, sealed_image, written, Fault, Faults,
+    Grammar,
 };
+pub use warnings::warnings;
