@@ -6,11 +6,13 @@ mod commands;
 mod decode;
 mod failure;
 mod layout;
+mod lending;
 #[allow(unsafe_code)]
 mod library;
 mod loaded;
 mod names;
 mod nearest;
+mod paths;
 mod readings;
 mod refusals;
 mod text;
