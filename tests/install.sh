@@ -49,7 +49,7 @@ echo "examples/luces.c: built by pkg-config, shared and static, and run"
 [ "$(readlink -f "$prefix/lib/libheadwords.so")" = "$prefix/lib/libheadwords.so.$version" ]
 nm -D --defined-only "$prefix/lib/libheadwords.so" | sed 's/.* T //' >"$work/exported"
 sed -n 's/^uint64_t \(headwords_[a-z_]*\)(.*/\1/p' include/headwords.h | sort | diff - "$work/exported"
-! readelf -d "$prefix/lib/libheadwords.so" | grep TEXTREL
+readelf -d "$prefix/lib/libheadwords.so" | grep TEXTREL && exit 1
 echo "the shared library exports the header's calls and nothing else"
 
 "$prefix/bin/headwords" check "$image" >"$work/said"
