@@ -1,0 +1,39 @@
+//! `headwords assemble`: makes an image of a grammar's text.
+
+use crate::arguments::Given;
+use crate::commands::Command;
+use crate::failure::{tell_fault, tell_faults, Failure};
+use crate::text::{put_in_place, read_grammar, read_source, sealed_image, warnings, Fault, Grammar};
+use std::path::Path;
+
+pub const COMMAND: Command = Command {
+    name: "assemble",
+    operands: "GRAMMAR IMAGE",
+    count: 2..=2,
+    what: "a grammar's text to an image",
+    options: &[],
+    more: "",
+    run,
+};
+
+fn run(given: &Given) -> Result<(), Failure> {
+    let (source, image) = (Path::new(&given.operands[0]), Path::new(&given.operands[1]));
+    let grammar = read(source)?;
+    if is_same_file(source, image) {
+        return Err(tell_fault(image, &Fault::new(0, "is the grammar's own text")));
+    }
+    for warning in warnings(&grammar) {
+        tell_fault(source, &warning);
+    }
+    put_in_place(&sealed_image(&grammar), image)
+        .map_err(|error| tell_fault(image, &Fault::new(0, format!("cannot be written: {error}"))))
+}
+
+fn read(source: &Path) -> Result<Grammar, Failure> {
+    let bytes = read_source(source).map_err(|fault| tell_fault(source, &fault))?;
+    read_grammar(&bytes).map_err(|faults| tell_faults(source, faults))
+}
+
+fn is_same_file(one: &Path, other: &Path) -> bool {
+    matches!((one.canonicalize(), other.canonicalize()), (Ok(one), Ok(other)) if one == other)
+}

@@ -1,0 +1,38 @@
+//! A grammar that is ready for use: a text, assembled in memory, or an image with its names beside it.
+
+use crate::failure::{tell_fault, tell_faults, Failure};
+use crate::library;
+use crate::refusals;
+use crate::text::{read_grammar, read_source, sealed_image, Fault, Grammar};
+use std::path::{Path, PathBuf};
+
+#[derive(Debug)]
+pub struct Loaded {
+    pub path: PathBuf,
+    /// Accepted by the library.
+    pub image: Vec<u8>,
+    pub grammar: Grammar,
+    /// Whether sets, rules, lexicons and glosses have the names of the text.
+    pub named: bool,
+}
+
+/// Loads a text or an image. What is wrong with it is told.
+pub fn load(path: &Path) -> Result<Loaded, Failure> {
+    let bytes = read_source(path).map_err(|fault| tell_fault(path, &fault))?;
+    if is_image(&bytes) {
+        return Err(tell_fault(path, &Fault::new(0, "images cannot be loaded yet")));
+    }
+    let grammar = read_grammar(&bytes).map_err(|faults| tell_faults(path, faults))?;
+    let image = sealed_image(&grammar);
+    match library::check(&image).refusal() {
+        Some(number) => Err(tell_fault(path, &Fault::new(0, refusals::told(number)))),
+        None => Ok(Loaded { path: path.to_path_buf(), image, grammar, named: true }),
+    }
+}
+
+/// An image begins with block number 0 and counts below 256 in two bytes each; a text has no such byte, except where it is
+/// saved as UTF-16, which begins with one of two marks. An empty file is an image that was cut off.
+pub fn is_image(bytes: &[u8]) -> bool {
+    let marked = bytes.starts_with(&[0xFF, 0xFE]) || bytes.starts_with(&[0xFE, 0xFF]);
+    bytes.is_empty() || !marked && bytes.iter().take(16).any(|&byte| byte == 0)
+}

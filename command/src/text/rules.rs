@@ -1,0 +1,149 @@
+//! Rule tables: columns, final states, and for each state a row of next states.
+
+use crate::text::columns::{self, Column, Sides};
+use crate::text::fault::{Fault, Faults};
+use crate::text::limits;
+use crate::text::lines::{name, number, one_character, Line, Word};
+use crate::text::pairs::Pair;
+use crate::text::sections::Section;
+
+#[derive(Debug)]
+pub struct Rule {
+    pub name: String,
+    pub columns: Vec<Column>,
+    /// The column that the boundary pair takes.
+    pub boundary: usize,
+    /// States 1, 2, ..
+    pub states: Vec<State>,
+    /// The line of state 1's row.
+    pub first_row: usize,
+}
+
+impl Rule {
+    /// Whether the boundary pair, which comes first in every word, leads to failure at once.
+    pub fn fails_at_front(&self) -> bool {
+        self.states[0].next[self.boundary] == 0
+    }
+}
+
+#[derive(Debug)]
+pub struct State {
+    pub is_final: bool,
+    /// The next state for each column; 0 is failure.
+    pub next: Vec<u8>,
+}
+
+/// What a rule's first line says.
+struct Heading<'a> {
+    name: &'a str,
+    states: usize,
+    columns: usize,
+}
+
+pub fn read(sections: &[Section], sides: Sides, pairs: &[Pair], faults: &mut Faults) -> Vec<Rule> {
+    if let Some(first_over) = sections.get(*limits::RULES.end()) {
+        faults.keep(limits::within(&limits::RULES, sections.len(), "rules", first_over.line));
+    }
+    let rules = sections.iter().map(|section| read_rule(section, sides, pairs));
+    rules.filter_map(|rule| faults.keep(rule)).collect()
+}
+
+fn read_rule(section: &Section, sides: Sides, pairs: &[Pair]) -> Result<Rule, Fault> {
+    let heading = read_heading(section)?;
+    let [lexical, surface, rows @ ..] = &section.body[..] else {
+        let what = "a rule has a row of lexical sides and a row of surface sides";
+        return Err(Fault::new(section.last_line(), what));
+    };
+    let columns = read_columns(lexical, surface, &heading, sides)?;
+    let states = read_states(rows, &heading, section.last_line())?;
+    let taken = columns::taken(&columns, pairs, sides)
+        .map_err(|what| Fault::new(lexical.number, format!("rule \"{}\": {what}", heading.name)))?;
+    Ok(Rule {
+        name: heading.name.to_string(),
+        columns,
+        boundary: taken[pairs.len()],
+        states,
+        first_row: rows[0].number,
+    })
+}
+
+fn read_heading<'a>(section: &Section<'a>) -> Result<Heading<'a>, Fault> {
+    let line = section.line;
+    let counts = |states, columns| Some((number(states)?, number(columns)?));
+    let heading = match section.head[..] {
+        [Word::Quoted(name), Word::Bare(states), Word::Bare(columns)] => {
+            counts(states, columns).map(|(states, columns)| Heading { name, states, columns })
+        }
+        _ => None,
+    };
+    let heading = heading
+        .ok_or_else(|| Fault::new(line, "RULE takes a name in quotation marks, the count of states, and of columns"))?;
+    limits::within(&limits::STATES, heading.states, "states", line)?;
+    limits::within(&limits::COLUMNS, heading.columns, "columns", line)?;
+    Ok(heading)
+}
+
+fn read_columns(lexical: &Line, surface: &Line, heading: &Heading, sides: Sides) -> Result<Vec<Column>, Fault> {
+    let lexical = read_sides(lexical, "lexical", heading, sides)?;
+    let surface = read_sides(surface, "surface", heading, sides)?;
+    let columns = lexical.into_iter().zip(surface);
+    Ok(columns.map(|(lexical, surface)| Column { lexical, surface }).collect())
+}
+
+fn read_sides(line: &Line, level: &str, heading: &Heading, sides: Sides) -> Result<Vec<u8>, Fault> {
+    if line.words.len() != heading.columns {
+        let (found, said) = (line.words.len(), heading.columns);
+        let what = format!("{found} {level} sides where the rule has {said} columns");
+        return Err(Fault::new(line.number, what));
+    }
+    line.words.iter().map(|&word| read_side(word, line.number, sides)).collect()
+}
+
+fn read_side(word: Word, line: usize, sides: Sides) -> Result<u8, Fault> {
+    let side_is = "a side of a column is one character or the name of a set";
+    let Some(text) = word.bare() else {
+        return Err(Fault::new(line, format!("{side_is}, without quotation marks")));
+    };
+    sides.side(text).ok_or_else(|| match one_character(text) {
+        Some(c) => Fault::new(line, format!("{} is no letter of the alphabet, and no set is called so", name(c))),
+        None => Fault::new(line, format!("no set is called {text}; {side_is}")),
+    })
+}
+
+fn read_states(rows: &[Line], heading: &Heading, last_line: usize) -> Result<Vec<State>, Fault> {
+    if let Some(extra) = rows.get(heading.states) {
+        let what = format!("a row more than the rule's {} states", heading.states);
+        return Err(Fault::new(extra.number, what));
+    }
+    if rows.len() < heading.states {
+        let what = format!("{} rows where the rule has {} states", rows.len(), heading.states);
+        return Err(Fault::new(last_line, what));
+    }
+    rows.iter().enumerate().map(|(at, row)| read_state(row, at + 1, heading)).collect()
+}
+
+/// A row: the state's number, a colon where it is final or a full stop, and the next states.
+fn read_state(row: &Line, state: usize, heading: &Heading) -> Result<State, Fault> {
+    let label = row.words[0].bare().unwrap_or("");
+    let is_final = if label == format!("{state}:") {
+        true
+    } else if label == format!("{state}.") {
+        false
+    } else {
+        let what = format!("the row of state {state} begins with {state}: if it is final, else {state}.");
+        return Err(Fault::new(row.number, what));
+    };
+    let next = &row.words[1..];
+    if next.len() != heading.columns {
+        let what = format!("{} next states where the rule has {} columns", next.len(), heading.columns);
+        return Err(Fault::new(row.number, what));
+    }
+    let next = next.iter().map(|&word| read_next(word, row.number, heading));
+    Ok(State { is_final, next: next.collect::<Result<_, _>>()? })
+}
+
+fn read_next(word: Word, line: usize, heading: &Heading) -> Result<u8, Fault> {
+    let next = word.bare().and_then(number).filter(|&next| next <= heading.states);
+    next.and_then(|next| u8::try_from(next).ok())
+        .ok_or_else(|| Fault::new(line, format!("a next state is a number from 0 to {}", heading.states)))
+}
