@@ -7,6 +7,7 @@ mod failure;
 mod library;
 mod loaded;
 mod refusals;
+mod show;
 mod text;
 
 pub use commands::run;
