@@ -163,8 +163,8 @@ fn cost(way: &Way, placed: &[DrawnArc], at: &[f64]) -> f64 {
     for other in placed {
         let label = wide(other.area);
         cost += if label.meets(way.area) { 2000.0 } else { 0.0 };
-        cost += 60.0 * way.curve.points().filter(|&at| label.has(at)).count() as f64;
-        cost += 60.0 * other.curve.points().filter(|&at| wide(way.area).has(at)).count() as f64;
+        cost += 25.0 * way.curve.points().filter(|&at| label.has(at)).count() as f64;
+        cost += 25.0 * other.curve.points().filter(|&at| wide(way.area).has(at)).count() as f64;
     }
     cost
 }
