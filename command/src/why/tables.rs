@@ -1,0 +1,127 @@
+//! A grammar as a search walks through it: entries by number, and every rule's next state for every pair.
+
+use crate::text::columns::{taken, Sides};
+use crate::text::lexicons::Entry;
+use crate::text::limits;
+use crate::text::pairs::{Pair, BOUNDARY_PAIR};
+use crate::text::Grammar;
+
+/// The state of each rule, side by side; places past the last rule are 0.
+pub type States = [u8; *limits::RULES.end()];
+
+/// A rule that a pair leads to failure, or that does not end well.
+#[derive(Clone, Copy, Debug, PartialEq, Eq, Hash)]
+pub struct Refusal {
+    /// The rule's place among the rules.
+    pub rule: usize,
+    /// The state that it was in.
+    pub state: u8,
+    /// The state that it came to: 0, or at the end one that is not final.
+    pub next: u8,
+}
+
+pub struct Tables<'a> {
+    pub grammar: &'a Grammar,
+    /// Entries by number, each with the place of its lexicon.
+    pub entries: Vec<(&'a Entry, usize)>,
+    /// The number of each lexicon's first entry.
+    pub first: Vec<usize>,
+    /// For each rule the column that each pair takes and, last, the boundary pair.
+    takes: Vec<Vec<usize>>,
+}
+
+impl<'a> Tables<'a> {
+    pub fn new(grammar: &'a Grammar) -> Tables<'a> {
+        let sides = Sides { alphabet: &grammar.alphabet, sets: &grammar.sets };
+        let mut entries = Vec::new();
+        let mut first = Vec::new();
+        for (at, lexicon) in grammar.lexicons.iter().enumerate() {
+            first.push(entries.len());
+            entries.extend(lexicon.entries.iter().map(|entry| (entry, at)));
+        }
+        // Every grammar has one narrowest column for each pair.
+        let takes = |columns| taken(columns, &grammar.pairs, sides).unwrap_or_default();
+        let takes = grammar.rules.iter().map(|rule| takes(&rule.columns)).collect();
+        Tables { grammar, entries, first, takes }
+    }
+
+    /// The numbers of a lexicon's entries.
+    pub fn entries_of(&self, lexicon: usize) -> std::ops::Range<usize> {
+        self.first[lexicon]..self.first[lexicon] + self.grammar.lexicons[lexicon].entries.len()
+    }
+
+    /// The number that stands for the boundary pair, after those of the listed pairs.
+    pub fn boundary(&self) -> usize {
+        self.grammar.pairs.len()
+    }
+
+    pub fn pair(&self, number: usize) -> Pair {
+        self.grammar.pairs.get(number).copied().unwrap_or(BOUNDARY_PAIR)
+    }
+
+    /// The column of a rule that a pair takes, as the text writes it.
+    pub fn column(&self, rule: usize, pair: usize) -> String {
+        let sides = Sides { alphabet: &self.grammar.alphabet, sets: &self.grammar.sets };
+        sides.show_column(self.grammar.rules[rule].columns[self.takes[rule][pair]])
+    }
+
+    /// Every rule in state 1, before the boundary pair.
+    pub fn start(&self) -> States {
+        let mut states = [0; *limits::RULES.end()];
+        states[..self.takes.len()].fill(1);
+        states
+    }
+
+    pub fn next(&self, rule: usize, state: u8, pair: usize) -> u8 {
+        let state = &self.grammar.rules[rule].states[usize::from(state) - 1];
+        state.next[self.takes[rule][pair]]
+    }
+
+    /// The states after a pair, or the rules that refuse it.
+    pub fn feed(&self, states: &States, pair: usize) -> Result<States, Vec<Refusal>> {
+        let mut after = *states;
+        let mut refusals = Vec::new();
+        for rule in 0..self.takes.len() {
+            let state = states[rule];
+            after[rule] = self.next(rule, state, pair);
+            if after[rule] == 0 {
+                refusals.push(Refusal { rule, state, next: 0 });
+            }
+        }
+        if refusals.is_empty() {
+            Ok(after)
+        } else {
+            Err(refusals)
+        }
+    }
+
+    /// The rules that a word must not end with, having come to these states.
+    pub fn end(&self, states: &States) -> Vec<Refusal> {
+        let last = |rule: usize| {
+            let state = states[rule];
+            Refusal { rule, state, next: self.next(rule, state, self.boundary()) }
+        };
+        (0..self.takes.len()).map(last).filter(|refusal| !self.is_final(refusal.rule, refusal.next)).collect()
+    }
+
+    fn is_final(&self, rule: usize, state: u8) -> bool {
+        state.checked_sub(1).is_some_and(|at| self.grammar.rules[rule].states[usize::from(at)].is_final)
+    }
+
+    /// Where one rule refuses a pairing: how many pairs it takes before that.
+    pub fn refused_by(&self, rule: usize, pairing: &[usize]) -> Option<(usize, Refusal)> {
+        let mut state = self.next(rule, 1, self.boundary());
+        if state == 0 {
+            return Some((0, Refusal { rule, state: 1, next: 0 }));
+        }
+        for (at, &pair) in pairing.iter().enumerate() {
+            let next = self.next(rule, state, pair);
+            if next == 0 {
+                return Some((at, Refusal { rule, state, next }));
+            }
+            state = next;
+        }
+        let next = self.next(rule, state, self.boundary());
+        (!self.is_final(rule, next)).then_some((pairing.len(), Refusal { rule, state, next }))
+    }
+}
