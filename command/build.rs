@@ -17,6 +17,4 @@ fn main() {
     println!("cargo:rerun-if-changed={}", folder.join("libheadwords.a").display());
     println!("cargo:rustc-link-search=native={}", folder.display());
     println!("cargo:rustc-link-lib=static=headwords");
-    // A library built without the standard library brings its own panic entry beside this program's.
-    println!("cargo:rustc-link-arg=-Wl,-z,muldefs");
 }

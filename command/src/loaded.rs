@@ -1,7 +1,9 @@
 //! A grammar that is ready for use: a text, assembled in memory, or an image with its names beside it.
 
+use crate::decode::decode;
 use crate::failure::{tell_fault, tell_faults, Failure};
 use crate::library;
+use crate::names::{name_grammar, names_path};
 use crate::refusals;
 use crate::text::{read_grammar, read_source, sealed_image, Fault, Grammar};
 use std::path::{Path, PathBuf};
@@ -19,15 +21,42 @@ pub struct Loaded {
 /// Loads a text or an image. What is wrong with it is told.
 pub fn load(path: &Path) -> Result<Loaded, Failure> {
     let bytes = read_source(path).map_err(|fault| tell_fault(path, &fault))?;
+    load_bytes(path, bytes)
+}
+
+/// Loads what a file holds.
+pub fn load_bytes(path: &Path, bytes: Vec<u8>) -> Result<Loaded, Failure> {
+    let path = path.to_path_buf();
     if is_image(&bytes) {
-        return Err(tell_fault(path, &Fault::new(0, "images cannot be loaded yet")));
+        accept(&path, &bytes)?;
+        let (grammar, named) = decode_named(&path, &bytes);
+        return Ok(Loaded { path, image: bytes, grammar, named });
     }
-    let grammar = read_grammar(&bytes).map_err(|faults| tell_faults(path, faults))?;
+    let grammar = read_grammar(&bytes).map_err(|faults| tell_faults(&path, faults))?;
     let image = sealed_image(&grammar);
-    match library::check(&image).refusal() {
+    accept(&path, &image)?;
+    Ok(Loaded { path, image, grammar, named: true })
+}
+
+fn accept(path: &Path, image: &[u8]) -> Result<(), Failure> {
+    match library::check(image).refusal() {
         Some(number) => Err(tell_fault(path, &Fault::new(0, refusals::told(number)))),
-        None => Ok(Loaded { path: path.to_path_buf(), image, grammar, named: true }),
+        None => Ok(()),
     }
+}
+
+/// The grammar of an accepted image, and whether it has its names. Names that are not its own are told.
+fn decode_named(path: &Path, image: &[u8]) -> (Grammar, bool) {
+    let mut grammar = decode(image);
+    let beside = names_path(path);
+    if !beside.exists() {
+        return (grammar, false);
+    }
+    let named = read_source(&beside).and_then(|bytes| name_grammar(&mut grammar, image, &bytes));
+    if let Err(fault) = &named {
+        tell_fault(&beside, &Fault::new(fault.line, format!("{}; these names are not used", fault.what)));
+    }
+    (grammar, named.is_ok())
 }
 
 /// An image begins with block number 0 and counts below 256 in two bytes each; a text has no such byte, except where it is

@@ -70,7 +70,7 @@ fn the_grammar_without_a_fault_is_assembled() {
     let ran = run(&folder, &["assemble", "grammar.txt", "grammar.img"]);
     assert_eq!(ran, Ran { code: Some(0), stdout: String::new(), stderr: String::new() });
     assert_eq!(fs::read(folder.join("grammar.img")).unwrap().len(), 6 * 512);
-    assert_eq!(names(&folder), ["grammar.img", "grammar.txt"]);
+    assert_eq!(names(&folder), ["grammar.img", "grammar.img.names", "grammar.txt"]);
 }
 
 #[test]

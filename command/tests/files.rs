@@ -40,7 +40,7 @@ fn a_new_image_takes_the_place_of_the_old() {
     let ran = run(&folder, &["assemble", "luz.txt", "luz.img"]);
     assert_eq!(ran, Ran { code: Some(0), stdout: String::new(), stderr: String::new() });
     assert!(is_luz(&folder.join("luz.img")));
-    assert_eq!(names(&folder), ["luz.img", "luz.txt"]);
+    assert_eq!(names(&folder), ["luz.img", "luz.img.names", "luz.txt"]);
 }
 
 #[test]
@@ -105,6 +105,10 @@ fn a_folder_in_place_of_an_image() {
     fails(run(&folder, &["assemble", "luz.txt", "none/luz.img"]), "none/luz.img:0: cannot be written: ");
     fails(run(&folder, &["assemble", "luz.txt", ""]), ":0: cannot be written: ");
     image_stays(&folder, &["inner"]);
+    fs::create_dir(folder.join("luz.img.names")).unwrap();
+    fails(run(&folder, &["assemble", "luz.txt", "luz.img"]), "luz.img.names:0: cannot be written: not a file");
+    fs::remove_dir(folder.join("luz.img.names")).unwrap();
+    image_stays(&folder, &["inner"]);
     assert_eq!(names(&folder.join("inner")), [""; 0]);
 }
 
@@ -114,6 +118,9 @@ fn the_grammar_itself_in_place_of_an_image() {
     fails(run(&folder, &["assemble", "luz.txt", "./luz.txt"]), "./luz.txt:0: is the grammar's own text");
     assert_eq!(fs::read_to_string(folder.join("luz.txt")).unwrap(), sample("luz"));
     image_stays(&folder, &[]);
+    fs::write(folder.join("new.names"), sample("luz")).unwrap();
+    fails(run(&folder, &["assemble", "new.names", "new"]), "new.names:0: is the grammar's own text");
+    image_stays(&folder, &["new.names"]);
 }
 
 #[cfg(unix)]
@@ -141,6 +148,7 @@ mod unix {
         assert_eq!(ran, Ran { code: Some(0), stdout: String::new(), stderr: String::new() });
         assert!(fs::symlink_metadata(folder.join("link.img")).unwrap().is_symlink());
         assert!(is_luz(&folder.join("luz.img")));
+        assert_eq!(names(&folder), ["link.img", "luz.img", "luz.img.names", "luz.txt"]);
     }
 
     /// With files limited to a block or two, writing fails after it has begun.

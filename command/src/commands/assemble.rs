@@ -3,6 +3,7 @@
 use crate::arguments::Given;
 use crate::commands::Command;
 use crate::failure::{tell_fault, tell_faults, Failure};
+use crate::names::{names_path, write_names};
 use crate::text::{put_in_place, read_grammar, read_source, sealed_image, warnings, Fault, Grammar};
 use std::path::Path;
 
@@ -12,21 +13,29 @@ pub const COMMAND: Command = Command {
     count: 2..=2,
     what: "a grammar's text to an image",
     options: &[],
-    more: "",
+    more: "\
+The image is sealed and ready for use. Beside it stands IMAGE.names, which has what an image does not hold: the names of sets,
+rules and lexicons, and the glosses in words. Both are written whole or not at all.
+",
     run,
 };
 
 fn run(given: &Given) -> Result<(), Failure> {
     let (source, image) = (Path::new(&given.operands[0]), Path::new(&given.operands[1]));
     let grammar = read(source)?;
-    if is_same_file(source, image) {
-        return Err(tell_fault(image, &Fault::new(0, "is the grammar's own text")));
+    let names = names_path(image);
+    for file in [image, &names] {
+        if is_same_file(source, file) {
+            return Err(tell_fault(file, &Fault::new(0, "is the grammar's own text")));
+        }
     }
     for warning in warnings(&grammar) {
         tell_fault(source, &warning);
     }
-    put_in_place(&sealed_image(&grammar), image)
-        .map_err(|error| tell_fault(image, &Fault::new(0, format!("cannot be written: {error}"))))
+    let bytes = sealed_image(&grammar);
+    let named = write_names(&grammar, &bytes);
+    put_in_place(&[(&bytes, image), (named.as_bytes(), &names)])
+        .map_err(|(file, error)| tell_fault(file, &Fault::new(0, format!("cannot be written: {error}"))))
 }
 
 fn read(source: &Path) -> Result<Grammar, Failure> {

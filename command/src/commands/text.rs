@@ -2,7 +2,10 @@
 
 use crate::arguments::Given;
 use crate::commands::Command;
-use crate::failure::{failed, Failure};
+use crate::failure::{print, tell_fault, Failure};
+use crate::loaded::load;
+use crate::text::{written, Fault};
+use std::path::Path;
 
 pub const COMMAND: Command = Command {
     name: "text",
@@ -10,10 +13,17 @@ pub const COMMAND: Command = Command {
     count: 1..=1,
     what: "an image back to text",
     options: &[],
-    more: "",
+    more: "\
+Names are those of IMAGE.names, where that is. Without it sets, rules and lexicons are called by their numbers, and glosses
+in words are gone. The text assembles to the same image, byte for byte.
+",
     run,
 };
 
-fn run(_: &Given) -> Result<(), Failure> {
-    Err(failed("text is not written yet"))
+fn run(given: &Given) -> Result<(), Failure> {
+    let loaded = load(Path::new(&given.operands[0]))?;
+    match written(&loaded.grammar) {
+        Ok(text) => print(&text),
+        Err(what) => Err(tell_fault(&loaded.path, &Fault::new(0, what))),
+    }
 }

@@ -21,22 +21,33 @@ pub struct Alphabet {
     any: char,
     /// Letters 2, 3, ..
     others: Vec<char>,
+    /// The line of each of these in the text.
+    lines: Vec<usize>,
 }
 
 impl Alphabet {
+    /// The alphabet of an image, with characters for the null and for any that are no letters.
+    pub fn of(letters: &[char], null: char, any: char) -> Alphabet {
+        Alphabet { boundary: letters[0], null, any, others: letters[1..].to_vec(), lines: vec![0; letters.len() - 1] }
+    }
+
     pub fn read(sections: &Sections) -> Result<Alphabet, Faults> {
         let mut alphabet = Alphabet {
             boundary: read_symbol(&sections.boundary)?,
             null: read_symbol(&sections.null)?,
             any: read_symbol(&sections.any)?,
             others: Vec::new(),
+            lines: Vec::new(),
         };
         check_symbols(&alphabet, sections)?;
         check_count(&sections.alphabet)?;
         let mut faults = Faults::default();
         for (line, word) in sections.alphabet.words() {
             let letter = alphabet.read_letter(word, line);
-            alphabet.others.extend(faults.keep(letter));
+            if let Some(letter) = faults.keep(letter) {
+                alphabet.others.push(letter);
+                alphabet.lines.push(line);
+            }
         }
         faults.or(alphabet)
     }
@@ -73,6 +84,11 @@ impl Alphabet {
             ANY => self.any,
             letter => self.others[usize::from(letter - FIRST)],
         }
+    }
+
+    /// Where the text lists a letter from 2 on; 0 where the grammar is an image's.
+    pub fn line(&self, letter: u8) -> usize {
+        self.lines[usize::from(letter - FIRST)]
     }
 
     fn read_letter(&self, word: Word, line: usize) -> Result<char, Fault> {

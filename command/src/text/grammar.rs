@@ -9,8 +9,8 @@ use crate::text::rules::{self, Rule};
 use crate::text::sets::Sets;
 use crate::text::{lines, sections};
 
-/// Only `read_grammar` makes one, so every grammar keeps the limits, has one narrowest column for each
-/// pair in each rule, and has each letter of a form on the lexical side of a pair.
+/// Only `read_grammar` makes one, and `decode` of an image that the library accepts: so every grammar keeps the limits, has
+/// one narrowest column for each pair in each rule, and has each letter of a form on the lexical side of a pair.
 #[derive(Debug)]
 pub struct Grammar {
     pub(crate) alphabet: Alphabet,

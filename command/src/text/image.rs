@@ -9,18 +9,18 @@ use crate::text::pairs::Pair;
 use crate::text::rules::Rule;
 use crate::text::sets::{Set, FIRST_SET};
 
-const BLOCK: usize = 512;
+pub const BLOCK: usize = 512;
 const MOST_BLOCKS: usize = 128;
 /// Where a block's first record begins.
-const RECORDS: usize = 4;
+pub const RECORDS: usize = 4;
 /// Where a block's check stands.
 const CHECK: usize = 510;
 const FORM_ONE: usize = 1;
-const ENTRIES_A_BLOCK: usize = 31;
-const ENTRY: usize = 16;
-const SET: usize = 16;
+pub const ENTRIES_A_BLOCK: usize = 31;
+pub const ENTRY: usize = 16;
+pub const SET: usize = 16;
 /// The continuation of an entry that ends the word.
-const END: u8 = 255;
+pub const END: u8 = 255;
 
 // The limits keep every image within its blocks, so that no grammar is too large to lay out.
 const _: () = {

@@ -12,6 +12,8 @@ use std::collections::HashMap;
 pub struct Lexicon {
     pub name: String,
     pub entries: Vec<Entry>,
+    /// Where its name stands in the text; 0 where the grammar is an image's.
+    pub line: usize,
 }
 
 #[derive(Debug)]
@@ -49,6 +51,7 @@ pub fn read(sections: &[Section], alphabet: &Alphabet, pairs: &[Pair], faults: &
         lexicons.push(Lexicon {
             name: read_name(section, alphabet).unwrap_or_default().to_string(),
             entries: entries.filter_map(|entry| faults.keep(entry)).collect(),
+            line: section.line,
         });
     }
     lexicons

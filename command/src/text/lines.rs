@@ -99,6 +99,11 @@ fn refuse_unseen(text: &str, unseen: impl Fn(char) -> bool) -> Result<(), String
     }
 }
 
+/// Whether a text has these characters as one bare word.
+pub fn is_word(text: &str) -> bool {
+    matches!(split_line(text).as_deref(), Ok([Word::Bare(word)]) if *word == text)
+}
+
 /// The character of a word that is just one.
 pub fn one_character(word: &str) -> Option<char> {
     let mut characters = word.chars();

@@ -11,18 +11,30 @@ use crate::text::sections::Section;
 pub struct Rule {
     pub name: String,
     pub columns: Vec<Column>,
-    /// The column that the boundary pair takes.
-    pub boundary: usize,
+    /// The place of the column that each pair takes and, last, the boundary pair.
+    pub taken: Vec<usize>,
     /// States 1, 2, ..
     pub states: Vec<State>,
-    /// The line of state 1's row.
-    pub first_row: usize,
+    /// Where its first line stands in the text; 0 where the grammar is an image's.
+    pub line: usize,
+    /// The line of its lexical sides.
+    pub sides_line: usize,
 }
 
 impl Rule {
     /// Whether the boundary pair, which comes first in every word, leads to failure at once.
     pub fn fails_at_front(&self) -> bool {
-        self.states[0].next[self.boundary] == 0
+        self.next(1, self.boundary()) == 0
+    }
+
+    /// The column that the boundary pair takes.
+    pub fn boundary(&self) -> usize {
+        self.taken[self.taken.len() - 1]
+    }
+
+    /// The state that a column leads to from a state.
+    pub fn next(&self, state: usize, column: usize) -> usize {
+        usize::from(self.states[state - 1].next[column])
     }
 }
 
@@ -31,6 +43,8 @@ pub struct State {
     pub is_final: bool,
     /// The next state for each column; 0 is failure.
     pub next: Vec<u8>,
+    /// Where its row stands in the text.
+    pub line: usize,
 }
 
 /// What a rule's first line says.
@@ -58,13 +72,7 @@ fn read_rule(section: &Section, sides: Sides, pairs: &[Pair]) -> Result<Rule, Fa
     let states = read_states(rows, &heading, section.last_line())?;
     let taken = columns::taken(&columns, pairs, sides)
         .map_err(|what| Fault::new(lexical.number, format!("rule \"{}\": {what}", heading.name)))?;
-    Ok(Rule {
-        name: heading.name.to_string(),
-        columns,
-        boundary: taken[pairs.len()],
-        states,
-        first_row: rows[0].number,
-    })
+    Ok(Rule { name: heading.name.to_string(), columns, taken, states, line: section.line, sides_line: lexical.number })
 }
 
 fn read_heading<'a>(section: &Section<'a>) -> Result<Heading<'a>, Fault> {
@@ -139,7 +147,7 @@ fn read_state(row: &Line, state: usize, heading: &Heading) -> Result<State, Faul
         return Err(Fault::new(row.number, what));
     }
     let next = next.iter().map(|&word| read_next(word, row.number, heading));
-    Ok(State { is_final, next: next.collect::<Result<_, _>>()? })
+    Ok(State { is_final, next: next.collect::<Result<_, _>>()?, line: row.number })
 }
 
 fn read_next(word: Word, line: usize, heading: &Heading) -> Result<u8, Fault> {

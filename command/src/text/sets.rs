@@ -14,6 +14,8 @@ pub struct Set {
     pub name: String,
     /// In the order of the text; the null and the boundary may be among them.
     pub letters: Vec<u8>,
+    /// Where it stands in the text; 0 where the grammar is an image's.
+    pub line: usize,
 }
 
 /// Sets 0, 1, ..
@@ -21,6 +23,10 @@ pub struct Set {
 pub struct Sets(Vec<Set>);
 
 impl Sets {
+    pub fn of(sets: Vec<Set>) -> Sets {
+        Sets(sets)
+    }
+
     pub fn read(sections: &[Section], alphabet: &Alphabet) -> Result<Sets, Faults> {
         if let Some(first_over) = sections.get(*limits::SETS.end()) {
             limits::within(&limits::SETS, sections.len(), "sets", first_over.line)?;
@@ -31,7 +37,7 @@ impl Sets {
             let name = read_name(section, alphabet).and_then(|name| is_first(name, section, &sections[..at]));
             if let Some(name) = faults.keep(name) {
                 let letters = read_letters(section, name, alphabet, &mut faults);
-                sets.push(Set { name: name.to_string(), letters });
+                sets.push(Set { name: name.to_string(), letters, line: section.line });
             }
         }
         faults.or(Sets(sets))
@@ -39,6 +45,10 @@ impl Sets {
 
     pub fn all(&self) -> &[Set] {
         &self.0
+    }
+
+    pub fn all_mut(&mut self) -> &mut [Set] {
+        &mut self.0
     }
 
     /// The side of a column that the name of a set stands for.

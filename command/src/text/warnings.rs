@@ -17,7 +17,10 @@ fn dead_fronts(grammar: &Grammar) -> Vec<Fault> {
     let dead = grammar.rules.iter().filter(|rule| rule.fails_at_front());
     dead.map(|rule| {
         let moves = format!("rule \"{}\" goes from state 1 to 0 by {boundary}", rule.name);
-        Fault::new(rule.first_row, format!("warning: {moves}, which comes first in every word: no word has a reading"))
+        Fault::new(
+            rule.states[0].line,
+            format!("warning: {moves}, which comes first in every word: no word has a reading"),
+        )
     })
     .collect()
 }
