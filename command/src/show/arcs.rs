@@ -1,36 +1,30 @@
 //! A rule as it is shown: columns with the pairs that take them, and for each state its arcs, one to each state that it leads to.
 
-use crate::text::columns::{taken, Sides};
+use crate::text::columns::Sides;
 use crate::text::pairs::BOUNDARY_PAIR;
-use crate::text::Grammar;
+use crate::text::{write_rule, Grammar};
 
 /// A rule with everything that it speaks of in the text's own letters.
 pub struct Shown {
     /// The rule's number, from 1.
     pub number: usize,
     pub name: String,
+    /// Its lines in a grammar's text.
+    pub table: String,
     pub columns: Vec<ShownColumn>,
     /// States 1, 2, ..
     pub states: Vec<ShownState>,
 }
 
 pub struct ShownColumn {
-    pub lexical: String,
-    pub surface: String,
+    /// As `Z:c`.
+    pub name: String,
     /// The pairs that take it, the boundary pair last.
     pub pairs: Vec<String>,
 }
 
-impl ShownColumn {
-    pub fn name(&self) -> String {
-        format!("{}:{}", self.lexical, self.surface)
-    }
-}
-
 pub struct ShownState {
     pub is_final: bool,
-    /// The next state for each column.
-    pub next: Vec<u8>,
     /// In the order of the states that they lead to; 0, failure, is last.
     pub arcs: Vec<Arc>,
 }
@@ -46,15 +40,12 @@ impl Shown {
     pub fn of(grammar: &Grammar, at: usize) -> Shown {
         let rule = &grammar.rules[at];
         let sides = Sides { alphabet: &grammar.alphabet, sets: &grammar.sets };
-        // Every grammar has one narrowest column for each pair.
-        let takes = taken(&rule.columns, &grammar.pairs, sides).unwrap_or_default();
         let fed: Vec<_> = grammar.pairs.iter().copied().chain([BOUNDARY_PAIR]).collect();
         let column = |place: usize| ShownColumn {
-            lexical: sides.show(rule.columns[place].lexical),
-            surface: sides.show(rule.columns[place].surface),
+            name: sides.show_column(rule.columns[place]),
             pairs: fed
                 .iter()
-                .zip(&takes)
+                .zip(&rule.taken)
                 .filter(|&(_, &taken)| taken == place)
                 .map(|(pair, _)| pair.show(&grammar.alphabet))
                 .collect(),
@@ -63,16 +54,15 @@ impl Shown {
         Shown {
             number: at + 1,
             name: rule.name.clone(),
+            table: write_rule(rule, sides),
             columns: (0..rule.columns.len()).map(column).collect(),
-            states: states
-                .map(|state| ShownState { is_final: state.is_final, next: state.next.clone(), arcs: arcs(&state.next) })
-                .collect(),
+            states: states.map(|state| ShownState { is_final: state.is_final, arcs: arcs(&state.next) }).collect(),
         }
     }
 
     /// The names of an arc's columns.
     pub fn labels(&self, arc: &Arc) -> Vec<String> {
-        arc.columns.iter().map(|&at| self.columns[at].name()).collect()
+        arc.columns.iter().map(|&at| self.columns[at].name.clone()).collect()
     }
 }
 

@@ -134,8 +134,8 @@ fn bounds(picture: &Picture) -> (f64, f64, f64, f64) {
 fn legend(shown: &Shown, failures: bool, characters: usize) -> Vec<String> {
     let mut lines = Vec::new();
     for column in &shown.columns {
-        let name = column.name();
-        if column.pairs == [name.clone()] {
+        let name = &column.name;
+        if column.pairs == [name.as_str()] {
             continue;
         }
         let pairs = if column.pairs.is_empty() { "no pair".to_string() } else { column.pairs.join(" ") };

@@ -1,6 +1,6 @@
 //! A grammar as a search walks through it: entries by number, and every rule's next state for every pair.
 
-use crate::text::columns::{taken, Sides};
+use crate::text::columns::Sides;
 use crate::text::lexicons::Entry;
 use crate::text::limits;
 use crate::text::pairs::{Pair, BOUNDARY_PAIR};
@@ -26,23 +26,17 @@ pub struct Tables<'a> {
     pub entries: Vec<(&'a Entry, usize)>,
     /// The number of each lexicon's first entry.
     pub first: Vec<usize>,
-    /// For each rule the column that each pair takes and, last, the boundary pair.
-    takes: Vec<Vec<usize>>,
 }
 
 impl<'a> Tables<'a> {
     pub fn new(grammar: &'a Grammar) -> Tables<'a> {
-        let sides = Sides { alphabet: &grammar.alphabet, sets: &grammar.sets };
         let mut entries = Vec::new();
         let mut first = Vec::new();
         for (at, lexicon) in grammar.lexicons.iter().enumerate() {
             first.push(entries.len());
             entries.extend(lexicon.entries.iter().map(|entry| (entry, at)));
         }
-        // Every grammar has one narrowest column for each pair.
-        let takes = |columns| taken(columns, &grammar.pairs, sides).unwrap_or_default();
-        let takes = grammar.rules.iter().map(|rule| takes(&rule.columns)).collect();
-        Tables { grammar, entries, first, takes }
+        Tables { grammar, entries, first }
     }
 
     /// The numbers of a lexicon's entries.
@@ -62,26 +56,27 @@ impl<'a> Tables<'a> {
     /// The column of a rule that a pair takes, as the text writes it.
     pub fn column(&self, rule: usize, pair: usize) -> String {
         let sides = Sides { alphabet: &self.grammar.alphabet, sets: &self.grammar.sets };
-        sides.show_column(self.grammar.rules[rule].columns[self.takes[rule][pair]])
+        let rule = &self.grammar.rules[rule];
+        sides.show_column(rule.columns[rule.taken[pair]])
     }
 
     /// Every rule in state 1, before the boundary pair.
     pub fn start(&self) -> States {
         let mut states = [0; *limits::RULES.end()];
-        states[..self.takes.len()].fill(1);
+        states[..self.grammar.rules.len()].fill(1);
         states
     }
 
     pub fn next(&self, rule: usize, state: u8, pair: usize) -> u8 {
-        let state = &self.grammar.rules[rule].states[usize::from(state) - 1];
-        state.next[self.takes[rule][pair]]
+        let rule = &self.grammar.rules[rule];
+        rule.states[usize::from(state) - 1].next[rule.taken[pair]]
     }
 
     /// The states after a pair, or the rules that refuse it.
     pub fn feed(&self, states: &States, pair: usize) -> Result<States, Vec<Refusal>> {
         let mut after = *states;
         let mut refusals = Vec::new();
-        for rule in 0..self.takes.len() {
+        for rule in 0..self.grammar.rules.len() {
             let state = states[rule];
             after[rule] = self.next(rule, state, pair);
             if after[rule] == 0 {
@@ -101,7 +96,7 @@ impl<'a> Tables<'a> {
             let state = states[rule];
             Refusal { rule, state, next: self.next(rule, state, self.boundary()) }
         };
-        (0..self.takes.len()).map(last).filter(|refusal| !self.is_final(refusal.rule, refusal.next)).collect()
+        (0..self.grammar.rules.len()).map(last).filter(|refusal| !self.is_final(refusal.rule, refusal.next)).collect()
     }
 
     fn is_final(&self, rule: usize, state: u8) -> bool {
