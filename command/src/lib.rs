@@ -5,13 +5,17 @@ mod checksum;
 mod commands;
 mod decode;
 mod failure;
+mod layout;
 #[allow(unsafe_code)]
 mod library;
 mod loaded;
 mod names;
+mod readings;
 mod refusals;
 mod show;
 mod text;
+mod why;
+mod words;
 
 pub use commands::run;
 pub use text::{

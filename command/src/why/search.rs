@@ -6,7 +6,9 @@ use crate::text::lexicons::Continuation;
 use std::collections::HashSet;
 
 /// Steps after which a search is cut, so that it ends by any grammar.
-const MOST_STEPS: usize = 200_000;
+pub const MOST_STEPS: usize = 200_000;
+/// Ways that are kept of those that stop at the furthest letter.
+const MOST_DEAD: usize = 4_000;
 /// What a reading may have.
 const MOST_ENTRIES: u8 = 16;
 const MOST_NULLS: u8 = 8;
@@ -45,6 +47,30 @@ pub struct Dead {
     pub stop: Stop,
 }
 
+/// The entries that steps open.
+pub fn opened(steps: &[Step]) -> impl Iterator<Item = usize> + '_ {
+    steps.iter().filter_map(|step| match step {
+        Step::Opened(entry) => Some(*entry),
+        Step::Paired(_) => None,
+    })
+}
+
+impl Dead {
+    /// The pairs that were taken.
+    pub fn pairs(&self) -> impl Iterator<Item = usize> + '_ {
+        self.steps.iter().filter_map(|step| match step {
+            Step::Paired(pair) => Some(*pair),
+            Step::Opened(_) => None,
+        })
+    }
+
+    /// Whether a reading, its entries and its pairs, begins so.
+    pub fn begins(&self, (path, pairing): &(Vec<usize>, Vec<usize>)) -> bool {
+        let is_beginning = |of: &[usize], with: Vec<usize>| of.starts_with(&with);
+        is_beginning(path, opened(&self.steps).collect()) && is_beginning(pairing, self.pairs().collect())
+    }
+}
+
 /// The ways that come furthest.
 #[derive(Debug, Default)]
 pub struct Furthest {
@@ -78,6 +104,7 @@ struct Search<'a> {
     tables: &'a Tables<'a>,
     word: &'a [u8],
     rules: bool,
+    steps: usize,
     nodes: Vec<Node>,
     open: Vec<usize>,
     seen: HashSet<Spot>,
@@ -87,21 +114,20 @@ struct Search<'a> {
     cut: bool,
 }
 
-/// The ways through a word that come furthest, by all rules or, to see what the lexicon alone allows, by none.
-pub fn furthest(tables: &Tables, word: &[u8], rules: bool) -> Furthest {
+/// The ways through a word that come furthest, by all rules or, to see what the lexicon alone allows, by none; after at most
+/// so many steps.
+pub fn furthest(tables: &Tables, word: &[u8], rules: bool, steps: usize) -> Furthest {
     let begin = tables.feed(&tables.start(), tables.boundary());
     let states = match begin {
         Err(front) if rules => return Furthest { front, ..Furthest::default() },
         Err(_) => tables.start(),
         Ok(states) => states,
     };
-    let nothing = (Vec::new(), Vec::new(), HashSet::new());
-    let (nodes, open, seen) = nothing;
-    let mut search = Search { tables, word, rules, nodes, open, seen, dead: Vec::new(), covered: 0, cut: false };
+    let mut search = Search::new(tables, word, rules, steps);
     let spot = Spot { entry: 0, place: 0, covered: 0, entries: 0, lexical_nulls: 0, surface_nulls: 0, states };
     search.open_lexicon(None, &spot, 0);
     while let Some(at) = search.open.pop() {
-        if search.nodes.len() >= MOST_STEPS {
+        if search.nodes.len() >= search.steps {
             search.cut = true;
             break;
         }
@@ -111,7 +137,12 @@ pub fn furthest(tables: &Tables, word: &[u8], rules: bool) -> Furthest {
     Furthest { covered: search.covered, dead, cut: search.cut, front: Vec::new() }
 }
 
-impl Search<'_> {
+impl<'a> Search<'a> {
+    fn new(tables: &'a Tables<'a>, word: &'a [u8], rules: bool, steps: usize) -> Search<'a> {
+        let (nodes, open, dead, seen) = (Vec::new(), Vec::new(), Vec::new(), HashSet::new());
+        Search { tables, word, rules, steps, nodes, open, seen, dead, covered: 0, cut: false }
+    }
+
     /// Tries all that can follow a node.
     fn go_on(&mut self, at: usize) {
         let spot = self.nodes[at].spot.clone();
@@ -193,7 +224,7 @@ impl Search<'_> {
             self.dead.clear();
             self.covered = covered;
         }
-        if covered == self.covered {
+        if covered == self.covered && self.dead.len() < MOST_DEAD {
             self.dead.push((at, stop));
         }
     }
@@ -207,5 +238,53 @@ impl Search<'_> {
         }
         steps.reverse();
         Dead { steps, place: self.nodes[at].spot.place, stop }
+    }
+}
+
+#[cfg(test)]
+mod tests {
+    use super::*;
+    use crate::text::read_grammar;
+
+    const LUZ: &str = include_str!("../../../grammars/luz.txt");
+
+    fn by_luz(word: &str, rules: bool, steps: usize) -> Furthest {
+        let grammar = read_grammar(LUZ.as_bytes()).unwrap();
+        let letters: Vec<u8> = word.chars().map(|c| grammar.alphabet.number(c).unwrap()).collect();
+        furthest(&Tables::new(&grammar), &letters, rules, steps)
+    }
+
+    #[test]
+    fn a_rule_refuses_a_pair_at_the_furthest_letter() {
+        let found = by_luz("luzes", true, MOST_STEPS);
+        assert_eq!((found.covered, found.cut), (3, false));
+        let refused = found.dead.iter().find(|dead| matches!(dead.stop, Stop::Refused { .. })).unwrap();
+        assert_eq!(refused.stop, Stop::Refused { pair: 2, by: vec![Refusal { rule: 0, state: 4, next: 0 }] });
+        assert_eq!(opened(&refused.steps).collect::<Vec<_>>(), [0, 3]);
+        assert_eq!(refused.pairs().collect::<Vec<_>>(), [3, 5, 7, 0]);
+        assert!(refused.begins(&(vec![0, 3], vec![3, 5, 7, 0, 2, 4])));
+        assert!(!refused.begins(&(vec![1, 3], vec![3, 5, 7, 0, 2, 4])));
+    }
+
+    #[test]
+    fn without_rules_a_way_comes_further() {
+        assert_eq!(by_luz("luzeu", true, MOST_STEPS).covered, 3);
+        let found = by_luz("luzeu", false, MOST_STEPS);
+        assert_eq!((found.covered, found.dead.len(), &found.dead[0].stop), (4, 1, &Stop::NoPair));
+    }
+
+    #[test]
+    fn a_search_is_cut_after_its_steps() {
+        assert!(by_luz("luzes", true, 3).cut);
+    }
+
+    #[test]
+    fn ways_stop_where_the_word_or_the_path_ends() {
+        let stops = |word: &str| -> Vec<Stop> {
+            by_luz(word, true, MOST_STEPS).dead.into_iter().map(|dead| dead.stop).collect()
+        };
+        assert_eq!(stops("lu"), [Stop::WordEnds, Stop::WordEnds]);
+        assert_eq!(stops("lucesu"), [Stop::LeftOver]);
+        assert_eq!(stops("lus"), [Stop::NoPair, Stop::NoPair]);
     }
 }

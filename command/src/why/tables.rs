@@ -103,20 +103,41 @@ impl<'a> Tables<'a> {
         state.checked_sub(1).is_some_and(|at| self.grammar.rules[rule].states[usize::from(at)].is_final)
     }
 
-    /// Where one rule refuses a pairing: how many pairs it takes before that.
+    /// Where one rule refuses a pairing: the pair that it refuses, the boundary pair at the front and the end, and how.
     pub fn refused_by(&self, rule: usize, pairing: &[usize]) -> Option<(usize, Refusal)> {
-        let mut state = self.next(rule, 1, self.boundary());
-        if state == 0 {
-            return Some((0, Refusal { rule, state: 1, next: 0 }));
-        }
-        for (at, &pair) in pairing.iter().enumerate() {
-            let next = self.next(rule, state, pair);
-            if next == 0 {
-                return Some((at, Refusal { rule, state, next }));
+        let fed = [self.boundary()].into_iter().chain(pairing.iter().copied()).chain([self.boundary()]);
+        let (mut state, mut last) = (1, 1);
+        for pair in fed {
+            last = state;
+            state = self.next(rule, last, pair);
+            if state == 0 {
+                return Some((pair, Refusal { rule, state: last, next: 0 }));
             }
-            state = next;
         }
-        let next = self.next(rule, state, self.boundary());
-        (!self.is_final(rule, next)).then_some((pairing.len(), Refusal { rule, state, next }))
+        let refusal = Refusal { rule, state: last, next: state };
+        (!self.is_final(rule, state)).then_some((self.boundary(), refusal))
+    }
+}
+
+#[cfg(test)]
+mod tests {
+    use super::*;
+    use crate::text::read_grammar;
+
+    /// The rule lets s:s stand neither first nor, after t:t, last.
+    const TEXT: &str = "BOUNDARY #\nNULL 0\nANY @\nALPHABET s t\nPAIRS s:s t:t\nRULE \"s\" 4 3\n# s @\n# s @\n1. 2 0 0\n2: 2 0 3\n3: 3 4 3\n4. 4 4 3\nLEXICON Root\ns #\nEND\n";
+
+    #[test]
+    fn a_rule_refuses_a_pair_or_an_end() {
+        let grammar = read_grammar(TEXT.as_bytes()).unwrap();
+        let tables = Tables::new(&grammar);
+        let refusal = |state, next| Refusal { rule: 0, state, next };
+        assert_eq!(tables.refused_by(0, &[0, 1]), Some((0, refusal(2, 0))));
+        assert_eq!(tables.refused_by(0, &[1, 0]), Some((2, refusal(4, 4))));
+        assert_eq!(tables.refused_by(0, &[1, 0, 1]), None);
+        let begun = tables.feed(&tables.start(), tables.boundary()).unwrap();
+        assert_eq!(tables.feed(&begun, 0), Err(vec![refusal(2, 0)]));
+        assert_eq!(tables.end(&begun), []);
+        assert_eq!((tables.column(0, 1), tables.column(0, 2)), ("@:@".to_string(), "#:#".to_string()));
     }
 }

@@ -56,3 +56,23 @@ pub fn ask(image: &[u8], word: &[u8], most: usize, time: Duration) -> Option<Rea
     });
     receiver.recv_timeout(time).ok()
 }
+
+#[cfg(test)]
+mod tests {
+    use super::*;
+    use crate::text::{read_grammar, sealed_image};
+
+    const SPANISH: &str = include_str!("../../../grammars/spanish.txt");
+
+    #[test]
+    fn an_image_without_rules_is_accepted_and_is_that_of_the_text_without_them() {
+        let image = sealed_image(&read_grammar(SPANISH.as_bytes()).unwrap());
+        let (before, rule) = SPANISH.split_at(SPANISH.find("RULE \"Q becomes").unwrap());
+        let (_, after) = rule.split_at(rule.find("LEXICON").unwrap());
+        let text = format!("{before}{after}");
+        assert_eq!(without(&image, &[6]), sealed_image(&read_grammar(text.as_bytes()).unwrap()));
+        for left_out in [vec![0], vec![2, 5], (0..7).collect()] {
+            assert_eq!(library::check(&without(&image, &left_out)), Reply::All(0));
+        }
+    }
+}
