@@ -19,7 +19,7 @@ pub const COMMAND: Command = Command {
         Choice { name: "--failures", value: None, what: "with state 0 and the arcs to it, in the graph or picture" },
     ],
     more: "\
-RULE is a rule's name, the beginning of one name alone, or a rule's number, from 1. Without it the rules are listed:
+RULE is a rule's name, the beginning of one name alone, or a rule's number, from 0. Without it the rules are listed:
 number, name. As text a rule is its table, the pairs that take each column, and for each state its arcs. In a graph or a
 picture final states have a double ring, and what has no arc fails.
 
@@ -51,8 +51,8 @@ fn run(given: &Given) -> Result<(), Failure> {
 
 /// A line a rule: number, name.
 fn list(grammar: &Grammar) -> String {
-    let rules = (1..).zip(&grammar.rules);
-    rules.map(|(number, rule): (usize, _)| format!("{number}\t{}\n", rule.name)).collect()
+    let rules = grammar.rules.iter().enumerate();
+    rules.map(|(number, rule)| format!("{number}\t{}\n", rule.name)).collect()
 }
 
 /// The place of the rule that is asked for.
@@ -67,14 +67,13 @@ fn find(grammar: &Grammar, asked: &str) -> Result<usize, String> {
             [] => {}
             [at] => return Ok(at),
             [first, second, ..] => {
-                let (first, second) = (first + 1, second + 1);
-                return Err(format!("\"{asked}\" may be rule {first} or rule {second}; give the number"));
+                return Err(format!("\"{asked}\" may be rule {first} or rule {second}; give the number"))
             }
         }
     }
     match asked.parse::<usize>() {
-        Ok(number) if (1..=grammar.rules.len()).contains(&number) => Ok(number - 1),
-        Ok(number) => Err(format!("there is no rule {number}; the grammar has {}", grammar.rules.len())),
+        Ok(number) if number < grammar.rules.len() => Ok(number),
+        Ok(number) => Err(format!("there is no rule {number}; the grammar has {}, from 0 on", grammar.rules.len())),
         Err(_) => Err(format!("no rule is called \"{asked}\"{}", is_meant(nearest(asked, names())))),
     }
 }

@@ -6,7 +6,7 @@ use crate::text::{write_rule, Grammar};
 
 /// A rule with everything that it speaks of in the text's own letters.
 pub struct Shown {
-    /// The rule's number, from 1.
+    /// The rule's number, from 0.
     pub number: usize,
     pub name: String,
     /// Its lines in a grammar's text.
@@ -52,7 +52,7 @@ impl Shown {
         };
         let states = rule.states.iter();
         Shown {
-            number: at + 1,
+            number: at,
             name: rule.name.clone(),
             table: write_rule(rule, sides),
             columns: (0..rule.columns.len()).map(column).collect(),
