@@ -29,7 +29,7 @@ pub fn decode(image: &[u8]) -> Grammar {
         line: 0,
     });
     let lexicons = lexicons.collect();
-    Grammar { alphabet, sets, pairs, rules, lexicons }
+    Grammar { alphabet, sets, pairs, rules, lexicons, named: false }
 }
 
 fn two_bytes(bytes: &[u8], at: usize) -> usize {

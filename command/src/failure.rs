@@ -15,7 +15,7 @@ pub enum Failure {
     Told,
 }
 
-/// Faults told of one text; a single slip in the alphabet can give thousands.
+/// Faults, and warnings, told of one text; a single slip in the alphabet can give thousands.
 const MOST_TOLD: usize = 20;
 
 /// Tells what went wrong, where no line of a file is at fault.
@@ -31,15 +31,22 @@ pub fn tell_fault(file: &Path, fault: &Fault) -> Failure {
 }
 
 pub fn tell_faults(file: &Path, faults: Faults) -> Failure {
-    let faults = faults.by_line();
+    tell_some(file, &faults.by_line(), "faults");
+    Failure::Told
+}
+
+/// What a grammar hardly means, which ends nothing.
+pub fn tell_warnings(file: &Path, warnings: &[Fault]) {
+    tell_some(file, warnings, "warnings");
+}
+
+fn tell_some(file: &Path, faults: &[Fault], kind: &str) {
     for fault in faults.iter().take(MOST_TOLD) {
         tell_fault(file, fault);
     }
     if faults.len() > MOST_TOLD {
-        let more = format!("{} faults more", faults.len() - MOST_TOLD);
-        tell_fault(file, &Fault::new(0, more));
+        tell_fault(file, &Fault::new(0, format!("{} {kind} more", faults.len() - MOST_TOLD)));
     }
-    Failure::Told
 }
 
 /// A reader that has seen enough closes the pipe; that needs no words.

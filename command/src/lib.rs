@@ -14,11 +14,14 @@ mod readings;
 mod refusals;
 mod show;
 mod text;
+mod warnings;
 mod why;
 mod words;
 
 pub use commands::run;
+pub use decode::decode;
 pub use text::{
-    list_entries, list_letters, list_pairs, list_sets, read_grammar, read_source, sealed_image, warnings, written,
-    Fault, Faults, Grammar,
+    list_entries, list_letters, list_pairs, list_sets, read_grammar, read_source, sealed_image, written, Fault, Faults,
+    Grammar,
 };
+pub use warnings::warnings;

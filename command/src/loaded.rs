@@ -5,6 +5,7 @@ use crate::failure::{tell_fault, tell_faults, Failure};
 use crate::library;
 use crate::names::{name_grammar, names_path};
 use crate::refusals;
+use crate::text::image::BLOCK;
 use crate::text::{read_grammar, read_source, sealed_image, Fault, Grammar};
 use std::path::{Path, PathBuf};
 
@@ -18,6 +19,22 @@ pub struct Loaded {
     pub named: bool,
 }
 
+impl Loaded {
+    /// How much of what it holds, in the order in which that is told.
+    pub fn counts(&self) -> [(&'static str, usize); 7] {
+        let grammar = &self.grammar;
+        [
+            ("letters", grammar.alphabet.count()),
+            ("pairs", grammar.pairs.len()),
+            ("sets", grammar.sets.all().len()),
+            ("rules", grammar.rules.len()),
+            ("lexicons", grammar.lexicons.len()),
+            ("entries", grammar.entries().len()),
+            ("blocks", self.image.len() / BLOCK),
+        ]
+    }
+}
+
 /// Loads a text or an image. What is wrong with it is told.
 pub fn load(path: &Path) -> Result<Loaded, Failure> {
     let bytes = read_source(path).map_err(|fault| tell_fault(path, &fault))?;
@@ -29,8 +46,8 @@ pub fn load_bytes(path: &Path, bytes: Vec<u8>) -> Result<Loaded, Failure> {
     let path = path.to_path_buf();
     if is_image(&bytes) {
         accept(&path, &bytes)?;
-        let (grammar, named) = decode_named(&path, &bytes);
-        return Ok(Loaded { path, image: bytes, grammar, named });
+        let grammar = decode_named(&path, &bytes);
+        return Ok(Loaded { path, named: grammar.named, image: bytes, grammar });
     }
     let grammar = read_grammar(&bytes).map_err(|faults| tell_faults(&path, faults))?;
     let image = sealed_image(&grammar);
@@ -45,18 +62,17 @@ fn accept(path: &Path, image: &[u8]) -> Result<(), Failure> {
     }
 }
 
-/// The grammar of an accepted image, and whether it has its names. Names that are not its own are told.
-fn decode_named(path: &Path, image: &[u8]) -> (Grammar, bool) {
+/// The grammar of an accepted image, with its names where they are there. Names that are not its own are told.
+fn decode_named(path: &Path, image: &[u8]) -> Grammar {
     let mut grammar = decode(image);
     let beside = names_path(path);
-    if !beside.exists() {
-        return (grammar, false);
+    if beside.exists() {
+        let named = read_source(&beside).and_then(|bytes| name_grammar(&mut grammar, image, &bytes));
+        if let Err(fault) = named {
+            tell_fault(&beside, &Fault::new(fault.line, format!("{}; these names are not used", fault.what)));
+        }
     }
-    let named = read_source(&beside).and_then(|bytes| name_grammar(&mut grammar, image, &bytes));
-    if let Err(fault) = &named {
-        tell_fault(&beside, &Fault::new(fault.line, format!("{}; these names are not used", fault.what)));
-    }
-    (grammar, named.is_ok())
+    grammar
 }
 
 /// An image begins with block number 0 and counts below 256 in two bytes each; a text has no such byte, except where it is

@@ -139,4 +139,5 @@ fn give(names: Names, grammar: &mut Grammar) {
     for (number, gloss) in names.glosses {
         entries[number].gloss_text = gloss.to_string();
     }
+    grammar.named = true;
 }

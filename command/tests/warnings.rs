@@ -5,7 +5,18 @@ mod support;
 use headwords_command::{read_grammar, warnings, Fault};
 use std::fs;
 use std::path::Path;
-use support::{assembled, run, sample, scratch, SAMPLES};
+use support::{assembled, edited, run, sample, scratch, SAMPLES};
+
+/// What is told of luz with one place changed: lines, and what stands after `warning: `.
+fn told_of(from: &str, to: &str) -> Vec<(usize, String)> {
+    let told = told(&edited(&sample("luz"), from, to));
+    told.into_iter().map(|fault| (fault.line, fault.what.strip_prefix("warning: ").unwrap().to_string())).collect()
+}
+
+/// The line of luz in which a text stands.
+fn line_of(text: &str) -> usize {
+    1 + sample("luz").lines().position(|line| line.contains(text)).unwrap()
+}
 
 /// luz, whose boundary takes the fifth column, with another row for state 1.
 fn with_row_one(row: &str) -> String {
@@ -35,7 +46,8 @@ fn a_rule_that_fails_at_the_front_is_told_and_the_image_is_made() {
 fn only_the_boundary_pair_in_state_1_counts() {
     // A 0 in another column of row 1; rows 3 and 5 of the sample have a 0 in the boundary's column.
     for row in ["0 2 1 1 1", "3 0 1 1 1", "3 2 0 1 1", "3 2 1 0 1", "0 0 0 0 1"] {
-        assert_eq!(told(&with_row_one(row)), []);
+        let told = told(&with_row_one(row));
+        assert!(!told.iter().any(|fault| fault.what.contains("goes from state 1 to 0")), "{told:?}");
     }
 }
 
@@ -62,12 +74,13 @@ fn with_lexicons(lexicons: &str) -> String {
 fn circles(lexicons: &str) -> Vec<(usize, String)> {
     let before = sample("luz").lines().position(|line| line == "LEXICON Noun").unwrap();
     let name = |fault: &Fault| {
-        let rest = fault.what.strip_prefix("warning: lexicon ").unwrap();
+        let rest = fault.what.strip_prefix("warning: lexicon ")?;
         let named =
             rest.strip_suffix(" leads back to itself by empty forms alone: a path may go round without a letter");
-        named.unwrap().to_string()
+        named.map(str::to_string)
     };
-    told(&with_lexicons(lexicons)).iter().map(|fault| (fault.line - before, name(fault))).collect()
+    let told = told(&with_lexicons(lexicons));
+    told.iter().filter_map(|fault| Some((fault.line - before, name(fault)?))).collect()
 }
 
 #[test]
@@ -99,6 +112,120 @@ fn a_letter_or_an_end_breaks_a_circle() {
     assert_eq!(circles("LEXICON A\nluc A\n0 #\n"), []);
     assert_eq!(circles("LEXICON A\n0 B\nLEXICON B\nluc A\n0 #\n"), []);
     assert_eq!(circles("LEXICON A\n0 B\n0 C\nLEXICON B\n0 C\nLEXICON C\n0 #\n"), []);
+}
+
+#[test]
+fn a_lexicon_that_is_never_reached() {
+    let what = "lexicon More is never reached: no entry leads to it from the first lexicon";
+    let line = line_of("\"plural\"") + 2;
+    assert_eq!(told_of("\nEND", "\nLEXICON More\nluc #\nEND"), [(line, what.to_string())]);
+    // One that leads to itself, and one that only such a one leads to.
+    let both = told_of("\nEND", "\nLEXICON More\nluc More\nluc Last\nLEXICON Last\nluc #\nEND");
+    assert_eq!(both, [(line, what.to_string()), (line + 3, what.replace("More", "Last"))]);
+}
+
+#[test]
+fn a_lexicon_that_no_word_ends_after() {
+    let more = told_of("\nEND", "\nLEXICON More\nluc More\nEND");
+    assert_eq!(more.len(), 1, "it is not reached, which is enough");
+    let ended = |lexicon: &str| format!("no word ends in lexicon {lexicon} or in one that it leads to");
+    let text = edited(&sample("luz"), "  0    #       \"singular\"\n  +es  #       \"plural\"", "  +es  Number");
+    let told = told(&text);
+    let lines: Vec<(usize, &str)> = told.iter().map(|fault| (fault.line, fault.what.as_str())).collect();
+    let right =
+        ["Noun", "Number"].map(|name| (line_of(&format!("LEXICON {name}")), format!("warning: {}", ended(name))));
+    assert_eq!(lines, right.each_ref().map(|(line, what)| (*line, what.as_str())));
+}
+
+#[test]
+fn a_lexicon_without_entries() {
+    let text = edited(&sample("luz"), "  +es  #       \"plural\"\n", "  +es  More\nLEXICON More\n");
+    let told = told(&text);
+    assert_eq!(told.len(), 1);
+    assert_eq!(told[0].what, "warning: lexicon More has no entries: no word goes through it");
+}
+
+#[test]
+fn a_state_that_is_never_reached() {
+    let rule = "rule \"Z becomes c before +e\"";
+    let never = told_of("  2: 3 2 4 1 1\n", "  2: 3 2 1 1 1\n");
+    assert_eq!(never, [(line_of("4: 3 2 1 0 1"), format!("{rule}: state 4 is never reached"))]);
+    // By a column that no pair picks, a state is not reached either.
+    let text =
+        edited(&sample("luz"), "5 5\n     Z Z + e @\n     c z 0 e @\n", "6 6\n     Z Z + e @ z\n     c z 0 e @ c\n");
+    let rows = ["1: 3 2 1 1 1", "2: 3 2 4 1 1", "3: 0 0 5 0 0", "4: 3 2 1 0 1"];
+    let text = rows.iter().fold(text, |text, row| edited(&text, row, &format!("{row} 6")));
+    let text = edited(&text, "  5. 0 0 0 1 0\n", "  5. 0 0 0 1 0 6\n  6: 1 1 1 1 1 1\n");
+    let what: Vec<String> = told(&text).into_iter().map(|fault| fault.what).collect();
+    let column = format!("warning: {rule}: column 6 (z:c) matches no pair, and is never picked");
+    assert_eq!(what, [column, format!("warning: {rule}: state 6 is never reached")]);
+}
+
+/// The last state of a word counts as reached: in 2 this rule only ends.
+#[test]
+fn a_state_that_only_the_end_reaches() {
+    let rule = "RULE \"end\" 3 2\n # @\n # @\n 1. 3 1\n 2: 0 0\n 3. 2 3\nLEXICON Noun\n";
+    assert_eq!(told_of("LEXICON Noun\n", rule), []);
+}
+
+#[test]
+fn a_rule_that_no_word_can_pass() {
+    let rule = "RULE \"end\" 3 2\n # @\n # @\n 1: 3 1\n 2: 0 0\n 3. 0 3\nLEXICON Noun\n";
+    let what = "rule \"end\" comes to no final state at the end of a word: no word has a reading";
+    assert_eq!(told_of("LEXICON Noun\n", rule), [(line_of("LEXICON Noun"), what.to_string())]);
+}
+
+#[test]
+fn a_column_that_a_narrower_one_hides() {
+    // Z:@ matches Z:c and Z:z, and each has a column of its own.
+    let text =
+        edited(&sample("luz"), "5 5\n     Z Z + e @\n     c z 0 e @\n", "5 6\n     Z Z + e @ Z\n     c z 0 e @ @\n");
+    let rows = ["1: 3 2 1 1 1", "2: 3 2 4 1 1", "3: 0 0 5 0 0", "4: 3 2 1 0 1", "5. 0 0 0 1 0"];
+    let text = rows.iter().fold(text, |text, row| edited(&text, row, &format!("{row} 1")));
+    let told = told(&text);
+    assert_eq!(told.len(), 1);
+    let what = "column 6 (Z:@) is never picked: each pair that it matches has a narrower one";
+    assert_eq!(told[0].what, format!("warning: rule \"Z becomes c before +e\": {what}"));
+    assert_eq!(told[0].line, line_of("Z Z + e @"));
+}
+
+#[test]
+fn what_stands_twice() {
+    let double = told_of("  luc  Number", "  luZ  Number  \"luz\"\n  luc  Number");
+    let what = "entry 1 (luZ) is as entry 0: each word that has it has its readings twice";
+    assert_eq!(double, [(line_of("  luc  Number"), what.to_string())]);
+    // Another gloss, in words or by number, makes it another entry; so does another continuation.
+    for other in ["luZ Number \"light\"", "luZ Number 7", "luZ Number", "luZ # \"luz\""] {
+        assert_eq!(told_of("  luc  Number", &format!("  {other}\n  luc  Number")), []);
+    }
+    let numbered = told_of("  luc  Number", "  luZ  Number 7\n luZ Number 7\n  luc  Number");
+    assert_eq!(numbered.len(), 1);
+    let text = sample("luz");
+    let rule = &text[text.find("RULE").unwrap()..text.find("LEXICON Noun").unwrap()];
+    let again = told_of("LEXICON Noun\n", &format!("{}LEXICON Noun\n", rule.replace("before +e", "again")));
+    let what = "rule \"Z becomes c again\" has the table of rule \"Z becomes c before +e\"";
+    assert_eq!(again, [(line_of("LEXICON Noun"), format!("{what} in line {}", line_of("RULE")))]);
+}
+
+#[test]
+fn letters_in_no_pair_and_sets_in_no_rule() {
+    let what = "letter x (U+0078) is in no pair: no form and no word has it";
+    assert_eq!(told_of("u z Z", "u z Z x"), [(line_of("u z Z"), what.to_string())]);
+    let set = told_of("PAIRS ", "SUBSET V e u\nPAIRS ");
+    assert_eq!(set, [(line_of("PAIRS"), "set V is named by no rule".to_string())]);
+}
+
+#[test]
+fn twenty_warnings_are_told_and_the_rest_is_counted() {
+    let folder = scratch("warnings-many");
+    let text =
+        edited(&sample("luz"), "  luc  Number", &format!("{}  luc  Number", "  luZ  Number  \"luz\"\n".repeat(25)));
+    fs::write(folder.join("luz.txt"), text).unwrap();
+    for command in [&["assemble", "luz.txt", "luz.img"][..], &["check", "luz.txt"]] {
+        let ran = run(&folder, command);
+        assert_eq!((ran.code, ran.stderr.lines().count()), (Some(0), 21));
+        assert!(ran.stderr.ends_with("luz.txt:0: 5 warnings more\n"));
+    }
 }
 
 #[test]

@@ -2,9 +2,10 @@
 
 use crate::arguments::Given;
 use crate::commands::Command;
-use crate::failure::{tell_fault, tell_faults, Failure};
+use crate::failure::{tell_fault, tell_faults, tell_warnings, Failure};
 use crate::names::{names_path, write_names};
-use crate::text::{put_in_place, read_grammar, read_source, sealed_image, warnings, Fault, Grammar};
+use crate::text::{put_in_place, read_grammar, read_source, sealed_image, Fault, Grammar};
+use crate::warnings::warnings;
 use std::path::Path;
 
 pub const COMMAND: Command = Command {
@@ -29,9 +30,7 @@ fn run(given: &Given) -> Result<(), Failure> {
             return Err(tell_fault(file, &Fault::new(0, "is the grammar's own text")));
         }
     }
-    for warning in warnings(&grammar) {
-        tell_fault(source, &warning);
-    }
+    tell_warnings(source, &warnings(&grammar));
     let bytes = sealed_image(&grammar);
     let named = write_names(&grammar, &bytes);
     put_in_place(&[(&bytes, image), (named.as_bytes(), &names)])

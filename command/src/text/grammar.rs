@@ -18,6 +18,8 @@ pub struct Grammar {
     pub(crate) pairs: Vec<Pair>,
     pub(crate) rules: Vec<Rule>,
     pub(crate) lexicons: Vec<Lexicon>,
+    /// Whether names and glosses in words are known.
+    pub(crate) named: bool,
 }
 
 /// Reads the bytes of a text. A part that others lean on ends the reading if it has faults; rules and
@@ -32,7 +34,7 @@ pub fn read_grammar(bytes: &[u8]) -> Result<Grammar, Faults> {
     let sides = Sides { alphabet: &alphabet, sets: &sets };
     let rules = rules::read(&sections.rules, sides, &pairs, &mut faults);
     let lexicons = lexicons::read(&sections.lexicons, &alphabet, &pairs, &mut faults);
-    faults.or(Grammar { alphabet, sets, pairs, rules, lexicons })
+    faults.or(Grammar { alphabet, sets, pairs, rules, lexicons, named: true })
 }
 
 impl Grammar {

@@ -1,7 +1,6 @@
 //! Reads a two-level grammar written as text and makes a sealed grammar image of it.
 
 pub(crate) mod alphabet;
-mod circles;
 pub(crate) mod columns;
 mod fault;
 mod grammar;
@@ -16,7 +15,6 @@ pub(crate) mod rules;
 pub(crate) mod sections;
 pub(crate) mod sets;
 mod source;
-mod warnings;
 mod written;
 
 pub use fault::{Fault, Faults};
@@ -25,5 +23,4 @@ pub use image::sealed_image;
 pub use lists::{list_entries, list_letters, list_pairs, list_sets};
 pub use place::put_in_place;
 pub use source::read_source;
-pub use warnings::warnings;
 pub use written::{write_rule, written};

@@ -14,7 +14,7 @@ mod tally;
 pub use accents::plain;
 pub use answers::{Answer, Asker, Outcome};
 pub use letters::Letters;
-pub use pieces::{Piece, Pieces};
+pub use pieces::{Line, Piece, Pieces};
 pub use sources::{open, Source, SourceName};
 pub use spelling::{spell, Done, Reason};
 pub use tally::{words, Tally};
@@ -47,8 +47,17 @@ const SHORT: u64 = 10;
 pub struct Settings {
     pub jobs: usize,
     pub most: usize,
+    /// Nothing but failures is told on standard error.
     pub quiet: bool,
-    pub summary: bool,
+    pub summary: Summary,
+}
+
+/// Which lists end with a summary.
+#[derive(Clone, Copy, Debug, PartialEq, Eq)]
+pub enum Summary {
+    Every,
+    Long,
+    Never,
 }
 
 impl Settings {
@@ -58,7 +67,7 @@ impl Settings {
             jobs: jobs.unwrap_or_else(|| available_parallelism().map_or(1, usize::from)),
             most: given.number(MOST.name)?.unwrap_or(MOST_READINGS),
             quiet: given.has(QUIET.name) || given.has(Q.name),
-            summary: given.has(SUMMARY.name),
+            summary: if given.has(SUMMARY.name) { Summary::Every } else { Summary::Long },
         })
     }
 }
@@ -155,7 +164,12 @@ fn tell_end(tally: &Tally, settings: &Settings, progress: &Progress) {
     if tally.unread > MOST_TOLD {
         tell(&format!("{} more are unread\n", words(tally.unread - MOST_TOLD)));
     }
-    if settings.summary || tally.words > SHORT {
+    let wanted = match settings.summary {
+        Summary::Every => true,
+        Summary::Long => tally.words > SHORT,
+        Summary::Never => false,
+    };
+    if wanted {
         tell(&tally.summary(progress.took()));
     }
 }

@@ -1,10 +1,22 @@
 //! Circles of empty entries: lexicons that lead back to themselves without a letter.
 
 use crate::text::lexicons::{Continuation, Entry, Lexicon};
+use crate::text::{Fault, Grammar};
+use crate::warnings::warning;
+
+pub fn warnings(grammar: &Grammar) -> Vec<Fault> {
+    let found = circles(&grammar.lexicons).into_iter();
+    found
+        .map(|(lexicon, entry)| {
+            let back = format!("lexicon {} leads back to itself by empty forms alone", lexicon.name);
+            warning(entry.line, format!("{back}: a path may go round without a letter"))
+        })
+        .collect()
+}
 
 /// For each circle its first entry in the text, with the lexicon that it stands in. Circles that have a
 /// lexicon in common count as one.
-pub fn circles(lexicons: &[Lexicon]) -> Vec<(&Lexicon, &Entry)> {
+fn circles(lexicons: &[Lexicon]) -> Vec<(&Lexicon, &Entry)> {
     let reached: Vec<Vec<bool>> = (0..lexicons.len()).map(|from| reached(lexicons, from)).collect();
     let mut told = vec![false; lexicons.len()];
     let mut found = Vec::new();
