@@ -6,10 +6,12 @@ mod commands;
 mod decode;
 mod failure;
 mod layout;
+mod lending;
 #[allow(unsafe_code)]
 mod library;
 mod loaded;
 mod names;
+mod paths;
 mod readings;
 mod refusals;
 mod show;

@@ -14,7 +14,7 @@ const TSV: Choice = Choice { name: "--tsv", value: None, what: "columns divided 
 const HEADER: Choice =
     Choice { name: "--header", value: None, what: "with --tsv, a first line that names the columns" };
 const JSON: Choice = Choice { name: "--json", value: None, what: "a line of JSON a word" };
-const NUMBERS: Choice = Choice { name: "--numbers", value: None, what: "the numbers of entries and pairs too" };
+pub const NUMBERS: Choice = Choice { name: "--numbers", value: None, what: "the numbers of entries and pairs too" };
 
 pub const COMMAND: Command = Command {
     name: "read",

@@ -53,6 +53,11 @@ pub fn put_field(text: &[u8], out: &mut Vec<u8>) {
     }
 }
 
+/// Puts a word into a field.
+pub fn put_word(answer: &Answer, out: &mut Vec<u8>) {
+    put_field(&word_text(answer), out);
+}
+
 fn field(text: &str) -> Vec<u8> {
     let mut out = Vec::new();
     put_field(text.as_bytes(), &mut out);

@@ -1,7 +1,7 @@
 //! A line a reading: word, headword, entries with glosses, pairing, divided by tabs; an empty line after each word. As
 //! flookup does, a word without a reading gets `+?`.
 
-use super::{field, outcome, put_field, word_text, Divided, Layout};
+use super::{field, outcome, put_field, put_word, Divided, Layout};
 use crate::library::{self, Reply, ROW};
 use crate::readings::Names;
 use crate::words::{Answer, Outcome};
@@ -57,7 +57,7 @@ impl Layout for Plain {
             _ => b"\t+?",
         };
         if !mark.is_empty() {
-            put_field(&word_text(answer), out);
+            put_word(answer, out);
             out.extend_from_slice(mark);
             if answer.outcome != Outcome::Answered(Reply::None) {
                 out.push(b'\t');

@@ -3,14 +3,13 @@
 use super::letters::Letters;
 use super::pieces::Piece;
 use super::spelling::{spell, Done, Reason};
+use crate::lending::lend;
 use crate::library::{self, Reply, PLACE, RECORD, ROW};
 
 /// Words asked for in one call.
 const WORDS: usize = 4096;
 /// Rows that each of them has in that call; a word with more readings is asked for again by itself.
 const SHARE: usize = 8;
-/// Rows that such a word is lent first.
-const ALONE: usize = 64;
 
 /// What became of a word.
 #[derive(Clone, Copy, Debug, PartialEq, Eq)]
@@ -111,7 +110,8 @@ impl<'a> Asker<'a> {
             };
             let reply = refused.map_or_else(|| reply(&self.replies, at), Reply::Refused);
             if matches!(reply, Reply::More(rows) if rows < self.most) {
-                let (reply, rows) = ask_alone(self.image, word_of(&self.records, at), self.most, &mut self.alone);
+                let word = word_of(&self.records, at);
+                let (reply, rows) = lend(self.most, &mut self.alone, |rows| library::analyse(self.image, word, rows));
                 each(&told(done, Outcome::Answered(reply), rows));
             } else {
                 let rows = &self.rows[share * at..][..ROW * reply.rows()];
@@ -133,19 +133,4 @@ fn reply(replies: &[u8], at: usize) -> Reply {
 fn word_of(records: &[u8], at: usize) -> &[u8] {
     let record = &records[RECORD * at..][..RECORD];
     &record[1..][..usize::from(record[0])]
-}
-
-/// Lends more and more rows, until all readings are there or as many as are wanted.
-fn ask_alone<'a>(image: &[u8], word: &[u8], most: usize, rows: &'a mut Vec<u8>) -> (Reply, &'a [u8]) {
-    let mut lent = ALONE.min(most);
-    loop {
-        if rows.len() < ROW * lent {
-            rows.resize(ROW * lent, 0);
-        }
-        let reply = library::analyse(image, word, &mut rows[..ROW * lent]);
-        if !matches!(reply, Reply::More(_)) || lent == most {
-            return (reply, &rows[..ROW * reply.rows()]);
-        }
-        lent = (4 * lent).min(most);
-    }
 }
