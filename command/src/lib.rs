@@ -15,8 +15,10 @@ mod nearest;
 mod paths;
 mod readings;
 mod refusals;
+mod show;
 mod text;
 mod warnings;
+mod why;
 mod words;
 
 pub use commands::run;

@@ -25,4 +25,4 @@ pub use image::sealed_image;
 pub use lists::{list_entries, list_letters, list_pairs, list_sets};
 pub use place::put_in_place;
 pub use source::read_source;
-pub use written::written;
+pub use written::{write_rule, written};
