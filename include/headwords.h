@@ -54,6 +54,13 @@
 #include <stddef.h>
 #include <stdint.h>
 
+/* The version of this header and of the library that it is handed over with. A call that is left out or changed raises the
+ * first number, a call more the second. */
+#define HEADWORDS_VERSION_MAJOR 1
+#define HEADWORDS_VERSION_MINOR 0
+#define HEADWORDS_VERSION_PATCH 0
+#define HEADWORDS_VERSION "1.0.0"
+
 #ifdef __cplusplus
 extern "C" {
 #endif

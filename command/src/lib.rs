@@ -11,11 +11,14 @@ mod lending;
 mod library;
 mod loaded;
 mod names;
+mod nearest;
 mod paths;
 mod readings;
 mod refusals;
+mod show;
 mod text;
 mod warnings;
+mod why;
 mod words;
 
 pub use commands::run;

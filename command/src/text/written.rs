@@ -56,7 +56,8 @@ fn wrapped(words: &[String], a_line: usize) -> String {
     words.chunks(a_line).map(|line| format!("  {}\n", line.join(" "))).collect()
 }
 
-fn write_rule(rule: &Rule, sides: Sides) -> String {
+/// A rule's lines, after an empty one.
+pub fn write_rule(rule: &Rule, sides: Sides) -> String {
     let (height, width) = (rule.states.len(), rule.columns.len());
     let mut rows = vec![vec![String::new()], vec![String::new()]];
     rows[0].extend(rule.columns.iter().map(|column| sides.show(column.lexical)));

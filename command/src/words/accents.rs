@@ -42,6 +42,11 @@ fn join(letter: char, marks: Vec<&'static Mark>, composed: &mut String) {
     composed.extend(left.iter().map(|mark| character(mark.point)));
 }
 
+/// A letter without its marks.
+pub fn plain(letter: char) -> char {
+    apart(letter).0
+}
+
 /// A letter without its marks, and these, the innermost first.
 fn apart(letter: char) -> (char, Vec<&'static Mark>) {
     let found = MARKS.iter().find_map(|mark| {
@@ -107,6 +112,11 @@ mod tests {
             assert_eq!(all_composed(word), None, "{word}");
         }
         assert_eq!(composed("a\u{301}e\u{308}", |c| c == '\u{301}').as_deref(), Some("a\u{301}ë"));
+    }
+
+    #[test]
+    fn a_plain_letter_has_no_marks() {
+        assert_eq!(["á", "ệ", "n", "ß"].map(|word| word.chars().map(plain).collect::<String>()), ["a", "e", "n", "ß"]);
     }
 
     #[test]
