@@ -43,16 +43,19 @@ pub fn load(path: &Path) -> Result<Loaded, Failure> {
 
 /// Loads what a file holds.
 pub fn load_bytes(path: &Path, bytes: Vec<u8>) -> Result<Loaded, Failure> {
-    let path = path.to_path_buf();
-    if is_image(&bytes) {
-        accept(&path, &bytes)?;
-        let grammar = decode_named(&path, &bytes);
-        return Ok(Loaded { path, named: grammar.named, image: bytes, grammar });
+    if !is_image(&bytes) {
+        return load_text(path, &bytes);
     }
-    let grammar = read_grammar(&bytes).map_err(|faults| tell_faults(&path, faults))?;
+    accept(path, &bytes)?;
+    let grammar = decode_named(path, &bytes);
+    Ok(Loaded { path: path.to_path_buf(), named: grammar.named, image: bytes, grammar })
+}
+
+pub fn load_text(path: &Path, bytes: &[u8]) -> Result<Loaded, Failure> {
+    let grammar = read_grammar(bytes).map_err(|faults| tell_faults(path, faults))?;
     let image = sealed_image(&grammar);
-    accept(&path, &image)?;
-    Ok(Loaded { path, image, grammar, named: true })
+    accept(path, &image)?;
+    Ok(Loaded { path: path.to_path_buf(), image, grammar, named: true })
 }
 
 fn accept(path: &Path, image: &[u8]) -> Result<(), Failure> {

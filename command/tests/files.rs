@@ -81,6 +81,16 @@ fn a_grammar_over_the_length_that_is_read() {
     image_stays(&folder, &["long.txt"]);
 }
 
+#[test]
+fn an_image_in_place_of_a_grammar() {
+    let folder = luz_folder("files-swapped");
+    fs::write(folder.join("right.img"), assembled(&sample("luz")).unwrap()).unwrap();
+    let told = "right.img:0: is an image and no text; headwords text gives its text";
+    fails(run(&folder, &["assemble", "right.img", "luz.txt"]), told);
+    assert_eq!(fs::read_to_string(folder.join("luz.txt")).unwrap(), sample("luz"));
+    image_stays(&folder, &["right.img"]);
+}
+
 /// k is no letter, and z is the lexical side of no pair.
 #[test]
 fn a_faulty_grammar_lists_and_writes_nothing() {

@@ -213,6 +213,10 @@ fn letters_in_no_pair_and_sets_in_no_rule() {
     assert_eq!(told_of("u z Z", "u z Z x"), [(line_of("u z Z"), what.to_string())]);
     let set = told_of("PAIRS ", "SUBSET V e u\nPAIRS ");
     assert_eq!(set, [(line_of("PAIRS"), "set V is named by no rule".to_string())]);
+    // Sets may be named in another order than they stand in, and on either side.
+    let text = edited(&sample("luz"), "PAIRS ", "SUBSET V e\nSUBSET W z\nSUBSET X c\nPAIRS ");
+    let text = edited(&text, "     Z Z + e @\n     c z 0 e @\n", "     Z Z + V @\n     X W 0 e @\n");
+    assert_eq!(told(&text), []);
 }
 
 #[test]

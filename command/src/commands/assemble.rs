@@ -2,9 +2,10 @@
 
 use crate::arguments::Given;
 use crate::commands::Command;
-use crate::failure::{tell_fault, tell_faults, tell_warnings, Failure};
+use crate::failure::{tell_fault, tell_warnings, Failure};
+use crate::loaded::{is_image, load_text, Loaded};
 use crate::names::{names_path, write_names};
-use crate::text::{put_in_place, read_grammar, read_source, sealed_image, Fault, Grammar};
+use crate::text::{put_in_place, read_source, Fault};
 use crate::warnings::warnings;
 use std::path::Path;
 
@@ -23,7 +24,11 @@ rules and lexicons, and the glosses in words. Both are written whole or not at a
 
 fn run(given: &Given) -> Result<(), Failure> {
     let (source, image) = (Path::new(&given.operands[0]), Path::new(&given.operands[1]));
-    let grammar = read(source)?;
+    let bytes = read_source(source).map_err(|fault| tell_fault(source, &fault))?;
+    if is_image(&bytes) && !bytes.is_empty() {
+        return Err(tell_fault(source, &Fault::new(0, "is an image and no text; headwords text gives its text")));
+    }
+    let Loaded { grammar, image: bytes, .. } = load_text(source, &bytes)?;
     let names = names_path(image);
     for file in [image, &names] {
         if is_same_file(source, file) {
@@ -31,15 +36,8 @@ fn run(given: &Given) -> Result<(), Failure> {
         }
     }
     tell_warnings(source, &warnings(&grammar));
-    let bytes = sealed_image(&grammar);
-    let named = write_names(&grammar, &bytes);
-    put_in_place(&[(&bytes, image), (named.as_bytes(), &names)])
+    put_in_place(&[(&bytes, image), (write_names(&grammar, &bytes).as_bytes(), &names)])
         .map_err(|(file, error)| tell_fault(file, &Fault::new(0, format!("cannot be written: {error}"))))
-}
-
-fn read(source: &Path) -> Result<Grammar, Failure> {
-    let bytes = read_source(source).map_err(|fault| tell_fault(source, &fault))?;
-    read_grammar(&bytes).map_err(|faults| tell_faults(source, faults))
 }
 
 fn is_same_file(one: &Path, other: &Path) -> bool {

@@ -50,7 +50,10 @@ const COMMANDS: [&Command; 12] = [
     &spell::COMMAND,
 ];
 
-const GRAMMAR: &str = "GRAMMAR is a text, or an image with its names, IMAGE.names, beside it.";
+const NOTES: &str = "\
+GRAMMAR is a text, or an image with its names, IMAGE.names, beside it.
+headwords help COMMAND says more of a command, headwords --version its version.
+";
 
 /// Runs the command that the first argument names.
 pub fn run(arguments: &[OsString]) -> ExitCode {
@@ -64,7 +67,7 @@ pub fn run(arguments: &[OsString]) -> ExitCode {
 fn dispatch(arguments: &[OsString]) -> Result<(), Failure> {
     let Some((first, rest)) = arguments.split_first() else {
         tell(&overview());
-        return Err(Failure::Usage(String::new()));
+        return Err(Failure::Missing);
     };
     match (first.to_str(), rest) {
         (Some("--help" | "-h" | "help"), []) => print(&overview()),
@@ -97,7 +100,7 @@ fn named(name: &str) -> Result<&'static Command, Failure> {
 
 fn wrong(what: &str) -> Failure {
     tell(&format!("headwords: {what}\nheadwords help lists the commands\n"));
-    Failure::Usage(String::new())
+    Failure::Missing
 }
 
 fn overview() -> String {
@@ -107,7 +110,7 @@ fn overview() -> String {
         format!("  {usage:width$}  {}\n", command.what)
     });
     let commands: String = lines.collect();
-    format!("usage: headwords COMMAND ...\n\n{commands}\n{GRAMMAR}\nheadwords help COMMAND says more of a command, headwords --version its version.\n")
+    format!("usage: headwords COMMAND ...\n\n{commands}\n{NOTES}")
 }
 
 fn usage(command: &Command) -> String {

@@ -22,8 +22,8 @@ fn unpaired_letters(grammar: &Grammar) -> Vec<Fault> {
 }
 
 fn unnamed_sets(grammar: &Grammar) -> Vec<Fault> {
-    let mut columns = grammar.rules.iter().flat_map(|rule| &rule.columns);
-    let mut is_named = |side: u8| columns.any(|column| column.lexical == side || column.surface == side);
+    let columns = || grammar.rules.iter().flat_map(|rule| &rule.columns);
+    let is_named = |side: u8| columns().any(|column| column.lexical == side || column.surface == side);
     let sets = (FIRST_SET..).zip(grammar.sets.all()).filter(|&(side, _)| !is_named(side));
     sets.map(|(_, set)| warning(set.line, format!("set {} is named by no rule", set.name))).collect()
 }
