@@ -1,11 +1,11 @@
 //! `headwords why`: why a word has no reading.
 
-use crate::arguments::Given;
+use crate::arguments::{Choice, Given};
 use crate::commands::Command;
 use crate::failure::{print, Failure};
 use crate::loaded::load;
 use crate::why::{Explainer, Teller};
-use crate::words::Reason;
+use crate::words::trimmed;
 use std::path::Path;
 
 pub const COMMAND: Command = Command {
@@ -13,7 +13,7 @@ pub const COMMAND: Command = Command {
     operands: "GRAMMAR WORD...",
     count: 2..=usize::MAX,
     what: "why a word has no reading",
-    options: &[],
+    options: &[Choice { name: "--json", value: None, what: "a line of JSON a word" }],
     more: "\
 For a word without a reading: how far the furthest ways through entries and pairs come, with a bar after the letters that
 they cover; the pairing so far, lexical over surface, and the entries; and there either the rule, its state and the pair
@@ -34,12 +34,13 @@ fn run(given: &Given) -> Result<(), Failure> {
     let explainer = Explainer::new(&loaded);
     let teller = Teller::new(&explainer);
     for (at, word) in given.operands[1..].iter().enumerate() {
-        let divider = if at == 0 { "" } else { "\n" };
-        let told = match word.to_str() {
-            Some(word) => teller.tell(word.trim()),
-            None => format!("{}: unread: {}\n", word.display(), Reason::NotUtf8),
+        let word = trimmed(word.as_encoded_bytes());
+        let told = match (given.has("--json"), at) {
+            (true, _) => teller.json(word),
+            (false, 0) => teller.tell(word),
+            (false, _) => format!("\n{}", teller.tell(word)),
         };
-        print(&format!("{divider}{told}"))?;
+        print(&told)?;
     }
     Ok(())
 }

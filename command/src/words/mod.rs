@@ -16,7 +16,7 @@ pub use answers::{Answer, Asker, Outcome};
 pub use letters::Letters;
 pub use pieces::{Line, Piece, Pieces};
 pub use sources::{open, Source, SourceName};
-pub use spelling::{spell, Done, Reason};
+pub use spelling::{spell, trimmed, Done, Reason};
 pub use tally::{words, Tally};
 
 use crate::arguments::{Choice, Given};
