@@ -59,7 +59,7 @@ for name in $(bench/hostile_text | grep -vx mindful); do
     grep -q ': no reading$' "$work/said"
 done
 bench/hostile_text mindful >"$work/hostile.txt"
-timeout 60 "$headwords" why "$work/hostile.txt" "$(bench/hostile_text mindful word)" 2>"$work/told" | grep -q 'has not answered in time'
+timeout 60 "$headwords" why "$work/hostile.txt" "$(bench/hostile_text mindful word)" 2>"$work/told" | grep -q ': the library has not answered within 10 seconds'
 echo "why: every hostile grammar is answered in time"
 
 diff <("$headwords" show grammars/quichua.txt) <(sed -n 's/^RULE "\(.*\)".*/\1/p' grammars/quichua.txt | awk '{ print NR - 1 "\t" $0 }')

@@ -22,7 +22,8 @@ the word a reading, or the rules that refuse one together. A word that has readi
 spelled with what is near.
 
 That a word has readings, with all rules or without some, is the library's answer. The search for the furthest ways
-explains, and ends after 200,000 steps; where that cuts it, it says so.
+explains, and ends after 200,000 steps; an answer of the library is waited for 10 seconds. Where either cuts the
+explanation short, that is told.
 
 status: 0 where every word is answered; 1 where the grammar has faults or cannot be read; 2 for wrong usage
 ",

@@ -14,6 +14,7 @@ use crate::text::alphabet::NULL;
 const MOST_GROUPS: usize = 3;
 const MOST_ENTRIES: usize = 6;
 const MOST_READINGS: usize = 3;
+const LATE: &str = "the library has not answered within 10 seconds";
 /// Characters of a gloss that are shown.
 const MOST_GLOSS: usize = 40;
 
@@ -36,7 +37,7 @@ impl<'a> Teller<'a> {
             Outcome::Refused(number) => format!("{word}: {}\n", refusals::told(number)),
             Outcome::Read(readings) => format!("{word}: {}\n{}", count(&readings), self.readings(&readings)),
             Outcome::Late => {
-                format!("{word}: the library has not answered in time; the grammar leaves too much to try\n")
+                format!("{word}: {LATE}: the grammar leaves too much to try\n")
             }
             Outcome::NeverWritten { why, lowered } => {
                 let mut told = format!("{word}: no reading\n");
@@ -72,7 +73,7 @@ impl<'a> Teller<'a> {
             told += &self.furthest("furthest without rules", word, furthest, &[]);
         }
         if nothing.late {
-            told += "the library has not answered in time, so that not every rule was left out in turn\n";
+            told += &format!("{LATE}, so that not every rule was left out in turn\n");
         } else if nothing.left_out.is_empty() && nothing.rules > 0 {
             told += "without any rule it has no reading either: entries and pairs do not make this word\n";
         }
