@@ -2,6 +2,7 @@
 
 use crate::commands::Command;
 use crate::failure::Failure;
+use crate::nearest::{is_meant, nearest};
 use std::ffi::{OsStr, OsString};
 
 /// An option that a command takes.
@@ -104,34 +105,4 @@ fn check_count(given: &Given, command: &Command) -> Result<(), Failure> {
         Some(extra) => Err(Failure::Usage(format!("{} is one too many", extra.display()))),
         None => Ok(()),
     }
-}
-
-/// The name that a word is a slip of: the one with fewest changes, at most two, and fewer than the word has characters.
-pub fn nearest<'a>(word: &str, names: impl Iterator<Item = &'a str>) -> Option<&'a str> {
-    let most = 2.min(word.chars().count().saturating_sub(1));
-    names.map(|name| (changes(word, name), name)).filter(|&(changes, _)| changes <= most).min().map(|(_, name)| name)
-}
-
-/// `: is X meant?`, where there is an X.
-pub fn is_meant(name: Option<&str>) -> String {
-    name.map_or(String::new(), |name| format!("; is {name} meant?"))
-}
-
-/// How many characters have to be put in, taken away, changed, or swapped with the next, to make one word the other.
-fn changes(one: &str, other: &str) -> usize {
-    let (one, other): (Vec<char>, Vec<char>) = (one.chars().collect(), other.chars().collect());
-    let mut rows: Vec<Vec<usize>> = vec![(0..=other.len()).collect()];
-    for i in 1..=one.len() {
-        let mut row = vec![i];
-        for j in 1..=other.len() {
-            let same = usize::from(one[i - 1] != other[j - 1]);
-            let mut least = (rows[i - 1][j - 1] + same).min(rows[i - 1][j] + 1).min(row[j - 1] + 1);
-            if i > 1 && j > 1 && one[i - 1] == other[j - 2] && one[i - 2] == other[j - 1] {
-                least = least.min(rows[i - 2][j - 2] + 1);
-            }
-            row.push(least);
-        }
-        rows.push(row);
-    }
-    rows[one.len()][other.len()]
 }

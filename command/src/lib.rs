@@ -11,6 +11,7 @@ mod lending;
 mod library;
 mod loaded;
 mod names;
+mod nearest;
 mod paths;
 mod readings;
 mod refusals;

@@ -94,7 +94,8 @@ fn of_bytes_that_are_not_utf_8() {
     let at = GRAMMAR.find("luZ").unwrap();
     bytes[at] = 0xff;
     let ran = refused("faults-utf-8", &bytes);
-    let stderr = "grammar.txt:20: a byte that is not UTF-8; save the file as UTF-8\n".to_string();
+    let stderr =
+        "grammar.txt:20: a byte that is not UTF-8, FF, which in Latin-1 is ÿ; save the file as UTF-8\n".to_string();
     assert_eq!(ran, Ran { code: Some(1), stdout: String::new(), stderr });
 }
 
@@ -104,7 +105,7 @@ fn of_sections() {
     check(
         "faults-sections",
         &[
-            ("; a small grammar", "a small grammar", 1, &format!("no section is open; {order}")),
+            ("; a small grammar", "a small grammar", 1, &format!("a: no section is open; {order}")),
             ("NULL 0\nANY @\n", "ANY @\n", 24, "no NULL before this"),
             ("BOUNDARY #\n", "", 24, "no BOUNDARY before this"),
             ("ANY @\n", "", 24, "no ANY before this"),
@@ -142,9 +143,9 @@ fn of_letters() {
     check(
         "faults-letters",
         &[
-            ("BOUNDARY #", "BOUNDARY # $", 2, "BOUNDARY takes one character"),
-            ("NULL 0", "NULL", 3, "NULL takes one character"),
-            ("NULL 0", "NULL \"0\"", 3, "a letter stands without quotation marks"),
+            ("BOUNDARY #", "BOUNDARY # $", 2, "BOUNDARY takes one character; $ is one too many"),
+            ("NULL 0", "NULL", 3, "NULL takes one character, and none is here"),
+            ("NULL 0", "NULL \"0\"", 3, "\"0\": a letter stands without quotation marks"),
             ("NULL 0", "NULL #", 3, "NULL and BOUNDARY are the same character"),
             ("ANY @", "ANY 0", 4, "ANY is also NULL or BOUNDARY"),
             ("ANY @", "ANY #", 4, "ANY is also NULL or BOUNDARY"),
@@ -152,8 +153,13 @@ fn of_letters() {
             ("u z Z", "u z Z 0", 7, "letter 0 (U+0030) is the null"),
             ("u z Z", "u z Z @", 7, "letter @ (U+0040) stands for any letter"),
             ("u z Z", "u z Z #", 7, "letter # (U+0023) is the boundary, letter 1 without being listed"),
-            ("u z Z", "u z Z ch", 7, "ch: a letter is one character, and this is U+0063 U+0068"),
-            ("u z Z", "u z Z e\u{301}", 7, "e\u{301}: a letter is one character, and this is U+0065 U+0301"),
+            ("u z Z", "u z Z ch", 7, "ch: a letter is one character, and this is U+0063 U+0068; is a blank missing?"),
+            (
+                "u z Z",
+                "u z Z e\u{301}",
+                7,
+                "e\u{301}: a letter is one character, and this is U+0065 U+0301; as one character it is é (U+00E9)",
+            ),
             ("u z Z", "u z Z \u{10000}", 7, "letter \u{10000} (U+10000) lies above U+FFFF"),
         ],
     );
@@ -169,7 +175,7 @@ fn of_sets() {
         ("SUBSET\n  Front e", 8, takes),
         ("SUBSET Front", 8, "set Front has no letters"),
         ("SUBSET Front ; e", 8, "set Front has no letters"),
-        ("SUBSET c e", 8, "c cannot name a set: it is a letter"),
+        ("SUBSET c e", 8, "c cannot name a set: it is a letter; is the name missing?"),
         ("SUBSET 0 e", 8, "0 cannot name a set: it is the null"),
         ("SUBSET # e", 8, "# cannot name a set: it is the boundary"),
         ("SUBSET @ e", 8, "@ cannot name a set: it stands for any letter"),
@@ -182,9 +188,13 @@ fn of_sets() {
         ("SUBSET Front # e #", 8, "# (U+0023) is in set Front already"),
         ("SUBSET Front e\n\n  k", 10, "k (U+006B) is no letter of the alphabet"),
         ("SUBSET Front e @", 8, "@ stands for any letter, which only a rule's column may"),
-        ("SUBSET Front \"e\"", 8, "a letter stands without quotation marks"),
-        ("SUBSET Front eu", 8, "eu: a letter is one character, and this is U+0065 U+0075"),
-        ("SUBSET Low u\nSUBSET Front e Low", 9, "Low: a letter is one character, and this is U+004C U+006F U+0077"),
+        ("SUBSET Front \"e\"", 8, "\"e\": a letter stands without quotation marks"),
+        ("SUBSET Front eu", 8, "eu: a letter is one character, and this is U+0065 U+0075; is a blank missing?"),
+        (
+            "SUBSET Low u\nSUBSET Front e Low",
+            9,
+            "Low: a letter is one character, and this is U+004C U+006F U+0077; is a blank missing?",
+        ),
         ("SUBSET Front \u{10000}", 8, "letter \u{10000} (U+10000) lies above U+FFFF"),
     ];
     let texts = cases.map(|(sets, ..)| format!("{sets}\nPAIRS"));
@@ -198,7 +208,7 @@ fn all_faults_of_sets_are_told_and_hide_those_of_pairs() {
     let text = edited("PAIRS", "SUBSET c e\nSUBSET Front k e e\nSUBSET Low\nPAIRS").replace("u:u", "u:k");
     let ran = refused("faults-several-sets", text.as_bytes());
     let stderr = "\
-grammar.txt:8: c cannot name a set: it is a letter
+grammar.txt:8: c cannot name a set: it is a letter; is the name missing?
 grammar.txt:9: k (U+006B) is no letter of the alphabet
 grammar.txt:9: e (U+0065) is in set Front already
 grammar.txt:10: set Low has no letters
@@ -211,17 +221,27 @@ fn of_pairs() {
     check(
         "faults-pairs",
         &[
-            ("u:u Z:c", "u:u k:c", 10, "k (U+006B) is no letter of the alphabet"),
-            ("u:u Z:c", "u:u Z:k", 10, "k (U+006B) is no letter of the alphabet"),
-            ("u:u Z:c", "u:u 0:0", 10, "a pair of two nulls"),
-            ("u:u Z:c", "u:u #:#", 10, "the boundary pairs with itself only, and is not listed"),
-            ("u:u Z:c", "u:u Z:#", 10, "the boundary pairs with itself only, and is not listed"),
-            ("u:u Z:c", "u:u Z:@", 10, "@ stands for any letter, which only a rule's column may"),
+            ("u:u Z:c", "u:u k:c", 10, "pair k:c: k (U+006B) is no letter of the alphabet"),
+            ("u:u Z:c", "u:u Z:k", 10, "pair Z:k: k (U+006B) is no letter of the alphabet"),
+            ("u:u Z:c", "u:u 0:0", 10, "0:0 is a pair of two nulls"),
+            ("u:u Z:c", "u:u #:#", 10, "pair #:#: the boundary pairs with itself only, and is not listed"),
+            ("u:u Z:c", "u:u Z:#", 10, "pair Z:#: the boundary pairs with itself only, and is not listed"),
+            ("u:u Z:c", "u:u Z:@", 10, "pair Z:@: @ stands for any letter, which only a rule's column may"),
             ("u:u Z:c", "u:u c:c", 10, "pair c:c is listed already"),
-            ("u:u Z:c", "u:u Zc", 10, "a pair is written as two letters and a colon, a:b"),
-            ("u:u Z:c", "u:u Z:cc", 10, "a pair is written as two letters and a colon, a:b"),
-            ("u:u Z:c", "u:u Z:", 10, "a pair is written as two letters and a colon, a:b"),
-            ("u:u Z:c", "u:u \"Z:c\"", 10, "a pair is written as two letters and a colon, a:b"),
+            ("u:u Z:c", "u:u Zc", 10, "Zc: a pair is written as two letters and a colon, a:b; is Z:c meant?"),
+            (
+                "u:u Z:c",
+                "u:u Z:cc",
+                10,
+                "Z:cc: a pair is written as two letters and a colon, a:b; each side is one character",
+            ),
+            ("u:u Z:c", "u:u Z:", 10, "Z:: a pair is written as two letters and a colon, a:b; is Z:0 meant?"),
+            (
+                "u:u Z:c",
+                "u:u \"Z:c\"",
+                10,
+                "Z:c: a pair is written as two letters and a colon, a:b; take the quotation marks away",
+            ),
         ],
     );
 }
@@ -235,30 +255,40 @@ fn of_rule_tables() {
     check(
         "faults-rules",
         &[
-            ("RULE \"Z\" 5 5", "RULE Z 5 5", 11, heading),
-            ("RULE \"Z\" 5 5", "RULE \"Z\" 5", 11, heading),
-            ("RULE \"Z\" 5 5", "RULE \"Z\" five 5", 11, heading),
-            ("RULE \"Z\" 5 5", "RULE \"Z\" +5 5", 11, heading),
-            ("RULE \"Z\" 5 5", "RULE \"Z\" 5 5 5", 11, heading),
-            ("RULE \"Z\" 5 5", "RULE \"Z\" 99999999999999999999 5", 11, heading),
+            ("RULE \"Z\" 5 5", "RULE Z 5 5", 11, &format!("{heading}; Z is not in quotation marks")),
+            ("RULE \"Z\" 5 5", "RULE \"Z\" 5", 11, &format!("{heading}; a count is missing")),
+            ("RULE \"Z\" 5 5", "RULE \"Z\" five 5", 11, &format!("{heading}; five is no count")),
+            ("RULE \"Z\" 5 5", "RULE \"Z\" +5 5", 11, &format!("{heading}; +5 is no count")),
+            ("RULE \"Z\" 5 5", "RULE \"Z\" 5 5 5", 11, &format!("{heading}; there is a count too many")),
+            (
+                "RULE \"Z\" 5 5",
+                "RULE \"Z\" 99999999999999999999 5",
+                11,
+                &format!("{heading}; 99999999999999999999 is no count"),
+            ),
             ("RULE \"Z\" 5 5", "RULE \"Z\" 4 5", 18, "a row more than the rule's 4 states"),
             ("RULE \"Z\" 5 5", "RULE \"Z\" 6 5", 18, "5 rows where the rule has 6 states"),
             ("RULE \"Z\" 5 5", "RULE \"Z\" 5 4", 12, "5 lexical sides where the rule has 4 columns"),
             ("c z 0 e @", "c z 0 e", 13, "4 surface sides where the rule has 5 columns"),
             ("c z 0 e @", "c z 0 e k", 13, "k (U+006B) is no letter of the alphabet, and no set is called so"),
             ("Z Z + e @", "Z Z + e any", 12, &format!("no set is called any; {side}")),
-            ("c z 0 e @", "c z 0 e e\u{301}", 13, &format!("no set is called e\u{301}; {side}")),
-            ("Z Z + e @", "Z Z + e \"@\"", 12, &format!("{side}, without quotation marks")),
+            (
+                "c z 0 e @",
+                "c z 0 e e\u{301}",
+                13,
+                &format!("no set is called e\u{301}; {side}; as one character it is é (U+00E9)"),
+            ),
+            ("Z Z + e @", "Z Z + e \"@\"", 12, &format!("\"@\": {side}, without quotation marks")),
             ("RULE \"Z\" 5 5", "RULE \"empty\" 1 1\nRULE \"Z\" 5 5", 11, letters),
             ("RULE \"Z\" 5 5", "RULE \"empty\" 1 1\n  @\nRULE \"Z\" 5 5", 12, letters),
-            ("4: 3 2", "5: 3 2", 17, "the row of state 4 begins with 4: if it is final, else 4."),
-            ("4: 3 2", "4 3 2", 17, "the row of state 4 begins with 4: if it is final, else 4."),
-            ("4: 3 2", "\"4:\" 3 2", 17, "the row of state 4 begins with 4: if it is final, else 4."),
-            ("4: 3 2", "04: 3 2", 17, "the row of state 4 begins with 4: if it is final, else 4."),
-            ("4: 3 2 1", "4: 3 2", 17, "4 next states where the rule has 5 columns"),
-            ("4: 3 2 1", "4: 3 6 1", 17, next),
-            ("4: 3 2 1", "4: 3 -1 1", 17, next),
-            ("4: 3 2 1", "4: 3 x 1", 17, next),
+            ("4: 3 2", "5: 3 2", 17, "the row of state 4 begins with 4: if it is final, else 4., not with 5:"),
+            ("4: 3 2", "4 3 2", 17, "the row of state 4 begins with 4: if it is final, else 4., not with 4"),
+            ("4: 3 2", "\"4:\" 3 2", 17, "the row of state 4 begins with 4: if it is final, else 4., not with 4:"),
+            ("4: 3 2", "04: 3 2", 17, "the row of state 4 begins with 4: if it is final, else 4., not with 04:"),
+            ("4: 3 2 1", "4: 3 2", 17, "state 4: 4 next states where the rule has 5 columns"),
+            ("4: 3 2 1", "4: 3 6 1", 17, &format!("6: {next}")),
+            ("4: 3 2 1", "4: 3 -1 1", 17, &format!("-1: {next}")),
+            ("4: 3 2 1", "4: 3 x 1", 17, &format!("x: {next}")),
         ],
     );
 }
@@ -314,7 +344,7 @@ fn of_columns_with_sets() {
         (
             "Z Z + Fron @\nc z 0 e @\n",
             14,
-            "no set is called Fron; a side of a column is one character or the name of a set",
+            "no set is called Fron; a side of a column is one character or the name of a set; is Front meant?",
         ),
         ("Z Z + W @\nc z 0 e @\n", 14, "W (U+0057) is no letter of the alphabet, and no set is called so"),
         (
@@ -341,9 +371,9 @@ fn of_lexicons() {
     check(
         "faults-lexicons",
         &[
-            ("LEXICON Noun", "LEXICON", 19, name),
-            ("LEXICON Noun", "LEXICON Noun Verb", 19, name),
-            ("LEXICON Noun", "LEXICON \"Noun\"", 19, name),
+            ("LEXICON Noun", "LEXICON", 19, &format!("{name}, and none is here")),
+            ("LEXICON Noun", "LEXICON Noun Verb", 19, &format!("{name}, not Noun Verb")),
+            ("LEXICON Noun", "LEXICON \"Noun\"", 19, &format!("{name}, not Noun")),
             ("LEXICON Noun", "LEXICON END", 19, "END cannot name a lexicon"),
             ("LEXICON Noun", "LEXICON SUBSET", 19, "SUBSET cannot name a lexicon"),
             ("LEXICON Noun", "LEXICON #", 19, "# cannot name a lexicon"),
@@ -361,13 +391,18 @@ fn of_entries() {
     check(
         "faults-entries",
         &[
-            ("luZ Number \"luz\"", "luZ", 20, entry),
-            ("luZ Number \"luz\"", "luZ Number \"luz\" 7", 20, entry),
-            ("luZ Number \"luz\"", "\"luZ\" Number", 20, entry),
-            ("luZ Number", "luk Number", 20, "k (U+006B) is no letter of the alphabet"),
-            ("luZ Number", "lu0 Number", 20, "0 is the null; alone it is an empty form, in a form it cannot stand"),
-            ("luZ Number", "#luZ Number", 20, "# is the boundary, which cannot stand in a form"),
-            ("luZ Number", "lu@ Number", 20, "@ stands for any letter, which only a rule's column may"),
+            ("luZ Number \"luz\"", "luZ", 20, &format!("{entry}; the continuation is missing, and # ends the word")),
+            ("luZ Number \"luz\"", "luZ Number \"luz\" 7", 20, &format!("{entry}; 7 is one too many")),
+            ("luZ Number \"luz\"", "\"luZ\" Number", 20, &format!("{entry}; a form stands without quotation marks")),
+            ("luZ Number", "luk Number", 20, "form luk: k (U+006B) is no letter of the alphabet"),
+            (
+                "luZ Number",
+                "lu0 Number",
+                20,
+                "form lu0: 0 is the null; alone it is an empty form, in a form it cannot stand",
+            ),
+            ("luZ Number", "#luZ Number", 20, "form #luZ: # is the boundary, which cannot stand in a form"),
+            ("luZ Number", "lu@ Number", 20, "form lu@: @ stands for any letter, which only a rule's column may"),
             ("luZ Number", "luZluZluZluZl Number", 20, "form luZluZluZluZl has 13 letters; allowed are 12"),
             ("luc Number 7", "luc Number 65536", 21, &format!("gloss 65536: {gloss}")),
             ("luc Number 7", "luc Number luc", 21, &format!("gloss luc: {gloss}")),
@@ -391,7 +426,7 @@ fn of_letters_that_no_pair_has_on_its_lexical_side() {
             ("c:c e:e", "c:c 0:e", 24, &format!("{no_e}; it is a surface side only, as in 0:e")),
             ("c:c e:e", "c:c Z:e s:e", 24, &format!("{no_e}; it is a surface side only, as in Z:e")),
             // A form is read whole before its pairs are looked for, and its continuation comes after.
-            ("luZ Number", "zk Number", 20, "k (U+006B) is no letter of the alphabet"),
+            ("luZ Number", "zk Number", 20, "form zk: k (U+006B) is no letter of the alphabet"),
             ("luZ Number", "zluZluZluZluZ Number", 20, "form zluZluZluZluZ has 13 letters; allowed are 12"),
             ("luZ Number", "luz Plural", 20, &format!("form luz: {no_z}")),
         ],
@@ -403,7 +438,7 @@ fn every_entry_with_such_a_letter_is_told() {
     let text = edited("l:l s:s", "s:s").replace("+es #", "+ez #").replace("4: 3 2", "4: 9 2");
     let ran = refused("faults-every-entry", text.as_bytes());
     let stderr = "\
-grammar.txt:17: a next state is a number from 0 to 5
+grammar.txt:17: 9: a next state is a number from 0 to 5
 grammar.txt:20: form luZ: no pair has l (U+006C) on its lexical side
 grammar.txt:21: form luc: no pair has l (U+006C) on its lexical side
 grammar.txt:24: form +ez: no pair has z (U+007A) on its lexical side; it is a surface side only, as in Z:z
@@ -416,8 +451,8 @@ fn all_faults_of_rules_and_lexicons_are_told_in_order() {
     let text = edited("luZ Number", "luk Number").replace("+es #", "+es Case").replace("4: 3 2", "4: 9 2");
     let ran = refused("faults-several", text.as_bytes());
     let stderr = "\
-grammar.txt:17: a next state is a number from 0 to 5
-grammar.txt:20: k (U+006B) is no letter of the alphabet
+grammar.txt:17: 9: a next state is a number from 0 to 5
+grammar.txt:20: form luk: k (U+006B) is no letter of the alphabet
 grammar.txt:24: no lexicon is called Case; # in its place ends the word
 ";
     assert_eq!(ran, Ran { code: Some(1), stdout: String::new(), stderr: stderr.to_string() });
@@ -429,7 +464,7 @@ fn after_twenty_faults_the_rest_is_counted() {
     let ran = refused("faults-many", text.as_bytes());
     let lines: Vec<&str> = ran.stderr.lines().collect();
     assert_eq!(lines.len(), 21);
-    assert_eq!(lines[19], "grammar.txt:39: k (U+006B) is no letter of the alphabet");
+    assert_eq!(lines[19], "grammar.txt:39: form k: k (U+006B) is no letter of the alphabet");
     assert_eq!(lines[20], "grammar.txt:0: 5 faults more");
     assert_eq!(ran.code, Some(1));
 }

@@ -192,7 +192,7 @@ fn next_states() {
     let image = accepted(SMALL);
     let table = &image[3 * 512 + 4..];
     assert_eq!(&table[8..12], [2, 2, 2, 2]);
-    refused(&text(SMALL).replace("2: 2 2", "2: 2 3"), "2: 2 3", "a next state is a number from 0 to 2");
+    refused(&text(SMALL).replace("2: 2 2", "2: 2 3"), "2: 2 3", "3: a next state is a number from 0 to 2");
 }
 
 #[test]

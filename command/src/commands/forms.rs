@@ -1,11 +1,12 @@
 //! `headwords forms`: the written forms of headwords.
 
-use crate::arguments::{is_meant, nearest, Choice, Given};
+use crate::arguments::{Choice, Given};
 use crate::commands::read::{put_out, NUMBERS};
 use crate::commands::Command;
 use crate::failure::{failed, tell, Failure};
 use crate::layout::put_field;
 use crate::loaded::load;
+use crate::nearest::{is_meant, nearest};
 use crate::paths::{Links, Writer, MOST_ENTRIES};
 use crate::readings::Names;
 use std::path::Path;

@@ -1,9 +1,10 @@
 //! `headwords list`: what a grammar numbers.
 
-use crate::arguments::{is_meant, nearest, Given};
+use crate::arguments::Given;
 use crate::commands::Command;
 use crate::failure::{print, Failure};
 use crate::loaded::load;
+use crate::nearest::{is_meant, nearest};
 use crate::text::{list_entries, list_letters, list_pairs, list_sets, Grammar};
 use std::path::Path;
 

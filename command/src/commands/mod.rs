@@ -13,8 +13,9 @@ mod spell;
 mod text;
 mod why;
 
-use crate::arguments::{self, is_meant, nearest, Choice, Given};
+use crate::arguments::{self, Choice, Given};
 use crate::failure::{print, tell, Failure};
+use crate::nearest::{is_meant, nearest};
 use std::ffi::OsString;
 use std::ops::RangeInclusive;
 use std::process::ExitCode;

@@ -1,9 +1,10 @@
 //! `headwords show`: a rule table drawn.
 
-use crate::arguments::{is_meant, nearest, Choice, Given};
+use crate::arguments::{Choice, Given};
 use crate::commands::Command;
 use crate::failure::{failed, print, Failure};
 use crate::loaded::load;
+use crate::nearest::{is_meant, nearest};
 use crate::show::{dot, svg, text, Shown};
 use crate::text::Grammar;
 use std::path::Path;

@@ -117,3 +117,14 @@ fn put_string(text: &[u8], out: &mut Vec<u8>) {
     }
     out.push(b'"');
 }
+
+#[cfg(test)]
+mod tests {
+    use super::string;
+
+    #[test]
+    fn strings_are_escaped() {
+        let escaped = string("a\"b\\c\td\u{1b}é\u{10330}/");
+        assert_eq!(String::from_utf8(escaped).unwrap(), "\"a\\\"b\\\\c\\u0009d\\u001bé\u{10330}/\"");
+    }
+}

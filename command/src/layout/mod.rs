@@ -9,7 +9,7 @@ pub use plain::Plain;
 pub use tsv::Tsv;
 
 use crate::library::Reply;
-use crate::words::{Answer, Outcome};
+use crate::words::{Answer, Outcome, Reason};
 use std::borrow::Cow;
 
 pub trait Layout: Sync {
@@ -30,8 +30,8 @@ pub fn outcome(outcome: Outcome) -> String {
 
 /// A word as UTF-8 text. Only one that is unread may be otherwise; its wrong bytes become U+FFFD.
 fn word_text<'a>(answer: &Answer<'a>) -> Cow<'a, [u8]> {
-    match (answer.outcome, String::from_utf8_lossy(answer.word)) {
-        (Outcome::Unread(_), Cow::Owned(text)) => Cow::Owned(text.into_bytes()),
+    match answer.outcome {
+        Outcome::Unread(Reason::NotUtf8) => Cow::Owned(String::from_utf8_lossy(answer.word).into_owned().into_bytes()),
         _ => Cow::Borrowed(answer.word),
     }
 }
@@ -83,5 +83,28 @@ impl Divided {
             out.extend_from_slice(&self.0[number][skipped..]);
             skipped = 0;
         }
+    }
+}
+
+#[cfg(test)]
+mod tests {
+    use super::*;
+
+    #[test]
+    fn a_field_has_no_tab_and_no_line_end() {
+        for (text, right) in [("luz", "luz"), ("", ""), ("a\tb\nc\rd\\e", "a\\tb\\nc\\rd\\\\e"), ("é ñ", "é ñ")] {
+            assert_eq!(field(text), right.as_bytes());
+        }
+    }
+
+    #[test]
+    fn texts_are_divided() {
+        let divided = Divided::numbers("|", 12);
+        let put = |numbers: &[usize]| {
+            let mut out = b"=".to_vec();
+            divided.put(numbers.iter().copied(), &mut out);
+            String::from_utf8(out).unwrap()
+        };
+        assert_eq!([put(&[]), put(&[11]), put(&[0, 11, 3])], ["=", "=11", "=0|11|3"]);
     }
 }

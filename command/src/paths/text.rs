@@ -1,7 +1,7 @@
 //! A path as text: its entries, each by its form, by form and gloss as readings show it, or by number.
 
 use super::links::Links;
-use crate::arguments::{is_meant, nearest};
+use crate::nearest::{is_meant, nearest};
 use crate::readings::Names;
 use std::collections::HashMap;
 

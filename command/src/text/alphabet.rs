@@ -1,9 +1,10 @@
 //! The letters of a grammar by number, and the characters that stand for the null and for any letter.
 
 use crate::text::fault::{Fault, Faults};
+use crate::text::hints::one_letter_meant;
 use crate::text::limits;
 use crate::text::lines::{name, one_character, Word};
-use crate::text::sections::{Section, Sections};
+use crate::text::sections::{Keyword, Section, Sections};
 
 /// The null, as a side of a pair or column.
 pub const NULL: u8 = 0;
@@ -109,9 +110,13 @@ fn read_symbol(section: &Section) -> Result<char, Fault> {
     let words: Vec<_> = section.words().collect();
     match words[..] {
         [(line, word)] => read_character(word, line),
-        _ => {
-            let keyword = section.keyword.name();
-            Err(Fault::new(section.line, format!("{keyword} takes one character")))
+        [] => {
+            Err(Fault::new(section.line, format!("{} takes one character, and none is here", section.keyword.name())))
+        }
+        [_, (line, second), ..] => {
+            let (keyword, second) = (section.keyword.name(), second.text());
+            let hint = if Keyword::named(second).is_some() { ", which begins a line of its own" } else { "" };
+            Err(Fault::new(line, format!("{keyword} takes one character; {second} is one too many{hint}")))
         }
     }
 }
@@ -119,7 +124,7 @@ fn read_symbol(section: &Section) -> Result<char, Fault> {
 /// A character that may be a letter: one code point that fits two bytes.
 pub fn read_character(word: Word, line: usize) -> Result<char, Fault> {
     let Some(text) = word.bare() else {
-        return Err(Fault::new(line, "a letter stands without quotation marks"));
+        return Err(Fault::new(line, format!("\"{}\": a letter stands without quotation marks", word.text())));
     };
     match one_character(text) {
         Some(c) if u32::from(c) <= limits::CODE_POINT => Ok(c),
@@ -131,7 +136,7 @@ pub fn read_character(word: Word, line: usize) -> Result<char, Fault> {
 /// What looks like one letter may be two code points, a letter and its accent.
 fn not_one_character(text: &str) -> String {
     let points: Vec<_> = text.chars().map(|c| format!("U+{:04X}", u32::from(c))).collect();
-    format!("a letter is one character, and this is {}", points.join(" "))
+    format!("a letter is one character, and this is {}{}", points.join(" "), one_letter_meant(text))
 }
 
 fn check_count(section: &Section) -> Result<usize, Fault> {

@@ -22,6 +22,10 @@ impl Faults {
         self.0.push(Fault::new(line, what));
     }
 
+    pub fn extend(&mut self, others: Faults) {
+        self.0.extend(others.0);
+    }
+
     /// The value of a part that was read; the fault of one that was not is kept.
     pub fn keep<T>(&mut self, part: Result<T, Fault>) -> Option<T> {
         part.map_err(|fault| self.0.push(fault)).ok()
@@ -40,6 +44,12 @@ impl Faults {
     pub fn by_line(mut self) -> Vec<Fault> {
         self.0.sort_by_key(|fault| fault.line);
         self.0
+    }
+}
+
+impl From<Vec<Fault>> for Faults {
+    fn from(faults: Vec<Fault>) -> Faults {
+        Faults(faults)
     }
 }
 

@@ -4,9 +4,11 @@ use crate::text::alphabet::{Alphabet, BOUNDARY, NULL};
 use crate::text::columns::Sides;
 use crate::text::fault::Faults;
 use crate::text::lexicons::{self, Continuation, Entry, Lexicon};
+use crate::text::lines::Line;
 use crate::text::pairs::{self, Pair};
 use crate::text::rules::{self, Rule};
 use crate::text::sets::Sets;
+use crate::text::slips::{only_slips, slips};
 use crate::text::{lines, sections};
 
 /// Only `read_grammar` makes one, and `decode` of an image that the library accepts: so every grammar keeps the limits, has
@@ -25,8 +27,13 @@ pub struct Grammar {
 /// Reads the bytes of a text. A part that others lean on ends the reading if it has faults; rules and
 /// lexicons do not lean on each other, so the faults of both are found.
 pub fn read_grammar(bytes: &[u8]) -> Result<Grammar, Faults> {
-    let text = lines::decode(bytes)?;
-    let sections = sections::divide(lines::split(text)?)?;
+    let lines = lines::split(lines::decode(bytes)?)?;
+    let slips = slips(&lines);
+    read_lines(lines).map_err(|faults| only_slips(slips, faults))
+}
+
+fn read_lines(lines: Vec<Line>) -> Result<Grammar, Faults> {
+    let sections = sections::divide(lines)?;
     let alphabet = Alphabet::read(&sections)?;
     let sets = Sets::read(&sections.subsets, &alphabet)?;
     let pairs = pairs::read(&sections.pairs, &alphabet)?;

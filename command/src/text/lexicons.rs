@@ -1,7 +1,9 @@
 //! Lexicons and their entries: a form, what may follow it, and a gloss.
 
+use crate::nearest::{is_meant, nearest};
 use crate::text::alphabet::{Alphabet, ANY, BOUNDARY, NULL};
 use crate::text::fault::{Fault, Faults};
+use crate::text::hints::{accent_meant, letter_meant, quote_meant};
 use crate::text::limits;
 use crate::text::lines::{name, number, one_character, Line, Word};
 use crate::text::pairs::Pair;
@@ -42,7 +44,13 @@ pub fn read(sections: &[Section], alphabet: &Alphabet, pairs: &[Pair], faults: &
     if faults.keep(check_counts(sections)).is_none() {
         return Vec::new();
     }
-    let numbers = read_names(sections, alphabet, faults);
+    let mut wrong_names = Faults::default();
+    let numbers = read_names(sections, alphabet, &mut wrong_names);
+    // Continuations lean on the names.
+    if let Err(wrong_names) = wrong_names.or(()) {
+        faults.extend(wrong_names);
+        return Vec::new();
+    }
     let mut entry_numbers = 0..;
     let mut lexicons = Vec::new();
     for section in sections {
@@ -86,7 +94,9 @@ fn read_names<'a>(sections: &[Section<'a>], alphabet: &Alphabet, faults: &mut Fa
 /// A name that cannot be taken for a keyword or for the end of a word.
 fn read_name<'a>(section: &Section<'a>, alphabet: &Alphabet) -> Result<&'a str, Fault> {
     let [Word::Bare(name)] = section.head[..] else {
-        return Err(Fault::new(section.line, "LEXICON takes one name, without quotation marks"));
+        let words: Vec<&str> = section.head.iter().map(|word| word.text()).collect();
+        let found = if words.is_empty() { "and none is here".to_string() } else { format!("not {}", words.join(" ")) };
+        return Err(Fault::new(section.line, format!("LEXICON takes one name, without quotation marks, {found}")));
     };
     if Keyword::named(name).is_some() || is_end(name, alphabet) {
         return Err(Fault::new(section.line, format!("{name} cannot name a lexicon")));
@@ -116,7 +126,7 @@ fn read_entry(
         [Word::Bare(form), Word::Bare(continuation), gloss] => (form, continuation, gloss),
         _ => {
             let what = "an entry is a form, a continuation and perhaps a gloss, a number or in quotation marks";
-            return Err(at_fault(what.to_string()));
+            return Err(at_fault(format!("{what}{}", entry_meant(&line.words, alphabet))));
         }
     };
     let (gloss, gloss_text) = read_gloss(gloss, number).map_err(at_fault)?;
@@ -129,11 +139,27 @@ fn read_entry(
     })
 }
 
+/// What a line that is no entry may lack, or have too much.
+fn entry_meant(words: &[Word], alphabet: &Alphabet) -> String {
+    let end = alphabet.character(BOUNDARY);
+    match *words {
+        [Word::Quoted(_), ..] => "; a form stands without quotation marks".to_string(),
+        [_] => format!("; the continuation is missing, and {end} ends the word"),
+        [_, Word::Quoted(_), ..] => format!("; the continuation is missing before the gloss, and {end} ends the word"),
+        [_, _, Word::Bare(_), ..] => quote_meant(words).unwrap_or_else(|| {
+            let gloss: Vec<&str> = words[2..].iter().map(|word| word.text()).collect();
+            format!("; is \"{}\" meant?", gloss.join(" "))
+        }),
+        _ => format!("; {} is one too many", words[3].text()),
+    }
+}
+
 fn read_form(form: &str, alphabet: &Alphabet, pairs: &[Pair]) -> Result<Vec<u8>, String> {
     if is_alone(form, NULL, alphabet) {
         return Ok(Vec::new());
     }
-    let letters: Vec<u8> = form.chars().map(|c| read_form_letter(c, alphabet)).collect::<Result<_, _>>()?;
+    let read = |c| read_form_letter(c, alphabet).map_err(|what| format!("form {form}: {what}{}", accent_meant(form)));
+    let letters: Vec<u8> = form.chars().map(read).collect::<Result<_, _>>()?;
     if !limits::FORM.contains(&letters.len()) {
         let (found, most) = (letters.len(), limits::FORM.end());
         return Err(format!("form {form} has {found} letters; allowed are {most}"));
@@ -146,7 +172,7 @@ fn read_form(form: &str, alphabet: &Alphabet, pairs: &[Pair]) -> Result<Vec<u8>,
 
 fn read_form_letter(character: char, alphabet: &Alphabet) -> Result<u8, String> {
     match alphabet.side(character) {
-        None => Err(format!("{} is no letter of the alphabet", name(character))),
+        None => Err(format!("{} is no letter of the alphabet{}", name(character), letter_meant(character, alphabet))),
         Some(NULL) => Err(format!("{character} is the null; alone it is an empty form, in a form it cannot stand")),
         Some(BOUNDARY) => Err(format!("{character} is the boundary, which cannot stand in a form")),
         Some(ANY) => Err(format!("{character} stands for any letter, which only a rule's column may")),
@@ -175,7 +201,9 @@ fn read_continuation(word: &str, alphabet: &Alphabet, numbers: &Numbers) -> Resu
         Some(&lexicon) => Ok(Continuation::Lexicon(lexicon)),
         None => {
             let end = alphabet.character(BOUNDARY);
-            Err(format!("no lexicon is called {word}; {end} in its place ends the word"))
+            let near = nearest(word, numbers.keys().copied());
+            let hint = near.map_or(format!("; {end} in its place ends the word"), |near| is_meant(Some(near)));
+            Err(format!("no lexicon is called {word}{hint}"))
         }
     }
 }
@@ -186,7 +214,10 @@ fn read_gloss(gloss: Word<'_>, entry: u16) -> Result<(u16, &str), String> {
         Word::Quoted(text) => Ok((entry, text)),
         Word::Bare(word) => match number(word).and_then(|gloss| u16::try_from(gloss).ok()) {
             Some(gloss) => Ok((gloss, "")),
-            None => Err(format!("gloss {word}: a gloss is a number from 0 to 65535, or in quotation marks")),
+            None => {
+                let hint = quote_meant(&[gloss]).unwrap_or_default();
+                Err(format!("gloss {word}: a gloss is a number from 0 to 65535, or in quotation marks{hint}"))
+            }
         },
     }
 }

@@ -16,6 +16,13 @@ impl<'a> Word<'a> {
             Word::Quoted(_) => None,
         }
     }
+
+    /// What stands in the text, without quotation marks.
+    pub fn text(self) -> &'a str {
+        match self {
+            Word::Bare(text) | Word::Quoted(text) => text,
+        }
+    }
 }
 
 /// A line that has words, with its number from 1.
@@ -35,9 +42,22 @@ pub fn decode(bytes: &[u8]) -> Result<&str, Fault> {
     let text = std::str::from_utf8(bytes).map_err(|error| {
         let before = &bytes[..error.valid_up_to()];
         let line = 1 + before.iter().filter(|&&byte| byte == b'\n').count();
-        Fault::new(line, "a byte that is not UTF-8; save the file as UTF-8")
+        Fault::new(
+            line,
+            format!("a byte that is not UTF-8, {}; save the file as UTF-8", other_encoding(bytes, before.len())),
+        )
     })?;
     Ok(text.strip_prefix(BYTE_ORDER_MARK).unwrap_or(text))
+}
+
+/// What a byte that is not UTF-8 may be.
+fn other_encoding(bytes: &[u8], at: usize) -> String {
+    let byte = bytes[at];
+    match bytes {
+        [0xFF, 0xFE, ..] | [0xFE, 0xFF, ..] => format!("{byte:02X}: this is UTF-16"),
+        _ if byte > 0xA0 => format!("{byte:02X}, which in Latin-1 is {}", char::from(byte)),
+        _ => format!("{byte:02X}"),
+    }
 }
 
 /// The lines that have words.

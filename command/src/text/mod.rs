@@ -4,6 +4,7 @@ pub(crate) mod alphabet;
 pub(crate) mod columns;
 mod fault;
 mod grammar;
+mod hints;
 pub(crate) mod image;
 pub(crate) mod lexicons;
 pub(crate) mod limits;
@@ -14,6 +15,7 @@ mod place;
 pub(crate) mod rules;
 pub(crate) mod sections;
 pub(crate) mod sets;
+mod slips;
 mod source;
 mod written;
 

@@ -2,6 +2,7 @@
 
 use crate::text::alphabet::{Alphabet, ANY, BOUNDARY, NULL};
 use crate::text::fault::{Fault, Faults};
+use crate::text::hints::{letter_meant, pair_meant};
 use crate::text::limits;
 use crate::text::lines::{name, Word};
 use crate::text::sections::Section;
@@ -41,11 +42,16 @@ pub fn read(section: &Section, alphabet: &Alphabet) -> Result<Vec<Pair>, Faults>
 
 fn read_pair(word: Word, line: usize, alphabet: &Alphabet) -> Result<Pair, Fault> {
     let Some((lexical, surface)) = word.bare().and_then(split_pair) else {
-        return Err(Fault::new(line, "a pair is written as two letters and a colon, a:b"));
+        let (text, hint) = (word.text(), pair_meant(word, alphabet));
+        return Err(Fault::new(line, format!("{text}: a pair is written as two letters and a colon, a:b{hint}")));
     };
-    let pair = Pair { lexical: read_side(lexical, line, alphabet)?, surface: read_side(surface, line, alphabet)? };
+    let side = |character| {
+        let at_fault = |what| Fault::new(line, format!("pair {lexical}:{surface}: {what}"));
+        read_side(character, alphabet).map_err(at_fault)
+    };
+    let pair = Pair { lexical: side(lexical)?, surface: side(surface)? };
     if pair.lexical == NULL && pair.surface == NULL {
-        return Err(Fault::new(line, "a pair of two nulls"));
+        return Err(Fault::new(line, format!("{lexical}:{surface} is a pair of two nulls")));
     }
     Ok(pair)
 }
@@ -59,12 +65,11 @@ fn split_pair(text: &str) -> Option<(char, char)> {
     }
 }
 
-fn read_side(character: char, line: usize, alphabet: &Alphabet) -> Result<u8, Fault> {
-    let what = match alphabet.side(character) {
-        None => format!("{} is no letter of the alphabet", name(character)),
-        Some(BOUNDARY) => "the boundary pairs with itself only, and is not listed".to_string(),
-        Some(ANY) => format!("{character} stands for any letter, which only a rule's column may"),
-        Some(side) => return Ok(side),
-    };
-    Err(Fault::new(line, what))
+fn read_side(character: char, alphabet: &Alphabet) -> Result<u8, String> {
+    match alphabet.side(character) {
+        None => Err(format!("{} is no letter of the alphabet{}", name(character), letter_meant(character, alphabet))),
+        Some(BOUNDARY) => Err("the boundary pairs with itself only, and is not listed".to_string()),
+        Some(ANY) => Err(format!("{character} stands for any letter, which only a rule's column may")),
+        Some(side) => Ok(side),
+    }
 }

@@ -1,7 +1,9 @@
 //! Rule tables: columns, final states, and for each state a row of next states.
 
+use crate::nearest::{is_meant, nearest};
 use crate::text::columns::{self, Column, Sides};
 use crate::text::fault::{Fault, Faults};
+use crate::text::hints::{accent_meant, digit_meant, letter_meant, quote_meant};
 use crate::text::limits;
 use crate::text::lines::{name, number, one_character, Line, Word};
 use crate::text::pairs::Pair;
@@ -68,6 +70,7 @@ fn read_rule(section: &Section, sides: Sides, pairs: &[Pair]) -> Result<Rule, Fa
         let what = "a rule has a row of lexical sides and a row of surface sides";
         return Err(Fault::new(section.last_line(), what));
     };
+    check_order(lexical, rows, &heading, section.line)?;
     let columns = read_columns(lexical, surface, &heading, sides)?;
     let states = read_states(rows, &heading, section.last_line())?;
     let taken = columns::taken(&columns, pairs, sides)
@@ -84,11 +87,41 @@ fn read_heading<'a>(section: &Section<'a>) -> Result<Heading<'a>, Fault> {
         }
         _ => None,
     };
-    let heading = heading
-        .ok_or_else(|| Fault::new(line, "RULE takes a name in quotation marks, the count of states, and of columns"))?;
+    let heading = heading.ok_or_else(|| {
+        let takes = "RULE takes a name in quotation marks, the count of states, and of columns";
+        Fault::new(line, format!("{takes}{}", heading_meant(&section.head)))
+    })?;
     limits::within(&limits::STATES, heading.states, "states", line)?;
     limits::within(&limits::COLUMNS, heading.columns, "columns", line)?;
     Ok(heading)
+}
+
+/// What a rule's first line may lack, or have otherwise.
+fn heading_meant(words: &[Word]) -> String {
+    let count = |word: &&Word| word.bare().and_then(number).is_none();
+    match words {
+        [Word::Quoted(_), Word::Bare(one)] if number(one).is_some() => "; a count is missing".to_string(),
+        [Word::Quoted(_), counts @ ..] if counts.len() < 2 => "; the counts are missing".to_string(),
+        [Word::Quoted(_), counts @ ..] => match counts.iter().find(count) {
+            Some(other) => format!("; {} is no count", other.text()),
+            None => "; there is a count too many".to_string(),
+        },
+        [Word::Bare(first), ..] if number(first).is_none() => {
+            quote_meant(words).unwrap_or(format!("; {first} is not in quotation marks"))
+        }
+        _ => "; the name is missing".to_string(),
+    }
+}
+
+/// States are counted first. The counts of a table that is as wide as they say it is high, and as high as wide, are swapped.
+fn check_order(lexical: &Line, rows: &[Line], heading: &Heading, line: usize) -> Result<(), Fault> {
+    let (states, columns) = (rows.len(), lexical.words.len());
+    if states != columns && (heading.states, heading.columns) == (columns, states) {
+        let what =
+            format!("the counts are swapped: the table has {states} states, which come first, and {columns} columns");
+        return Err(Fault::new(line, what));
+    }
+    Ok(())
 }
 
 fn read_columns(lexical: &Line, surface: &Line, heading: &Heading, sides: Sides) -> Result<Vec<Column>, Fault> {
@@ -110,15 +143,32 @@ fn read_sides(line: &Line, level: &str, heading: &Heading, sides: Sides) -> Resu
 fn read_side(word: Word, line: usize, sides: Sides) -> Result<u8, Fault> {
     let side_is = "a side of a column is one character or the name of a set";
     let Some(text) = word.bare() else {
-        return Err(Fault::new(line, format!("{side_is}, without quotation marks")));
+        return Err(Fault::new(line, format!("\"{}\": {side_is}, without quotation marks", word.text())));
     };
     sides.side(text).ok_or_else(|| match one_character(text) {
-        Some(c) => Fault::new(line, format!("{} is no letter of the alphabet, and no set is called so", name(c))),
-        None => Fault::new(line, format!("no set is called {text}; {side_is}")),
+        Some(c) => {
+            let hint = letter_meant(c, sides.alphabet);
+            Fault::new(line, format!("{} is no letter of the alphabet, and no set is called so{hint}", name(c)))
+        }
+        None => Fault::new(line, format!("no set is called {text}; {side_is}{}", side_meant(text, sides))),
     })
 }
 
+/// What a word that is no side of a column may be.
+fn side_meant(text: &str, sides: Sides) -> String {
+    let named = nearest(text, sides.sets.all().iter().map(|set| set.name.as_str()));
+    match text.split_once(':') {
+        Some(_) if named.is_none() => "; a pair stands on two rows, its lexical side in the first".to_string(),
+        _ if named.is_some() => is_meant(named),
+        _ => accent_meant(text),
+    }
+}
+
 fn read_states(rows: &[Line], heading: &Heading, last_line: usize) -> Result<Vec<State>, Fault> {
+    // A row that is missing or out of order is told where it shows.
+    for (row, state) in rows.iter().zip(1..=heading.states) {
+        read_label(row, state)?;
+    }
     if let Some(extra) = rows.get(heading.states) {
         let what = format!("a row more than the rule's {} states", heading.states);
         return Err(Fault::new(extra.number, what));
@@ -130,21 +180,26 @@ fn read_states(rows: &[Line], heading: &Heading, last_line: usize) -> Result<Vec
     rows.iter().enumerate().map(|(at, row)| read_state(row, at + 1, heading)).collect()
 }
 
-/// A row: the state's number, a colon where it is final or a full stop, and the next states.
-fn read_state(row: &Line, state: usize, heading: &Heading) -> Result<State, Fault> {
+/// Whether a state is final: its row begins with its number and a colon, or else a full stop.
+fn read_label(row: &Line, state: usize) -> Result<bool, Fault> {
     let label = row.words[0].bare().unwrap_or("");
-    let is_final = if label == format!("{state}:") {
-        true
-    } else if label == format!("{state}.") {
-        false
-    } else {
-        let what = format!("the row of state {state} begins with {state}: if it is final, else {state}.");
-        return Err(Fault::new(row.number, what));
-    };
+    if label == format!("{state}:") {
+        return Ok(true);
+    }
+    if label == format!("{state}.") {
+        return Ok(false);
+    }
+    let begins = format!("the row of state {state} begins with {state}: if it is final, else {state}.");
+    Err(Fault::new(row.number, format!("{begins}, not with {}", row.words[0].text())))
+}
+
+/// A row: the state, and the next states.
+fn read_state(row: &Line, state: usize, heading: &Heading) -> Result<State, Fault> {
+    let is_final = read_label(row, state)?;
     let next = &row.words[1..];
     if next.len() != heading.columns {
         let what = format!("{} next states where the rule has {} columns", next.len(), heading.columns);
-        return Err(Fault::new(row.number, what));
+        return Err(Fault::new(row.number, format!("state {state}: {what}")));
     }
     let next = next.iter().map(|&word| read_next(word, row.number, heading));
     Ok(State { is_final, next: next.collect::<Result<_, _>>()?, line: row.number })
@@ -152,6 +207,8 @@ fn read_state(row: &Line, state: usize, heading: &Heading) -> Result<State, Faul
 
 fn read_next(word: Word, line: usize, heading: &Heading) -> Result<u8, Fault> {
     let next = word.bare().and_then(number).filter(|&next| next <= heading.states);
-    next.and_then(|next| u8::try_from(next).ok())
-        .ok_or_else(|| Fault::new(line, format!("a next state is a number from 0 to {}", heading.states)))
+    next.and_then(|next| u8::try_from(next).ok()).ok_or_else(|| {
+        let (text, states) = (word.text(), heading.states);
+        Fault::new(line, format!("{text}: a next state is a number from 0 to {states}{}", digit_meant(text)))
+    })
 }

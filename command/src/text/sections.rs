@@ -20,7 +20,7 @@ pub enum Keyword {
 const ORDER: &str = "BOUNDARY, NULL, ANY and ALPHABET, then SUBSET and PAIRS, then RULE, LEXICON, END";
 
 impl Keyword {
-    const ALL: [Keyword; 9] = [
+    pub const ALL: [Keyword; 9] = [
         Keyword::Boundary,
         Keyword::Null,
         Keyword::Any,
@@ -132,7 +132,8 @@ fn group(lines: Vec<Line<'_>>) -> Result<Vec<Section<'_>>, Fault> {
             }
             (None, Some(section)) => section.body.push(line),
             (None, None) => {
-                let what = format!("no section is open; sections stand in this order: {ORDER}");
+                let word = line.words[0].text();
+                let what = format!("{word}: no section is open; sections stand in this order: {ORDER}");
                 return Err(Fault::new(line.number, what));
             }
         }

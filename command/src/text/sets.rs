@@ -2,6 +2,7 @@
 
 use crate::text::alphabet::{self, Alphabet, ANY, BOUNDARY, NULL};
 use crate::text::fault::{Fault, Faults};
+use crate::text::hints::letter_meant;
 use crate::text::limits;
 use crate::text::lines::{name, one_character, Word};
 use crate::text::sections::{Keyword, Section};
@@ -74,7 +75,7 @@ fn read_name<'a>(section: &Section<'a>, alphabet: &Alphabet) -> Result<&'a str, 
         Some(NULL) => "it is the null",
         Some(BOUNDARY) => "it is the boundary",
         Some(ANY) => "it stands for any letter",
-        Some(_) => "it is a letter",
+        Some(_) => "it is a letter; is the name missing?",
     };
     Err(Fault::new(section.line, format!("{name} cannot name a set: {taken}")))
 }
@@ -112,7 +113,7 @@ fn read_letters(section: &Section, set: &str, alphabet: &Alphabet, faults: &mut 
 fn read_letter(word: Word, line: usize, alphabet: &Alphabet) -> Result<u8, Fault> {
     let character = alphabet::read_character(word, line)?;
     let what = match alphabet.side(character) {
-        None => format!("{} is no letter of the alphabet", name(character)),
+        None => format!("{} is no letter of the alphabet{}", name(character), letter_meant(character, alphabet)),
         Some(ANY) => format!("{character} stands for any letter, which only a rule's column may"),
         Some(letter) => return Ok(letter),
     };

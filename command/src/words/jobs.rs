@@ -188,3 +188,105 @@ fn take_all<T: Default, E>(
 fn locked<T>(mutex: &Mutex<T>) -> MutexGuard<'_, T> {
     mutex.lock().unwrap_or_else(PoisonError::into_inner)
 }
+
+#[cfg(test)]
+mod tests {
+    use super::*;
+    use crate::words::{Source, SourceName};
+    use std::io::{self, Cursor, Read};
+    use std::time::Instant;
+
+    fn pieces(bytes: impl Read + Send + 'static) -> Pieces {
+        let name = SourceName::File("here".to_string());
+        Pieces::new(vec![Source { name, bytes: Box::new(bytes), size: None, is_typed: false }])
+    }
+
+    /// Keeps the lines of a batch; a job takes the longer the earlier its batch.
+    fn worker() -> impl FnMut(&[Piece], &mut Vec<usize>) {
+        |pieces, kept| {
+            kept.clear();
+            kept.extend(pieces.iter().flat_map(|piece| piece.lines().map(|line| line.number)));
+            thread::sleep(Duration::from_millis(if kept.first() == Some(&1) { 100 } else { 1 }));
+        }
+    }
+
+    #[test]
+    fn what_is_made_comes_in_order() {
+        let lines = "a\n".repeat(500_000);
+        for jobs in [1, 2, 5] {
+            let mut all = Vec::new();
+            let ended: Result<(), ()> = in_order(pieces(Cursor::new(lines.clone())), jobs, worker, |event| {
+                if let Event::Made(kept) = event {
+                    all.append(kept);
+                }
+                Ok(())
+            });
+            assert_eq!(ended, Ok(()));
+            assert!(all.iter().copied().eq(1..=500_000));
+        }
+    }
+
+    /// Lines without end.
+    struct Endless;
+
+    impl Read for Endless {
+        fn read(&mut self, to: &mut [u8]) -> io::Result<usize> {
+            to.fill(b'\n');
+            Ok(to.len())
+        }
+    }
+
+    /// A line, and then nothing for longer than a test may take.
+    struct Silent(bool);
+
+    impl Read for Silent {
+        fn read(&mut self, to: &mut [u8]) -> io::Result<usize> {
+            if self.0 {
+                thread::sleep(Duration::from_secs(60));
+            }
+            self.0 = true;
+            to[0] = b'\n';
+            Ok(1)
+        }
+    }
+
+    #[test]
+    fn where_the_taker_fails_all_ends() {
+        let begun = Instant::now();
+        for input in [pieces(Endless), pieces(Silent(false))] {
+            let ended = in_order(input, 3, worker, |event| match event {
+                Event::Made(_) => Err("enough"),
+                _ => Ok(()),
+            });
+            assert_eq!(ended, Err("enough"));
+        }
+        assert!(begun.elapsed() < Duration::from_secs(30));
+    }
+
+    /// Gives what it has, and then fails.
+    struct Failing(Cursor<Vec<u8>>);
+
+    impl Read for Failing {
+        fn read(&mut self, to: &mut [u8]) -> io::Result<usize> {
+            match self.0.read(to)? {
+                0 => Err(io::Error::other("no more")),
+                count => Ok(count),
+            }
+        }
+    }
+
+    #[test]
+    fn a_read_that_fails_is_told_after_what_came_before() {
+        let mut told = Vec::new();
+        let input = pieces(Failing(Cursor::new(b"a\nb\nc".to_vec())));
+        let ended = in_order(input, 2, worker, |event| match event {
+            Event::Made(kept) => {
+                told.append(kept);
+                Ok(())
+            }
+            Event::Failed(what) => Err(what),
+            Event::Tick => Ok(()),
+        });
+        assert_eq!((ended, told), (Err("here: no more".to_string()), vec![1, 2]));
+    }
+}

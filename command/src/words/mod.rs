@@ -11,7 +11,7 @@ mod sources;
 mod spelling;
 mod tally;
 
-pub use accents::plain;
+pub use accents::{composed, plain};
 pub use answers::{Answer, Asker, Outcome};
 pub use letters::Letters;
 pub use pieces::{Line, Piece, Pieces};

@@ -1,7 +1,7 @@
 //! Cuts what is read from the sources into pieces of whole lines, as they come.
 
 use super::sources::Source;
-use super::spelling::trimmed;
+use super::spelling::{blanks_before, trimmed};
 use std::io::{self, ErrorKind, Read};
 
 /// Bytes asked for in one read.
@@ -110,11 +110,11 @@ impl Pieces {
         last
     }
 
-    /// A line that is too long to keep: its beginning, without the blanks before it. Blanks after it are no part of the word.
+    /// A line that is too long to keep: its beginning, without the blanks before it; none where that is not too long. Blanks
+    /// after it are no part of the word.
     fn long_line(&mut self) -> Result<Option<Piece>, String> {
-        let marked = self.line == 1 && self.begun.starts_with(BYTE_ORDER_MARK);
-        if trimmed(&self.begun).is_empty() && !marked {
-            self.begun.clear();
+        self.begun.drain(..blanks_before(&self.begun));
+        if self.begun.len() <= LONGEST {
             return Ok(None);
         }
         let mut rest = self.begun.split_off(character_start(&self.begun, LONGEST));
@@ -156,4 +156,74 @@ fn read_some(source: &mut Source, to: &mut Vec<u8>) -> Result<usize, String> {
     };
     to.truncate(from + *count.as_ref().unwrap_or(&0));
     count.map_err(|error: io::Error| format!("{}: {error}", source.name.whole()))
+}
+
+#[cfg(test)]
+mod tests {
+    use super::*;
+    use crate::words::SourceName;
+    use std::io::Cursor;
+
+    /// Gives a few bytes at a time, as a slow pipe does.
+    struct Slow(Cursor<Vec<u8>>, usize);
+
+    impl Read for Slow {
+        fn read(&mut self, to: &mut [u8]) -> io::Result<usize> {
+            let most = to.len().min(self.1);
+            self.0.read(&mut to[..most])
+        }
+    }
+
+    fn source(bytes: &[u8], at_once: usize) -> Source {
+        let bytes = Box::new(Slow(Cursor::new(bytes.to_vec()), at_once));
+        Source { name: SourceName::Arguments, bytes, size: None, is_typed: false }
+    }
+
+    /// Source, line, word, whether it was cut; and how many marks were dropped.
+    fn read(sources: Vec<Source>) -> (Vec<(usize, usize, String, bool)>, usize) {
+        let (mut words, mut marks) = (Vec::new(), 0);
+        let mut pieces = Pieces::new(sources);
+        while let Some(piece) = pieces.next().unwrap() {
+            marks += usize::from(piece.marked);
+            words.extend(
+                piece
+                    .lines()
+                    .map(|line| (piece.source, line.number, String::from_utf8_lossy(line.word).into_owned(), line.cut)),
+            );
+        }
+        (words, marks)
+    }
+
+    fn word(source: usize, line: usize, word: &str) -> (usize, usize, String, bool) {
+        (source, line, word.to_string(), false)
+    }
+
+    #[test]
+    fn lines_are_words_without_blanks() {
+        for at_once in [1, 2, 3, 7, 100_000] {
+            let first = source(b"\xEF\xBB\xBFluz\r\n\t lu z  \n\n \xEF\xBB\xBF", at_once);
+            let (words, marks) = read(vec![first, source(b"", at_once), source(b"\n\nluc", at_once)]);
+            let right = [word(0, 1, "luz"), word(0, 2, "lu z"), word(0, 3, ""), word(0, 4, "\u{feff}")];
+            assert_eq!(words[..4], right);
+            assert_eq!(words[4..], [word(2, 1, ""), word(2, 2, ""), word(2, 3, "luc")]);
+            assert_eq!(marks, 1);
+        }
+    }
+
+    #[test]
+    fn a_long_line_is_cut() {
+        let blanks = " ".repeat(200_000);
+        let letters = "é".repeat(100_000);
+        let text = format!("{blanks}luz{blanks}\nx{letters}\n{letters}{blanks}\n{blanks}\nluc{blanks}u");
+        for at_once in [50_001, 100_000] {
+            let (words, _) = read(vec![source(text.as_bytes(), at_once)]);
+            assert_eq!(words[0], word(0, 1, "luz"));
+            let (_, line, cut, is_cut) = &words[1];
+            assert!(*line == 2 && *is_cut && cut.len() >= LONGEST - 3 && cut.starts_with("xéé") && cut.ends_with("éé"));
+            assert!(words[2].3 && words[2].2.ends_with('é'));
+            assert_eq!(words[3], word(0, 4, ""));
+            assert_eq!((words[4].1, words[4].2.as_str(), words[4].3), (5, "luc", true));
+            assert_eq!(words.len(), 5);
+        }
+    }
 }
