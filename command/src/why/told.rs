@@ -63,6 +63,9 @@ impl<'a> Teller<'a> {
         for refusal in &nothing.furthest.front {
             told += &format!("  before any letter, {}\n", self.refusal(refusal, self.tables.boundary()));
         }
+        if nothing.furthest.through {
+            told += "  a way comes through that the library does not have, so that what follows may be wrong\n";
+        }
         if nothing.furthest.front.is_empty() {
             told += &self.furthest("furthest", word, &nothing.furthest, &nothing.left_out);
         }
