@@ -7,7 +7,8 @@ PREFIX = /usr/local
 run:
 	@tools/need rt cargo cc
 	@tools/prove lines check_image headwords
-	@examples/read grammars/spanish.txt luz luces luzes rey reyes
+	@tools/command
+	@target/cargo/release/headwords read grammars/spanish.txt luz luces luzes rey reyes
 
 test:
 	@tools/need rt cargo cc

@@ -87,21 +87,6 @@ extern "C" {
     ) -> u64;
     fn headwords_check(image: *const u8, image_length: usize) -> u64;
     fn headwords_seal(image: *mut u8, image_length: usize) -> u64;
-    fn headwords_judge(
-        image: *const u8,
-        image_length: usize,
-        path: *const u8,
-        path_length: usize,
-        pairing: *const u8,
-        pairing_length: usize,
-    ) -> u64;
-    fn headwords_form(
-        image: *const u8,
-        image_length: usize,
-        entry: usize,
-        letters: *mut u8,
-        letters_length: usize,
-    ) -> u64;
     fn headwords_spell(
         image: *const u8,
         image_length: usize,
@@ -156,18 +141,6 @@ pub fn generate(image: &[u8], path: &[u8], rows: &mut [u8]) -> Reply {
     Reply::of(unsafe {
         headwords_generate(image.as_ptr(), image.len(), path.as_ptr(), path.len(), rows.as_mut_ptr(), rows.len())
     })
-}
-
-/// `All(0)` where path and pairing are a reading, `None` where they are not.
-pub fn judge(image: &[u8], path: &[u8], pairing: &[u8]) -> Reply {
-    Reply::of(unsafe {
-        headwords_judge(image.as_ptr(), image.len(), path.as_ptr(), path.len(), pairing.as_ptr(), pairing.len())
-    })
-}
-
-/// The letters of an entry's form.
-pub fn form(image: &[u8], entry: usize, letters: &mut [u8]) -> Reply {
-    Reply::of(unsafe { headwords_form(image.as_ptr(), image.len(), entry, letters.as_mut_ptr(), letters.len()) })
 }
 
 /// The letters of a word that is given as code points, two bytes each.

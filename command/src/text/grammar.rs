@@ -27,9 +27,12 @@ pub struct Grammar {
 /// Reads the bytes of a text. A part that others lean on ends the reading if it has faults; rules and
 /// lexicons do not lean on each other, so the faults of both are found.
 pub fn read_grammar(bytes: &[u8]) -> Result<Grammar, Faults> {
-    let lines = lines::split(lines::decode(bytes)?)?;
-    let slips = slips(&lines);
-    read_lines(lines).map_err(|faults| only_slips(slips, faults))
+    let text = lines::decode(bytes)?;
+    // To look for slips takes longer than the reading, so that only a text with faults is searched for them.
+    read_lines(lines::split(text)?).map_err(|faults| match lines::split(text) {
+        Ok(lines) => only_slips(slips(&lines), faults),
+        Err(_) => faults,
+    })
 }
 
 fn read_lines(lines: Vec<Line>) -> Result<Grammar, Faults> {
