@@ -47,8 +47,8 @@ cc -std=c99 -O1 -Wall -Wextra -Werror -o "$work/static" examples/luces.c -Wl,-Bs
 echo "examples/luces.c: built by pkg-config, shared and static, and run"
 
 [ "$(readlink -f "$prefix/lib/libheadwords.so")" = "$prefix/lib/libheadwords.so.$version" ]
-nm -D --defined-only "$prefix/lib/libheadwords.so" | sed 's/.* T //' >"$work/exported"
-sed -n 's/^uint64_t \(headwords_[a-z_]*\)(.*/\1/p' include/headwords.h | sort | diff - "$work/exported"
+nm -D --defined-only "$prefix/lib/libheadwords.so" | sed "s/.* T //" | LC_ALL=C sort >"$work/exported"
+sed -n 's/^uint64_t \(headwords_[a-z_]*\)(.*/\1/p' include/headwords.h | LC_ALL=C sort | diff - "$work/exported"
 readelf -d "$prefix/lib/libheadwords.so" | grep TEXTREL && exit 1
 echo "the shared library exports the header's calls and nothing else"
 

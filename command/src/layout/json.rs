@@ -78,7 +78,8 @@ impl Layout for Json {
     }
 }
 
-fn object(entry: &EntryName, number: Option<usize>) -> Vec<u8> {
+/// An entry: its form, its gloss and, where wanted, its number.
+pub fn object(entry: &EntryName, number: Option<usize>) -> Vec<u8> {
     let mut out = b"{".to_vec();
     if let Some(number) = number {
         out.extend_from_slice(format!("\"entry\":{number},").as_bytes());
@@ -98,7 +99,7 @@ fn put_truth(is_true: bool, out: &mut Vec<u8>) {
     out.extend_from_slice(if is_true { b"true" } else { b"false" });
 }
 
-fn string(text: &str) -> Vec<u8> {
+pub fn string(text: &str) -> Vec<u8> {
     let mut out = Vec::new();
     put_string(text.as_bytes(), &mut out);
     out

@@ -4,7 +4,7 @@ mod json;
 mod plain;
 mod tsv;
 
-pub use json::Json;
+pub use json::{object, string, Json};
 pub use plain::Plain;
 pub use tsv::Tsv;
 

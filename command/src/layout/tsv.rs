@@ -22,11 +22,11 @@ impl Tsv {
     pub fn new(names: &Names, with_numbers: bool) -> Tsv {
         let entries = &names.entries;
         // A gloss may have blanks in it, so that another character divides glosses.
-        let gloss = |text: Option<&String>| field(text.map_or("", String::as_str)).escaped_bars();
+        let gloss = |gloss: &Option<String>| without_bars(gloss.as_deref().unwrap_or(""));
         Tsv {
             headwords: entries.iter().map(|entry| field(&entry.headword)).collect(),
             forms: Divided::new(" ", entries.iter().map(|entry| field(&entry.form))),
-            glosses: Divided::new("|", entries.iter().map(|entry| gloss(entry.gloss.as_ref()))),
+            glosses: Divided::new("|", entries.iter().map(|entry| gloss(&entry.gloss))),
             pairs: Divided::new(" ", names.pairs.iter().map(|pair| field(pair))),
             numbers: with_numbers
                 .then(|| (Divided::numbers(" ", entries.len()), Divided::numbers(" ", names.pairs.len()))),
@@ -86,12 +86,8 @@ impl Layout for Tsv {
     }
 }
 
-trait Bars {
-    fn escaped_bars(self) -> Vec<u8>;
-}
-
-impl Bars for Vec<u8> {
-    fn escaped_bars(self) -> Vec<u8> {
-        self.into_iter().flat_map(|byte| if byte == b'|' { vec![b'\\', b'|'] } else { vec![byte] }).collect()
-    }
+/// A field in which no bar stands but those that divide glosses.
+fn without_bars(text: &str) -> Vec<u8> {
+    let field = field(text).into_iter();
+    field.flat_map(|byte| if byte == b'|' { vec![b'\\', b'|'] } else { vec![byte] }).collect()
 }

@@ -1,5 +1,7 @@
 //! Points, boxes and Bézier curves of a picture.
 
+use std::rc::Rc;
+
 #[derive(Clone, Copy, Debug, PartialEq)]
 pub struct Point {
     pub x: f64,
@@ -77,8 +79,8 @@ impl Curve {
         f64::from((0..=steps).find(far).unwrap_or(0)) / f64::from(steps)
     }
 
-    pub fn points(self) -> impl Iterator<Item = Point> {
-        (0..=48).map(move |step| self.at(f64::from(step) / 48.0))
+    pub fn points(self) -> Rc<[Point]> {
+        (0..=48).map(|step| self.at(f64::from(step) / 48.0)).collect()
     }
 }
 

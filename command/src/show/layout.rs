@@ -2,6 +2,7 @@
 
 use super::arcs::Shown;
 use super::curve::{point, Area, Curve, Point};
+use std::rc::Rc;
 
 /// The inner ring of a state; a final one has another, this much wider.
 pub const RADIUS: f64 = 17.0;
@@ -25,6 +26,8 @@ pub struct DrawnArc {
     pub to: usize,
     /// From ring to arrowhead.
     pub curve: Curve,
+    /// Points of the curve, close to each other.
+    pub points: Rc<[Point]>,
     pub label: Vec<String>,
     pub area: Area,
 }
@@ -73,11 +76,10 @@ pub fn picture(shown: &Shown, failures: bool) -> Picture {
     waiting.sort_by_key(|arc| (!arc.is_straight(), arc.span()));
     let mut placed: Vec<DrawnArc> = Vec::new();
     for arc in waiting {
-        let tried = candidates(&arc, &at);
-        let best = tried.into_iter().map(|way| (cost(&way, &placed, &at), way)).min_by(|a, b| a.0.total_cmp(&b.0));
-        if let Some((_, Way { curve, area, .. })) = best {
+        if let Some(Way { curve, points, area, .. }) = cheapest(candidates(&arc, &at), &placed, &at) {
             let number = |place: usize| if place == shown.states.len() { 0 } else { place + 1 };
-            placed.push(DrawnArc { from: number(arc.from), to: number(arc.to), curve, label: arc.label, area });
+            let (from, to) = (number(arc.from), number(arc.to));
+            placed.push(DrawnArc { from, to, curve, points, label: arc.label, area });
         }
     }
     let numbers = (1..=shown.states.len()).chain(failures.then_some(0));
@@ -110,6 +112,7 @@ fn row(count: usize, waiting: &[Waiting]) -> Vec<f64> {
 /// A way to draw an arc.
 struct Way {
     curve: Curve,
+    points: Rc<[Point]>,
     area: Area,
     /// What it costs by itself.
     cost: f64,
@@ -122,7 +125,7 @@ fn candidates(arc: &Waiting, at: &[f64]) -> Vec<Way> {
     if arc.is_straight() {
         let curve = Curve::line(from, to).clipped(ends.0, ends.1);
         let area = arc.area(point(curve.at(0.5).x, -4.0 - height / 2.0));
-        return vec![Way { curve, area, cost: 0.0 }];
+        return vec![Way { curve, points: curve.points(), area, cost: 0.0 }];
     }
     let mut ways = Vec::new();
     for step in 0..40 {
@@ -132,7 +135,7 @@ fn candidates(arc: &Waiting, at: &[f64]) -> Vec<Way> {
             let (left, right) = (point(from.x - 36.0, -top), point(from.x + 36.0, -top));
             let curve = Curve([from, left, right, to]).clipped(ends.0, ends.1);
             let area = arc.area(point(from.x, -0.75 * top - 2.0 - height / 2.0));
-            ways.push(Way { curve, area, cost: rise });
+            ways.push(Way { curve, points: curve.points(), area, cost: rise });
             continue;
         }
         let reach = (to.x - from.x).abs();
@@ -141,30 +144,47 @@ fn candidates(arc: &Waiting, at: &[f64]) -> Vec<Way> {
         let lean = (0.3 * reach).min(0.9 * top) * (to.x - from.x).signum();
         let drawn = 4.0 / 3.0 * top * side;
         let whole = Curve([from, point(from.x + lean, drawn), point(to.x - lean, drawn), to]);
+        let curve = whole.clipped(ends.0, ends.1);
+        let points = curve.points();
         for aside in [0.0, 0.06, -0.06, 0.12, -0.12, 0.18, -0.18, 0.24, -0.24] {
-            let curve = whole.clipped(ends.0, ends.1);
             let area = arc.area(whole.at(0.5 + aside));
-            ways.push(Way { curve, area, cost: rise + 60.0 * f64::abs(aside) });
+            ways.push(Way { curve, points: points.clone(), area, cost: rise + 60.0 * f64::abs(aside) });
         }
     }
     ways
 }
 
-/// What a way costs beside the arcs that have their places: labels over each other most, then lines through labels or states.
-fn cost(way: &Way, placed: &[DrawnArc], at: &[f64]) -> f64 {
+fn cheapest(ways: Vec<Way>, placed: &[DrawnArc], at: &[f64]) -> Option<Way> {
+    let mut best = None;
+    let mut least = f64::INFINITY;
+    for way in ways {
+        let cost = cost(&way, placed, at, least);
+        if cost < least {
+            least = cost;
+            best = Some(way);
+        }
+    }
+    best
+}
+
+/// What a way costs beside the arcs that have their places: labels over each other most, then lines through labels or
+/// states. Where that is too much, counting ends.
+fn cost(way: &Way, placed: &[DrawnArc], at: &[f64], most: f64) -> f64 {
     let wide = |area: Area| Area { width: area.width + 4.0, height: area.height + 4.0, ..area };
+    let inside = |points: &[Point], area: Area| points.iter().filter(|&&at| area.has(at)).count() as f64;
     let ring = 2.0 * (RADIUS + RING) + 6.0;
-    let states = at.iter().map(|&x| Area { middle: point(x, 0.0), width: ring, height: ring });
     let mut cost = way.cost;
-    for state in states {
-        let through = way.curve.points().filter(|&at| state.has(at)).count().saturating_sub(2);
-        cost += 40.0 * through as f64 + if state.meets(way.area) { 800.0 } else { 0.0 };
+    for &x in at {
+        let state = Area { middle: point(x, 0.0), width: ring, height: ring };
+        cost += 40.0 * (inside(&way.points, state) - 2.0).max(0.0) + if state.meets(way.area) { 800.0 } else { 0.0 };
     }
     for other in placed {
+        if cost >= most {
+            return cost;
+        }
         let label = wide(other.area);
         cost += if label.meets(way.area) { 2000.0 } else { 0.0 };
-        cost += 25.0 * way.curve.points().filter(|&at| label.has(at)).count() as f64;
-        cost += 25.0 * other.curve.points().filter(|&at| wide(way.area).has(at)).count() as f64;
+        cost += 25.0 * (inside(&way.points, label) + inside(&other.points, wide(way.area)));
     }
     cost
 }

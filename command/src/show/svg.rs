@@ -123,7 +123,7 @@ fn bounds(picture: &Picture) -> (f64, f64, f64, f64) {
     for arc in &picture.arcs {
         let Area { middle, width, height } = arc.area;
         let corners = [(-0.5, -0.5), (0.5, 0.5)].map(|(x, y)| (middle.x + x * width, middle.y + y * height));
-        for (x, y) in corners.into_iter().chain(arc.curve.points().map(|at| (at.x, at.y))) {
+        for (x, y) in corners.into_iter().chain(arc.points.iter().map(|at| (at.x, at.y))) {
             bounds = (bounds.0.min(x), bounds.1.min(y), bounds.2.max(x), bounds.3.max(y));
         }
     }

@@ -6,7 +6,6 @@ use super::tables::Tables;
 use super::without::{ask, without, Readings};
 use crate::library::{Reply, RECORD};
 use crate::loaded::Loaded;
-use crate::refusals;
 use crate::words::{spell, Letters};
 use std::time::Duration;
 
@@ -17,8 +16,10 @@ const MOST_WITHOUT_RULES: usize = 1024;
 const TIME: Duration = Duration::from_secs(10);
 
 pub enum Outcome {
-    /// It cannot be asked for, and this is why.
+    /// It cannot be spelled, and this is why.
     Unread(String),
+    /// It has no letters or over 32, or is refused otherwise.
+    Refused(u32),
     /// It has readings.
     Read(Readings),
     /// The library had not answered in time.
@@ -28,7 +29,7 @@ pub enum Outcome {
         why: Vec<String>,
         lowered: Option<(String, Readings)>,
     },
-    None(Nothing),
+    None(Box<Nothing>),
 }
 
 /// What is known of a word without a reading.
@@ -63,15 +64,14 @@ impl<'a> Explainer<'a> {
         Explainer { loaded, tables: Tables::new(&loaded.grammar), letters }
     }
 
-    /// The letters of a word, or why there are none.
-    pub fn spelled(&self, word: &str) -> Result<Vec<u8>, String> {
+    /// The letters of a word, or what else becomes of it.
+    fn spelled(&self, word: &[u8]) -> Result<Vec<u8>, Outcome> {
         let mut record = [0; RECORD];
-        let unread = |reason| format!("unread: {}", hints::unread(reason, &self.loaded.grammar.alphabet));
-        spell(word.as_bytes(), &self.letters, &mut record).map_err(unread)?;
-        match record[1..].get(..usize::from(record[0])) {
-            Some(letters) if !letters.is_empty() => Ok(letters.to_vec()),
-            _ => Err(refusals::told(9)),
-        }
+        let unread = |reason| Outcome::Unread(hints::unread(reason, &self.loaded.grammar.alphabet));
+        spell(word, &self.letters, &mut record).map_err(unread)?;
+        // A word of over 32 letters has a length that no record has places for.
+        let letters = record[1..].get(..usize::from(record[0])).filter(|letters| !letters.is_empty());
+        letters.map(<[u8]>::to_vec).ok_or(Outcome::Refused(9))
     }
 
     /// The characters of letters.
@@ -79,26 +79,26 @@ impl<'a> Explainer<'a> {
         letters.iter().map(|&letter| self.loaded.grammar.alphabet.character(letter)).collect()
     }
 
-    pub fn explain(&self, word: &str) -> Outcome {
+    pub fn explain(&self, word: &[u8]) -> Outcome {
         let letters = match self.spelled(word) {
             Ok(letters) => letters,
-            Err(why) => return Outcome::Unread(why),
+            Err(outcome) => return outcome,
         };
         let Some(readings) = ask(&self.loaded.image, &letters, MOST_READINGS, TIME) else {
             return Outcome::Late;
         };
         match readings.reply {
             Reply::All(_) | Reply::More(_) => return Outcome::Read(readings),
-            Reply::Refused(number) => return Outcome::Unread(refusals::told(number)),
+            Reply::Refused(number) => return Outcome::Refused(number),
             Reply::None => {}
         }
         let never = hints::never_written(&self.loaded.grammar, &letters);
         if never.is_empty() {
-            return Outcome::None(self.nothing(&letters));
+            return Outcome::None(Box::new(self.nothing(&letters)));
         }
-        let why = never.iter().map(|&letter| hints::never(letter, &self.loaded.grammar)).collect();
-        let lowered = hints::lowered(word, &never, &self.loaded.grammar.alphabet).and_then(|lowered| {
-            let letters = self.spelled(&lowered).ok()?;
+        let why = never.iter().flat_map(|&letter| hints::never(letter, &self.loaded.grammar)).collect();
+        let lowered = hints::lowered(&self.written(&letters), &never, &self.loaded.grammar.alphabet);
+        let lowered = self.spelled(lowered.as_bytes()).ok().filter(|lowered| *lowered != letters).and_then(|letters| {
             let readings = ask(&self.loaded.image, &letters, MOST_READINGS, TIME)?;
             (readings.reply.rows() > 0).then(|| (self.written(&letters).iter().collect(), readings))
         });

@@ -46,20 +46,24 @@ pub fn never_written(grammar: &Grammar, word: &[u8]) -> Vec<u8> {
     found
 }
 
-/// What is to be said of such a letter.
-pub fn never(letter: u8, grammar: &Grammar) -> String {
+/// What is to be said of such a letter, in short sentences.
+pub fn never(letter: u8, grammar: &Grammar) -> Vec<String> {
     let character = grammar.alphabet.character(letter);
-    let what = format!("{} is the surface side of no pair, so that no word with it has a reading", name(character));
-    let pairs: Vec<_> =
-        grammar.pairs.iter().filter(|pair| pair.lexical == letter).map(|pair| pair.show(&grammar.alphabet)).collect();
-    let lexical = if pairs.is_empty() { String::new() } else { format!("; it is for forms, with {}", pairs.join(" ")) };
-    let capital = if character.is_uppercase() { "; a capital that is a letter of the grammar stays one" } else { "" };
-    format!("{what}{lexical}{capital}")
+    let mut said =
+        vec![format!("{} is the surface side of no pair, so that no word with it has a reading", name(character))];
+    let pairs = grammar.pairs.iter().filter(|pair| pair.lexical == letter);
+    let pairs: Vec<String> = pairs.map(|pair| pair.show(&grammar.alphabet)).collect();
+    if !pairs.is_empty() {
+        said.push(format!("{character} is a letter of forms, written as in {}", pairs.join(" ")));
+    }
+    if character.is_uppercase() {
+        said.push(format!("{character} is not read as {}, since the grammar has it for a letter", small(character)));
+    }
+    said
 }
 
-/// The word with these letters in lower case; none where that changes nothing.
-pub fn lowered(word: &str, never: &[u8], alphabet: &Alphabet) -> Option<String> {
+/// The word with these letters in lower case.
+pub fn lowered(word: &[char], never: &[u8], alphabet: &Alphabet) -> String {
     let is_never = |character: char| alphabet.number(character).is_some_and(|letter| never.contains(&letter));
-    let lowered: String = word.chars().map(|c| if is_never(c) { small(c) } else { c }).collect();
-    (lowered != word).then_some(lowered)
+    word.iter().map(|&c| if is_never(c) { small(c) } else { c }).collect()
 }

@@ -3,6 +3,7 @@
 mod explain;
 mod groups;
 mod hints;
+mod json;
 mod search;
 mod tables;
 mod told;

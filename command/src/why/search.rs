@@ -79,6 +79,8 @@ pub struct Furthest {
     pub dead: Vec<Dead>,
     /// The search was cut before it had tried every way.
     pub cut: bool,
+    /// A way comes through: by all rules that is a reading, which the library has too.
+    pub through: bool,
     /// Rules refuse the boundary pair before any word begins.
     pub front: Vec<Refusal>,
 }
@@ -112,6 +114,7 @@ struct Search<'a> {
     dead: Vec<(usize, Stop)>,
     covered: usize,
     cut: bool,
+    through: bool,
 }
 
 /// The ways through a word that come furthest, by all rules or, to see what the lexicon alone allows, by none; after at most
@@ -134,13 +137,13 @@ pub fn furthest(tables: &Tables, word: &[u8], rules: bool, steps: usize) -> Furt
         search.go_on(at);
     }
     let dead = search.dead.iter().map(|(at, stop)| search.dead_end(*at, stop.clone())).collect();
-    Furthest { covered: search.covered, dead, cut: search.cut, front: Vec::new() }
+    Furthest { covered: search.covered, dead, cut: search.cut, through: search.through, front: Vec::new() }
 }
 
 impl<'a> Search<'a> {
     fn new(tables: &'a Tables<'a>, word: &'a [u8], rules: bool, steps: usize) -> Search<'a> {
         let (nodes, open, dead, seen) = (Vec::new(), Vec::new(), Vec::new(), HashSet::new());
-        Search { tables, word, rules, steps, nodes, open, seen, dead, covered: 0, cut: false }
+        Search { tables, word, rules, steps, nodes, open, seen, dead, covered: 0, cut: false, through: false }
     }
 
     /// Tries all that can follow a node.
@@ -156,8 +159,10 @@ impl<'a> Search<'a> {
         }
         let surface = self.word.get(spot.covered).copied();
         if lexical.is_none() && surface.is_none() {
-            let by = self.tables.end(&spot.states);
-            if !by.is_empty() && self.rules {
+            let by = if self.rules { self.tables.end(&spot.states) } else { Vec::new() };
+            if by.is_empty() {
+                self.through = true;
+            } else {
                 self.stop(at, Stop::Refused { pair: self.tables.boundary(), by });
             }
         }
@@ -244,7 +249,8 @@ impl<'a> Search<'a> {
 #[cfg(test)]
 mod tests {
     use super::*;
-    use crate::text::read_grammar;
+    use crate::library;
+    use crate::text::{read_grammar, sealed_image};
 
     const LUZ: &str = include_str!("../../../grammars/luz.txt");
 
@@ -264,6 +270,27 @@ mod tests {
         assert_eq!(refused.pairs().collect::<Vec<_>>(), [3, 5, 7, 0]);
         assert!(refused.begins(&(vec![0, 3], vec![3, 5, 7, 0, 2, 4])));
         assert!(!refused.begins(&(vec![1, 3], vec![3, 5, 7, 0, 2, 4])));
+    }
+
+    #[test]
+    fn a_way_comes_through_where_the_library_has_a_reading() {
+        for name in ["luz", "quichua", "spanish"] {
+            let read =
+                |file: String| std::fs::read_to_string(format!("{}/../{file}", env!("CARGO_MANIFEST_DIR"))).unwrap();
+            let grammar = read_grammar(read(format!("grammars/{name}.txt")).as_bytes()).unwrap();
+            let words = if name == "luz" { "bench/luz.words".to_string() } else { format!("grammars/{name}.words") };
+            let (image, tables) = (sealed_image(&grammar), Tables::new(&grammar));
+            let mut rows = [0; library::ROW];
+            let mut found = [0, 0];
+            for line in read(words).lines() {
+                let word: Vec<u8> = line.split(' ').map(|number| number.parse().unwrap()).collect();
+                let has = library::analyse(&image, &word, &mut rows).rows() > 0;
+                let way = furthest(&tables, &word, true, MOST_STEPS);
+                assert_eq!((way.through, way.cut), (has, false), "{name}: {line}");
+                found[usize::from(has)] += 1;
+            }
+            assert!(found[0] > 0 && found[1] > 0, "{name}: {found:?}");
+        }
     }
 
     #[test]

@@ -7,19 +7,21 @@ use super::tables::{Refusal, Tables};
 use super::without::Readings;
 use crate::library::Reply;
 use crate::readings::{EntryName, Names};
+use crate::refusals;
 use crate::text::alphabet::NULL;
 
 /// Reasons that are told of one place, entries of one lexicon, and readings.
 const MOST_GROUPS: usize = 3;
 const MOST_ENTRIES: usize = 6;
 const MOST_READINGS: usize = 3;
+const LATE: &str = "the library has not answered within 10 seconds";
 /// Characters of a gloss that are shown.
 const MOST_GLOSS: usize = 40;
 
 pub struct Teller<'a> {
-    explainer: &'a Explainer<'a>,
-    tables: &'a Tables<'a>,
-    names: Names,
+    pub(super) explainer: &'a Explainer<'a>,
+    pub(super) tables: &'a Tables<'a>,
+    pub(super) names: Names,
 }
 
 impl<'a> Teller<'a> {
@@ -27,12 +29,15 @@ impl<'a> Teller<'a> {
         Teller { explainer, tables: &explainer.tables, names: Names::new(&explainer.loaded.grammar) }
     }
 
-    pub fn tell(&self, word: &str) -> String {
-        match self.explainer.explain(word) {
-            Outcome::Unread(why) => format!("{word}: {why}\n"),
+    /// The lines of a word, given as the bytes that were typed.
+    pub fn tell(&self, typed: &[u8]) -> String {
+        let word = String::from_utf8_lossy(typed);
+        match self.explainer.explain(typed) {
+            Outcome::Unread(why) => format!("{word}: unread: {why}\n"),
+            Outcome::Refused(number) => format!("{word}: {}\n", refusals::told(number)),
             Outcome::Read(readings) => format!("{word}: {}\n{}", count(&readings), self.readings(&readings)),
             Outcome::Late => {
-                format!("{word}: the library has not answered in time; the grammar leaves too much to try\n")
+                format!("{word}: {LATE}: the grammar leaves too much to try\n")
             }
             Outcome::NeverWritten { why, lowered } => {
                 let mut told = format!("{word}: no reading\n");
@@ -58,6 +63,9 @@ impl<'a> Teller<'a> {
         for refusal in &nothing.furthest.front {
             told += &format!("  before any letter, {}\n", self.refusal(refusal, self.tables.boundary()));
         }
+        if nothing.furthest.through {
+            told += "  a way comes through that the library does not have, so that what follows may be wrong\n";
+        }
         if nothing.furthest.front.is_empty() {
             told += &self.furthest("furthest", word, &nothing.furthest, &nothing.left_out);
         }
@@ -68,7 +76,7 @@ impl<'a> Teller<'a> {
             told += &self.furthest("furthest without rules", word, furthest, &[]);
         }
         if nothing.late {
-            told += "the library has not answered in time, so that not every rule was left out in turn\n";
+            told += &format!("{LATE}, so that not every rule was left out in turn\n");
         } else if nothing.left_out.is_empty() && nothing.rules > 0 {
             told += "without any rule it has no reading either: entries and pairs do not make this word\n";
         }
@@ -82,13 +90,15 @@ impl<'a> Teller<'a> {
         let mut groups = groups(&furthest.dead, self.tables);
         let helps =
             |group: &Group| left_out.iter().any(|one| group.rules().iter().any(|rule| one.rules.contains(rule)));
-        let helpful = groups.iter().filter(|group| helps(group)).count();
-        groups.sort_by_key(|group| (!helps(group), left_out.is_empty() == matches!(group, Group::Barred { .. })));
-        let shown = if helpful > 0 { helpful.min(MOST_GROUPS) } else { MOST_GROUPS };
-        let rest = groups.len().saturating_sub(if helpful > 0 { groups.len() } else { shown });
-        let told_groups: Vec<String> =
-            groups.iter().take(shown).map(|group| self.group(group, &left, left_out)).collect();
-        told += &told_groups.join("  or\n");
+        if groups.iter().any(helps) {
+            groups.retain(helps);
+        }
+        // Where no rule is to blame, lexicons are.
+        groups.sort_by_key(|group| left_out.is_empty() == matches!(group, Group::Barred { .. }));
+        let rest = groups.len().saturating_sub(MOST_GROUPS);
+        groups.truncate(MOST_GROUPS);
+        let groups: Vec<String> = groups.iter().map(|group| self.group(group, &left, left_out)).collect();
+        told += &groups.join("  or\n");
         if rest > 0 {
             told += &format!("  {} there too\n", others_stop(rest));
         }
@@ -173,7 +183,7 @@ impl<'a> Teller<'a> {
         format!("{rule} goes to {next} by {shown}, where no word may end: {next} is not final")
     }
 
-    fn pair(&self, pair: usize) -> String {
+    pub(super) fn pair(&self, pair: usize) -> String {
         self.tables.pair(pair).show(&self.explainer.loaded.grammar.alphabet)
     }
 
@@ -270,7 +280,7 @@ fn short(form: &str, name: &EntryName) -> String {
 }
 
 /// The pair that bars a way.
-fn barred_pair(dead: &Dead) -> Option<usize> {
+pub(super) fn barred_pair(dead: &Dead) -> Option<usize> {
     match dead.stop {
         Stop::Refused { pair, .. } | Stop::Nulls { pair } => Some(pair),
         _ => None,
