@@ -8,9 +8,12 @@ pub fn nearest<'a>(word: &str, names: impl Iterator<Item = &'a str>) -> Option<&
         2 | 3 => 1,
         _ => 2,
     };
-    let (low, near) = (word.to_lowercase(), |changes: usize| changes <= most);
-    let counted = names.map(|name| (changes(&low, &name.to_lowercase()), name));
-    counted.filter(|&(changes, name)| near(changes) && name != word).min().map(|(_, name)| name)
+    let low = word.to_lowercase();
+    let length = low.chars().count();
+    // A change makes a word longer or shorter by one at most, which spares most names the counting.
+    let others = names.filter(|name| name.chars().count().abs_diff(length) <= most && *name != word);
+    let counted = others.map(|name| (changes(&low, &name.to_lowercase()), name));
+    counted.filter(|&(changes, _)| changes <= most).min().map(|(_, name)| name)
 }
 
 /// `; is X meant?`, where there is an X.

@@ -1,8 +1,11 @@
-//! Texts with random slips are refused, or give an image that document 01's check accepts; none makes the reader panic.
+//! Texts with random slips are refused, or give an image that document 01's check accepts and that comes back from the text
+//! it is written as; none makes the reader panic.
 
 mod support;
 
-use headwords_command::{list_entries, list_letters, list_pairs, list_sets, read_grammar, sealed_image};
+use headwords_command::{
+    list_entries, list_letters, list_pairs, list_sets, read_grammar, sealed_image, warnings, written,
+};
 use support::check::{counts, refusal};
 use support::sample;
 
@@ -80,6 +83,9 @@ fn try_text(text: &[u8]) -> bool {
             for list in [list_letters, list_pairs, list_entries] {
                 assert!(!list(&grammar).is_empty(), "{shown}");
             }
+            assert!(warnings(&grammar).iter().all(|warning| warning.line > 0), "{shown}");
+            let again = read_grammar(written(&grammar).unwrap().as_bytes()).unwrap();
+            assert!(sealed_image(&again) == image, "{shown}");
             true
         }
         Err(faults) => {

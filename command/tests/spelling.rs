@@ -1,4 +1,4 @@
-//! Over every choice of pairs of two letters, the assembler names just the entries that the check refuses with 14.
+//! Over every choice of pairs of two letters, the command names just the entries that the check refuses with 14.
 
 mod support;
 
