@@ -111,3 +111,19 @@ pub fn digit_meant(text: &str) -> String {
     let meant = one_character(text).and_then(|c| DIGITS.iter().find(|(_, others)| others.contains(c)));
     meant.map_or(String::new(), |(digit, _)| format!("; is the digit {digit} meant?"))
 }
+
+#[cfg(test)]
+mod tests {
+    use super::{looks_like, ALIKE};
+
+    #[test]
+    fn each_character_that_looks_like_another_has_it_beside_it() {
+        for (these, those) in ALIKE {
+            assert_eq!(these.chars().count(), those.chars().count());
+            assert!(these.chars().all(|c| !c.is_ascii()) && those.is_ascii());
+        }
+        let pairs = [('а', 'a'), ('с', 'c'), ('Х', 'X'), ('ο', 'o'), ('Ζ', 'Z'), ('ı', 'i'), ('−', '-')];
+        assert!(pairs.into_iter().all(|(one, other)| looks_like(one) == Some(other)));
+        assert_eq!(looks_like('a'), None);
+    }
+}
