@@ -1,5 +1,5 @@
 # Holds what flookup or hfst-optimized-lookup printed against what the line program printed. Usage:
-#   same_readings.py sides|paths ENTRIES WORDS OURS THEIRS   (ENTRIES as assemble lists them, WORDS as they are written)
+#   same_readings.py sides|paths ENTRIES WORDS OURS THEIRS   (ENTRIES as headwords list entries has them, WORDS as they are written)
 # Compared are, for each word, the lexical sides of its readings or their paths, an entry 12 being written 12/. Where the forms
 # have over 8 letters more than the word, a reading needs over 8 surface nulls: the line program's limit keeps it out, and the
 # transducers do not know of it. How many were left out so is printed.

@@ -3,7 +3,7 @@ set -euo pipefail
 shopt -s inherit_errexit # so that a count that fails ends the script, and is not taken for 0
 cd "$(dirname "$0")/.."
 lines=$PWD/target/bin/lines
-assembler=$PWD/target/cargo/release/assemble
+headwords=$PWD/target/cargo/release/headwords
 work=$(mktemp -d)
 trap 'rm -rf "$work"' EXIT
 
@@ -26,25 +26,21 @@ quietly() {
     }
 }
 
-# build: the library, the two programs in C that make calls, and what a run of the line program needs
+# build: the program in C that makes calls, and what a run of the line program needs
 build() {
-    local program
-    tools/library
     build_lines
-    for program in bench/listings examples/spell; do
-        quietly cc -std=c99 -O2 -Wall -Wextra -Werror -Iinclude -o "$work/$(basename $program)" $program.c target/staticlib/libheadwords.a
-    done
+    quietly cc -std=c99 -O2 -Wall -Wextra -Werror -Iinclude -o "$work/listings" bench/listings.c target/staticlib/libheadwords.a
 }
 
-# build_lines: what a run of the line program needs, and no library
+# build_lines: what a run of the line program needs
 build_lines() {
     tools/prove lines
-    quietly cargo build --offline --locked --release --manifest-path assemble/Cargo.toml --target-dir target/cargo
+    tools/command
 }
 
 # assemble GRAMMAR IMAGE
 assemble() {
-    quietly "$assembler" "$1" "$2"
+    quietly "$headwords" assemble "$1" "$2"
 }
 
 # lay_out_samples: a folder of each sample, $work/luz and so on, with its image as grammar.img and three lists of words: words,
@@ -66,7 +62,7 @@ samples="luz quichua spanish"
 
 # spell IMAGE: the letter numbers of the words that come in, one a line, by the image
 spell() {
-    "$work/spell" "$1"
+    "$headwords" spell "$1"
 }
 
 # print_lines FOLDER WORDS: what the line program prints for the words by the folder's image

@@ -5,7 +5,7 @@
  * global state, no locale, so any number of threads may call at once on images that none of them writes.
  *
  * Letters, pairs and entries are numbers of the grammar: letters from 1, the boundary, so that a word has letters from 2
- * on; pairs and entries from 0. The assembler lists them: assemble --letters, --pairs, --entries. headwords_spell gives the
+ * on; pairs and entries from 0. The command lists them: headwords list letters, pairs, entries. headwords_spell gives the
  * letters of a word as it is written.
  *
  * A reading is a path through the lexicon and a pairing that spells the path's forms and the word, and that every rule
@@ -54,6 +54,13 @@
 #include <stddef.h>
 #include <stdint.h>
 
+/* The version of this header and of the library that it is handed over with. A call that is left out or changed raises the
+ * first number, a call more the second. */
+#define HEADWORDS_VERSION_MAJOR 1
+#define HEADWORDS_VERSION_MINOR 0
+#define HEADWORDS_VERSION_PATCH 0
+#define HEADWORDS_VERSION "1.0.0"
+
 #ifdef __cplusplus
 extern "C" {
 #endif
@@ -93,7 +100,7 @@ uint64_t headwords_analyse(const uint8_t *image, size_t image_length, const uint
  *
  * What is spelled passes tests 9 and 10, so headwords_analyse refuses it for neither. This call checks the image, whole, as
  * each does, which costs far more than the spelling. But a code point's letter depends on nothing else in the word: so for
- * many words of one image ask for each code point once, as a word of its own, and keep the answers (examples/spell.c). */
+ * many words of one image ask for each code point once, as a word of its own, and keep the answers. */
 uint64_t headwords_spell(const uint8_t *image, size_t image_length, const uint8_t *points, size_t points_length, uint8_t *letters, size_t letters_length);
 
 /* All readings with a path, given as two bytes to an entry number, the low byte first. Replies and rows as those of

@@ -4,23 +4,19 @@
 set -eu
 cd "$(dirname "$0")/.."
 root=$PWD
-export CARGO_TARGET_DIR=$root/target/cargo
-(cd assemble && cargo build --offline --locked --quiet --release)
 tools/prove lines
-tools/library
+tools/command
 work=$(mktemp -d)
 trap 'rm -rf "$work"' EXIT
-assembler=$CARGO_TARGET_DIR/release/assemble
-for program in tests/hostile examples/spell; do
-    cc -std=c99 -O1 -Wall -Wextra -Werror -Iinclude -o "$work/$(basename $program)" $program.c target/staticlib/libheadwords.a
-done
+headwords=$root/target/cargo/release/headwords
+cc -std=c99 -O1 -Wall -Wextra -Werror -Iinclude -o "$work/hostile" tests/hostile.c target/staticlib/libheadwords.a
 cd "$work"
 
 # lay_out NAME: NAME.img, grammar.img and the word
 lay_out() {
     "$root/bench/hostile_text" "$1" >grammar.txt
-    "$assembler" grammar.txt grammar.img 2>told || { cat told; exit 1; }
-    "$root/bench/hostile_text" "$1" word | ./spell grammar.img >word
+    "$headwords" assemble grammar.txt grammar.img 2>told || { cat told; exit 1; }
+    "$root/bench/hostile_text" "$1" word | "$headwords" spell grammar.img >word
     cp grammar.img "$1.img"
 }
 
@@ -51,7 +47,7 @@ LEXICON Last
 0 #
 END
 TEXT
-"$assembler" between.txt between.img 2>told || { cat told; exit 1; }
+"$headwords" assemble between.txt between.img 2>told || { cat told; exit 1; }
 ./hostile .
 
 # not held back: the first line is answered while the second is searched

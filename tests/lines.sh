@@ -4,8 +4,7 @@
 set -eu
 cd "$(dirname "$0")/.."
 root=$PWD
-export CARGO_TARGET_DIR=$root/target/cargo
-(cd assemble && cargo build --offline --locked --quiet --release)
+tools/command
 tools/prove lines
 work=$(mktemp -d)
 trap 'rm -rf "$work"' EXIT
@@ -19,7 +18,7 @@ for input in "$root"/tests/trials/*.in; do
 done
 
 # quichua's rules speak of sets, and its words get the answers that they got when each letter of a set had its own column
-"$CARGO_TARGET_DIR/release/assemble" "$root/grammars/quichua.txt" grammar.img
+"$root/target/cargo/release/headwords" assemble "$root/grammars/quichua.txt" grammar.img
 [ "$("$root/target/bin/lines" <"$root/grammars/quichua.words" | cksum)" = "3603404497 33815" ]
 echo "quichua by sets: as by letters"
 
@@ -35,7 +34,7 @@ rm grammar.img
 echo "images that are not there or too long: refused"
 
 # 200 MB in one line, in 64 MB of memory
-"$CARGO_TARGET_DIR/release/assemble" "$root/grammars/luz.txt" grammar.img
+"$root/target/cargo/release/headwords" assemble "$root/grammars/luz.txt" grammar.img
 got=$( (ulimit -v 65536; { head -c 200000000 /dev/zero; printf '\n5 7 8\n'; } | "$root/target/bin/lines") | tr '\n' ' ')
 [ "$got" = "unread all 1 0 2 | 3 5 7 " ]
 echo "a line of 200 MB: unread, and the next is read"

@@ -5,6 +5,7 @@ set -eu
 cd "$(dirname "$0")/.."
 
 tools/prove lines
+tools/command
 
 CARGO_TARGET_DIR=$PWD/target/cargo
 export CARGO_TARGET_DIR

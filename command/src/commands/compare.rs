@@ -1,0 +1,165 @@
+//! `headwords compare`: which words gained, lost or changed readings.
+
+use crate::arguments::Given;
+use crate::commands::read::put_out;
+use crate::commands::Command;
+use crate::failure::{tell, Failure};
+use crate::layout::Plain;
+use crate::library::{Reply, ROW};
+use crate::loaded::{load, Loaded};
+use crate::readings::Names;
+use crate::words::{self, words, work_through, Answer, Asker, Letters, Outcome, Piece, Portion, Settings, Summary};
+use std::collections::BTreeSet;
+use std::path::Path;
+
+pub const COMMAND: Command = Command {
+    name: "compare",
+    operands: "OLD NEW [WORDS]",
+    count: 2..=3,
+    what: "which words gained, lost or changed readings",
+    options: &[words::MOST, words::JOBS, words::QUIET, words::Q],
+    more: "\
+OLD and NEW are grammars, WORDS a file of words, a line each; - or nothing is standard input. Readings are compared by what they
+say, headword, entries with glosses and pairing, and not by number or order. A line is printed for each reading that one of them
+has: gained, lost or changed, + for NEW and - for OLD, the word, its headword, the entries with their glosses, the pairing. A
+word that had no reading has gained, one that has none any more has lost, another has changed.
+The status is that of diff: 0 where no word did, 1 where one did, 2 where something cannot be read or written or is refused.
+",
+    run,
+};
+
+fn run(given: &Given) -> Result<(), Failure> {
+    let settings = Settings { summary: Summary::Never, ..Settings::of(given)? };
+    let compared = compare(given, &settings).map_err(|failure| match failure {
+        Failure::Told => Failure::Missing,
+        other => other,
+    })?;
+    if !settings.quiet {
+        tell(&compared.summary(settings.most));
+    }
+    if compared.is_same() {
+        Ok(())
+    } else {
+        Err(Failure::Told)
+    }
+}
+
+#[derive(Default)]
+struct Compared {
+    words: u64,
+    gained: u64,
+    lost: u64,
+    changed: u64,
+    /// Words with more readings than were compared.
+    more: u64,
+}
+
+impl Compared {
+    fn add(&mut self, other: &Compared) {
+        self.words += other.words;
+        self.gained += other.gained;
+        self.lost += other.lost;
+        self.changed += other.changed;
+        self.more += other.more;
+    }
+
+    fn is_same(&self) -> bool {
+        self.gained + self.lost + self.changed == 0
+    }
+
+    fn summary(&self, most: usize) -> String {
+        let Compared { gained, lost, changed, .. } = self;
+        let same = self.words - gained - lost - changed;
+        let more = match self.more {
+            0 => String::new(),
+            count => format!("{} with over {most} readings, of which the first were compared\n", words(count)),
+        };
+        format!("{}: {gained} gained, {lost} lost, {changed} changed, {same} as before\n{more}", words(self.words))
+    }
+}
+
+fn compare(given: &Given, settings: &Settings) -> Result<Compared, Failure> {
+    let (old, new) = (load(Path::new(&given.operands[0]))?, load(Path::new(&given.operands[1]))?);
+    let file = given.operands.get(2).map(|file| file.as_os_str());
+    let sources = words::open(&[], file.as_slice())?;
+    let letters = [&old, &new].map(|side| Letters::new(&side.image, &side.grammar));
+    let [old_letters, new_letters] = &letters;
+    let layouts = [&old, &new].map(|side| Plain::new(&Names::new(&side.grammar), false));
+    let [old_layout, new_layout] = &layouts;
+    let new_worker = || {
+        let mut old = Side::new(&old, old_letters, old_layout, settings.most);
+        let mut new = Side::new(&new, new_letters, new_layout, settings.most);
+        move |pieces: &[Piece], portion: &mut Portion<(Vec<u8>, Compared)>| {
+            old.read(pieces, |_| {});
+            new.read(pieces, |answer| portion.count(answer));
+            let (out, compared) = &mut portion.kept;
+            *compared = Compared::default();
+            for at in 0..old.ends.len() {
+                put_difference(old.word(at), new.word(at), out, compared);
+            }
+        }
+    };
+    let mut compared = Compared::default();
+    work_through(sources, settings, new_worker, |(out, part): &mut (Vec<u8>, Compared)| {
+        compared.add(part);
+        put_out(out)
+    })?;
+    Ok(compared)
+}
+
+/// The readings of a batch's words by one grammar, a line each.
+struct Side<'a> {
+    asker: Asker<'a>,
+    layout: &'a Plain,
+    lines: Vec<u8>,
+    /// Where the lines of each word end, and whether there are more of them.
+    ends: Vec<(usize, bool)>,
+}
+
+impl<'a> Side<'a> {
+    fn new(loaded: &'a Loaded, letters: &'a Letters<'a>, layout: &'a Plain, most: usize) -> Side<'a> {
+        Side { asker: Asker::new(&loaded.image, letters, most), layout, lines: Vec::new(), ends: Vec::new() }
+    }
+
+    fn read(&mut self, pieces: &[Piece], mut each: impl FnMut(&Answer)) {
+        let Side { asker, layout, lines, ends } = self;
+        lines.clear();
+        ends.clear();
+        asker.answer(pieces, &mut |answer| {
+            each(answer);
+            for row in answer.rows.chunks_exact(ROW) {
+                layout.put_reading(answer.word, row, lines);
+            }
+            ends.push((lines.len(), matches!(answer.outcome, Outcome::Answered(Reply::More(_)))));
+        });
+    }
+
+    /// The lines of a word, and whether there are more.
+    fn word(&self, at: usize) -> (&[u8], bool) {
+        let from = at.checked_sub(1).map_or(0, |before| self.ends[before].0);
+        let (to, more) = self.ends[at];
+        (&self.lines[from..to], more)
+    }
+}
+
+fn put_difference(old: (&[u8], bool), new: (&[u8], bool), out: &mut Vec<u8>, compared: &mut Compared) {
+    compared.words += 1;
+    compared.more += u64::from(old.1 || new.1);
+    if old.0 == new.0 {
+        return;
+    }
+    let lines = |text| BTreeSet::from_iter(<[u8]>::split_inclusive(text, |&byte| byte == b'\n'));
+    let (old, new): (BTreeSet<&[u8]>, BTreeSet<&[u8]>) = (lines(old.0), lines(new.0));
+    if old == new {
+        return;
+    }
+    let (change, count) = match (old.is_empty(), new.is_empty()) {
+        (true, _) => ("gained", &mut compared.gained),
+        (_, true) => ("lost", &mut compared.lost),
+        _ => ("changed", &mut compared.changed),
+    };
+    *count += 1;
+    let mut put = |sign: &[u8], line: &[u8]| out.extend_from_slice(&[change.as_bytes(), sign, line].concat());
+    old.difference(&new).for_each(|line| put(b"\t-\t", line));
+    new.difference(&old).for_each(|line| put(b"\t+\t", line));
+}

@@ -1,0 +1,29 @@
+//! What the numbers of refusals mean, in words.
+
+/// Of which test a refusal with this number tells.
+pub fn meaning(number: u32) -> &'static str {
+    match number {
+        1 => "image length 0, over 65,536, or no multiple of 512",
+        2 => "a check or block number is wrong",
+        3 => "form, counts, block total, kinds, record counts or unused block bytes are not as laid down; over 31 sets; the block of sets missing, or there though no set is counted",
+        4 => "a code point is 0, 55296-57343, or repeated",
+        5 => "a pair breaks its rule or is repeated",
+        6 => "a rule table's counts, column sides, marks or next states are out of range, a side names a missing set, or a byte after its last row is not 0; or a set has a letter above L",
+        7 => "for a listed or the boundary pair a rule has no matching column, or two narrowest",
+        8 => "lexicon counts do not add up to the entries, or an entry breaks its layout",
+        14 => "an entry can never be spelled: a letter of its form is the lexical side of no pair",
+        9 => "word length 0 or over 32",
+        10 => "a word letter outside 2-L",
+        11 => "path of 0 or over 16 entries, or an odd count of bytes",
+        12 => "no such entry, or the path is not linked through the lexicon",
+        13 => "pairing length 0 or over 40, or no such pair",
+        23 => "a code point with no letter, or with letter 1",
+        24 => "an output shorter than the word",
+        _ => "a refusal that this command does not know",
+    }
+}
+
+/// A refusal as it is told: its number, and what that means.
+pub fn told(number: u32) -> String {
+    format!("refused {number}: {}", meaning(number))
+}

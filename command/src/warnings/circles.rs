@@ -1,0 +1,57 @@
+//! Circles of empty entries: lexicons that lead back to themselves without a letter.
+
+use crate::text::lexicons::{Continuation, Entry, Lexicon};
+use crate::text::{Fault, Grammar};
+use crate::warnings::warning;
+
+pub fn warnings(grammar: &Grammar) -> Vec<Fault> {
+    let found = circles(&grammar.lexicons).into_iter();
+    found
+        .map(|(lexicon, entry)| {
+            let back = format!("lexicon {} leads back to itself by empty forms alone", lexicon.name);
+            warning(entry.line, format!("{back}: a path may go round without a letter"))
+        })
+        .collect()
+}
+
+/// For each circle its first entry in the text, with the lexicon that it stands in. Circles that have a
+/// lexicon in common count as one.
+fn circles(lexicons: &[Lexicon]) -> Vec<(&Lexicon, &Entry)> {
+    let reached: Vec<Vec<bool>> = (0..lexicons.len()).map(|from| reached(lexicons, from)).collect();
+    let mut told = vec![false; lexicons.len()];
+    let mut found = Vec::new();
+    for (from, lexicon) in lexicons.iter().enumerate() {
+        let back = lexicon.entries.iter().find(|entry| onward(entry).is_some_and(|to| to == from || reached[to][from]));
+        let Some(entry) = back.filter(|_| !told[from]) else {
+            continue;
+        };
+        for (other, is_told) in told.iter_mut().enumerate() {
+            *is_told |= reached[from][other] && reached[other][from];
+        }
+        found.push((lexicon, entry));
+    }
+    found
+}
+
+/// Which lexicons empty entries lead to, one or more of them, from the lexicon with number `from`.
+fn reached(lexicons: &[Lexicon], from: usize) -> Vec<bool> {
+    let mut reached = vec![false; lexicons.len()];
+    let mut open = vec![from];
+    while let Some(lexicon) = open.pop() {
+        for to in lexicons[lexicon].entries.iter().filter_map(onward) {
+            if !reached[to] {
+                reached[to] = true;
+                open.push(to);
+            }
+        }
+    }
+    reached
+}
+
+/// The lexicon that an entry with an empty form leads to.
+fn onward(entry: &Entry) -> Option<usize> {
+    match entry.continuation {
+        Continuation::Lexicon(number) if entry.form.is_empty() => Some(usize::from(number)),
+        _ => None,
+    }
+}

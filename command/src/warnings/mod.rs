@@ -1,0 +1,37 @@
+//! What a grammar may say but hardly means. It is accepted all the same.
+
+mod circles;
+mod doubles;
+mod letters;
+mod lexicons;
+mod tables;
+
+use crate::text::{Fault, Grammar};
+
+/// The warnings about a grammar, in the order of their lines.
+pub fn warnings(grammar: &Grammar) -> Vec<Fault> {
+    let kinds = [letters::warnings, tables::warnings, lexicons::warnings, doubles::warnings, circles::warnings];
+    let mut told: Vec<Fault> = kinds.iter().flat_map(|kind| kind(grammar)).collect();
+    told.sort_by_key(|warning| warning.line);
+    told
+}
+
+fn warning(line: usize, what: String) -> Fault {
+    Fault::new(line, format!("warning: {what}"))
+}
+
+/// Which numbers below `count` can be come to from `from`, itself among them.
+fn reached(count: usize, from: usize, onward: impl Fn(usize) -> Vec<usize>) -> Vec<bool> {
+    let mut reached = vec![false; count];
+    reached[from] = true;
+    let mut open = vec![from];
+    while let Some(here) = open.pop() {
+        for to in onward(here) {
+            if !reached[to] {
+                reached[to] = true;
+                open.push(to);
+            }
+        }
+    }
+    reached
+}
