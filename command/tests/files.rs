@@ -165,20 +165,42 @@ mod unix {
     #[test]
     fn an_image_that_cannot_be_written_whole() {
         let folder = luz_folder("files-part");
-        let mut shell = Command::new("sh");
-        let script = "trap '' XFSZ; ulimit -f 1; exec \"$0\" assemble luz.txt luz.img";
-        shell.args(["-c", script, env!("CARGO_BIN_EXE_headwords")]);
-        fails(run_command(&folder, shell), "luz.img:0: cannot be written: ");
+        let ran = shell(&folder, "trap '' XFSZ; ulimit -f 1; exec \"$0\" assemble luz.txt luz.img");
+        fails(ran, "luz.img:0: cannot be written: ");
         image_stays(&folder, &[]);
+    }
+
+    /// A shell's run of the command, with its program as $0.
+    fn shell(folder: &Path, script: &str) -> Ran {
+        let mut shell = Command::new("sh");
+        shell.args(["-c", script, env!("CARGO_BIN_EXE_headwords")]);
+        run_command(folder, shell)
+    }
+
+    #[test]
+    fn a_full_disk_is_told() {
+        let folder = luz_folder("files-device");
+        for command in ["text luz.txt", "check luz.txt", "list entries luz.txt", "help", "--version"] {
+            let ran = shell(&folder, &format!("exec \"$0\" {command} >/dev/full"));
+            fails(ran, "standard output: No space left on device");
+        }
+    }
+
+    #[test]
+    fn a_reader_that_goes_away_needs_no_words() {
+        let folder = luz_folder("files-closed");
+        for command in ["text luz.txt", "check luz.txt", "list entries luz.txt", "help"] {
+            let ran = shell(&folder, &format!("{{ sleep 0.3; \"$0\" {command}; echo $? >status; }} | true"));
+            assert_eq!(ran, Ran { code: Some(0), stdout: String::new(), stderr: String::new() });
+            assert_eq!(fs::read_to_string(folder.join("status")).unwrap(), "1\n", "{command}");
+        }
     }
 
     #[test]
     fn a_list_that_cannot_be_written() {
         let folder = luz_folder("files-full");
-        let mut shell = Command::new("sh");
-        let script = "trap '' XFSZ; ulimit -f 0; exec \"$0\" list letters luz.txt > list";
-        shell.args(["-c", script, env!("CARGO_BIN_EXE_headwords")]);
-        fails(run_command(&folder, shell), "standard output: ");
+        let ran = shell(&folder, "trap '' XFSZ; ulimit -f 0; exec \"$0\" list letters luz.txt > list");
+        fails(ran, "standard output: ");
     }
 }
 

@@ -8,7 +8,7 @@ use support::{edited, run, sample, scratch};
 /// A sample, a place of it, what stands there after the slip, something that only the line to be told has, and what is told.
 type Slip = (&'static str, &'static str, &'static str, &'static str, &'static str);
 
-const KEYWORDS: [Slip; 24] = [
+const KEYWORDS: [Slip; 26] = [
     ("luz", "ALPHABET ", "alphabet ", "alphabet ", "alphabet: keywords are written in capitals: ALPHABET"),
     ("luz", "PAIRS ", "Pairs ", "Pairs ", "Pairs: keywords are written in capitals: PAIRS"),
     ("luz", "NULL 0", "null 0", "null 0", "null: keywords are written in capitals: NULL"),
@@ -69,6 +69,8 @@ const KEYWORDS: [Slip; 24] = [
         "BOUNDARY takes one character; NULL is one too many, which begins a line of its own",
     ),
     ("luz", "u z Z\n", "u z Z PAIRS\n", "u z Z PAIRS", "PAIRS is a keyword, which begins a line of its own"),
+    ("luz", "PAIRS ", "FEASIBLE PAIRS ", "FEASIBLE", "PAIRS is a keyword, which begins a line of its own"),
+    ("luz", "  luc  Number", "INCLUDE Number\n  luc  Number", "INCLUDE", "rules and lexicons stand in one file"),
 ];
 
 const SECTIONS: [Slip; 8] = [
@@ -107,7 +109,7 @@ const LETTERS: [Slip; 16] = [
     ("quichua", "SUBSET Ftr   y n r", "SUBSET Ftr   y n y", "SUBSET Ftr", "y (U+0079) is in set Ftr already"),
 ];
 
-const PAIRS: [Slip; 14] = [
+const PAIRS: [Slip; 15] = [
     ("luz", "  c:c e:e", "  cc e:e", "  cc ", "cc: a pair is written as two letters and a colon, a:b; is c:c meant?"),
     (
         "luz",
@@ -152,9 +154,10 @@ const PAIRS: [Slip; 14] = [
         "e\u{301}",
         "a pair is written as two letters and a colon, a:b; as one character it is é (U+00E9)",
     ),
+    ("luz", "  +:0\n", "  +:∅\n", "+:∅", "pair +:∅: ∅ (U+2205) is no letter of the alphabet; the null is written 0"),
 ];
 
-const RULES: [Slip; 23] = [
+const RULES: [Slip; 24] = [
     (
         "luz",
         "RULE \"Z becomes c before +e\"",
@@ -243,6 +246,13 @@ const RULES: [Slip; 23] = [
         "     c c 0 e @\n",
         "     Z Z + e @",
         "for the pair Z:c columns 1 (Z:c) and 2 (Z:c) are equally narrow",
+    ),
+    (
+        "luz",
+        "     Z Z + e @\n",
+        "     Z Z + e *\n",
+        "e *",
+        "* (U+002A) is no letter of the alphabet, and no set is called so; any letter is written @",
     ),
 ];
 

@@ -192,8 +192,9 @@ fn a_column_that_a_narrower_one_hides() {
 #[test]
 fn what_stands_twice() {
     let double = told_of("  luc  Number", "  luZ  Number  \"luz\"\n  luc  Number");
-    let what = "entry 1 (luZ) is as entry 0: each word that has it has its readings twice";
-    assert_eq!(double, [(line_of("  luc  Number"), what.to_string())]);
+    let first = format!("entry 1 (luZ) is as entry 0 in line {}", line_of("  luZ  Number"));
+    let what = format!("{first}: each word that has it has its readings twice");
+    assert_eq!(double, [(line_of("  luc  Number"), what)]);
     // Another gloss, in words or by number, makes it another entry; so does another continuation.
     for other in ["luZ Number \"light\"", "luZ Number 7", "luZ Number", "luZ # \"luz\""] {
         assert_eq!(told_of("  luc  Number", &format!("  {other}\n  luc  Number")), []);

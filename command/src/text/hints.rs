@@ -1,6 +1,6 @@
 //! What was likely meant where a text has a fault: the ends of messages.
 
-use crate::text::alphabet::{Alphabet, NULL};
+use crate::text::alphabet::{Alphabet, ANY, BOUNDARY, NULL};
 use crate::text::lines::{name, one_character, Word};
 use crate::text::sections::Keyword;
 use crate::words::composed;
@@ -14,34 +14,37 @@ const ALIKE: [(&str, &str); 3] = [
 /// Keys that lie or look close to each other.
 const DIGITS: [(char, &str); 2] = [('0', "Oo"), ('1', "lI")];
 
+/// What other grammars write for the null, for any letter, and for the boundary.
+const SYMBOLS: [(&str, u8, &str); 3] =
+    [("0Øø∅ε", NULL, "the null"), ("@?*", ANY, "any letter"), ("#$|", BOUNDARY, "the boundary")];
+
 /// What a character may stand for that is no letter of the alphabet.
 pub fn letter_meant(character: char, alphabet: &Alphabet) -> String {
     let is_letter = |c: &char| alphabet.number(*c).is_some();
-    let other_case = character.to_lowercase().chain(character.to_uppercase()).find(is_letter);
-    let look = ALIKE.iter().find_map(|(these, those)| {
-        let at = these.chars().position(|c| c == character)?;
-        those.chars().nth(at).filter(is_letter)
-    });
-    if let Some(meant) = other_case {
+    if let Some(meant) = character.to_lowercase().chain(character.to_uppercase()).find(is_letter) {
         return format!("; is {} meant?", name(meant));
     }
-    if let Some(meant) = look {
+    if let Some(meant) = looks_like(character).filter(is_letter) {
         return format!("; it looks like {}", name(meant));
     }
     for (digit, others) in DIGITS {
         if others.contains(character) && alphabet.side(digit) == Some(NULL) {
             return format!("; is {digit}, the null, meant?");
         }
-        let others = others.chars().chain([digit]);
-        if let Some(meant) = { others }.find(|c| is_letter(c) && is_key(character, digit)) {
+        let keys = || others.chars().chain([digit]);
+        if let Some(meant) = keys().find(is_letter).filter(|_| keys().any(|key| key == character)) {
             return format!("; is {} meant?", name(meant));
         }
     }
-    String::new()
+    let symbol = SYMBOLS.iter().find(|(these, ..)| these.contains(character));
+    symbol.map_or(String::new(), |(_, side, what)| format!("; {what} is written {}", alphabet.character(*side)))
 }
 
-fn is_key(character: char, digit: char) -> bool {
-    DIGITS.iter().any(|&(key, others)| key == digit && (key == character || others.contains(character)))
+fn looks_like(character: char) -> Option<char> {
+    ALIKE.iter().find_map(|(these, those)| {
+        let at = these.chars().position(|c| c == character)?;
+        those.chars().nth(at)
+    })
 }
 
 /// An accent with a code point of its own, where the letter with it is one character.
@@ -107,4 +110,20 @@ pub fn quote_meant(words: &[Word]) -> Option<String> {
 pub fn digit_meant(text: &str) -> String {
     let meant = one_character(text).and_then(|c| DIGITS.iter().find(|(_, others)| others.contains(c)));
     meant.map_or(String::new(), |(digit, _)| format!("; is the digit {digit} meant?"))
+}
+
+#[cfg(test)]
+mod tests {
+    use super::{looks_like, ALIKE};
+
+    #[test]
+    fn each_character_that_looks_like_another_has_it_beside_it() {
+        for (these, those) in ALIKE {
+            assert_eq!(these.chars().count(), those.chars().count());
+            assert!(these.chars().all(|c| !c.is_ascii()) && those.is_ascii());
+        }
+        let pairs = [('а', 'a'), ('с', 'c'), ('Х', 'X'), ('ο', 'o'), ('Ζ', 'Z'), ('ı', 'i'), ('−', '-')];
+        assert!(pairs.into_iter().all(|(one, other)| looks_like(one) == Some(other)));
+        assert_eq!(looks_like('a'), None);
+    }
 }

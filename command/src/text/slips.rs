@@ -34,23 +34,27 @@ pub fn slips(lines: &[Line]) -> Vec<Slip> {
     let mut slips = Vec::new();
     let mut section = None;
     for line in lines {
-        let Some(word) = line.words[0].bare() else {
+        if let Some(keyword) = line.words[0].bare().and_then(Keyword::named) {
+            section = Some(keyword);
             continue;
-        };
+        }
         let may_be_right = matches!(section, Some(Keyword::Rule | Keyword::Lexicon));
-        let told = match meant(word) {
-            Some(keyword) => Some(keyword)
-                .filter(|&keyword| !may_be_right || fits(keyword, &line.words[1..]))
-                .map(|keyword| tell(word, keyword)),
-            None => elsewhere(word),
-        };
-        match (Keyword::named(word), told) {
-            (Some(keyword), _) => section = Some(keyword),
-            (None, Some(what)) => slips.push(Slip { fault: Fault::new(line.number, what), may_be_right }),
-            (None, None) => {}
+        if let Some(what) = told(&line.words, may_be_right) {
+            slips.push(Slip { fault: Fault::new(line.number, what), may_be_right });
         }
     }
     slips
+}
+
+/// What is told of a line that has no keyword at its beginning; nothing where it is a line like any other.
+fn told(words: &[Word], may_be_right: bool) -> Option<String> {
+    let first = words[0].bare()?;
+    if let Some(keyword) = meant(first) {
+        return (!may_be_right || fits(keyword, &words[1..])).then(|| tell(first, keyword));
+    }
+    let keyword = words.iter().filter_map(|word| word.bare()).find(|word| Keyword::named(word).is_some());
+    let inside = keyword.filter(|_| !may_be_right);
+    elsewhere(first).or(inside.map(|keyword| format!("{keyword} is a keyword, which begins a line of its own")))
 }
 
 /// The slips among the faults of a text, since each hides what comes after it; the faults where there are none.

@@ -1,6 +1,6 @@
 //! What stands twice: entries of one lexicon, and rules.
 
-use crate::text::lexicons::{Continuation, Entry};
+use crate::text::lexicons::Continuation;
 use crate::text::rules::Rule;
 use crate::text::{Fault, Grammar};
 use crate::warnings::warning;
@@ -40,7 +40,7 @@ struct Said<'a> {
 }
 
 fn double_entries(grammar: &Grammar) -> Vec<Fault> {
-    let mut seen: HashMap<Said, (usize, &Entry)> = HashMap::new();
+    let mut seen: HashMap<Said, (usize, usize)> = HashMap::new();
     let mut told = Vec::new();
     for (number, (lexicon, entry)) in grammar.entries().into_iter().enumerate() {
         let gloss = Some(entry.gloss).filter(|&gloss| !grammar.named || usize::from(gloss) != number);
@@ -51,11 +51,10 @@ fn double_entries(grammar: &Grammar) -> Vec<Fault> {
             gloss_text: &entry.gloss_text,
             gloss,
         };
-        let (first, _) = *seen.entry(said).or_insert((number, entry));
+        let (first, line) = *seen.entry(said).or_insert((number, entry.line));
         if first != number {
-            let form = grammar.show_form(&entry.form);
-            let what =
-                format!("entry {number} ({form}) is as entry {first}: each word that has it has its readings twice");
+            let (form, first) = (grammar.show_form(&entry.form), format!("entry {first}{}", in_line(line)));
+            let what = format!("entry {number} ({form}) is as {first}: each word that has it has its readings twice");
             told.push(warning(entry.line, what));
         }
     }
