@@ -24,6 +24,8 @@ bench:
 	@echo
 	@bench/hostile
 	@echo
+	@bench/command
+	@echo
 	@bench/others
 
 install:
