@@ -27,15 +27,6 @@ impl Reply {
         }
     }
 
-    fn number(self) -> u64 {
-        match self {
-            Reply::None => 0,
-            Reply::All(count) => 4 * count as u64 + 1,
-            Reply::More(count) => 4 * count as u64 + 2,
-            Reply::Refused(number) => 4 * u64::from(number) + 3,
-        }
-    }
-
     /// The number of a refusal.
     pub fn refusal(self) -> Option<u32> {
         match self {
@@ -69,6 +60,16 @@ pub fn pairing(row: &[u8]) -> impl Iterator<Item = usize> + '_ {
 }
 
 extern "C" {
+    fn headwords_analyse_words(
+        image: *const u8,
+        image_length: usize,
+        words: *const u8,
+        words_length: usize,
+        replies: *mut u8,
+        replies_length: usize,
+        rows: *mut u8,
+        rows_length: usize,
+    ) -> u64;
     fn headwords_analyse(
         image: *const u8,
         image_length: usize,
@@ -98,7 +99,7 @@ extern "C" {
 }
 
 // Slices are what the header asks of a caller: no pointer is NULL, each range has its length, what is written is lent to
-// this call alone and overlaps nothing. The stack of a thread that calls has at least 256 kilobytes free: Rust gives two
+// this call alone and overlaps nothing. The stack of a thread that calls has at least 512 kilobytes free: Rust gives two
 // megabytes, and the main thread more.
 
 /// `All(0)` where the image is accepted.
@@ -120,20 +121,18 @@ pub fn analyse(image: &[u8], word: &[u8], rows: &mut [u8]) -> Reply {
 /// The readings of many words, a record each: the reply's number of word i, low byte first, to place i of `replies`, and its
 /// rows to its equal share of the rows. `All(n)` where n words are answered; a refused image refuses the whole call.
 pub fn analyse_words(image: &[u8], words: &[u8], replies: &mut [u8], rows: &mut [u8]) -> Reply {
-    let count = (words.len() / RECORD).min(replies.len() / PLACE);
-    if let refused @ Reply::Refused(_) = check(image) {
-        return refused;
-    }
-    let share = (rows.len() / ROW).checked_div(count).unwrap_or(0) * ROW;
-    for at in 0..count {
-        let record = &words[RECORD * at..][..RECORD];
-        let reply = match record[1..].get(..usize::from(record[0])) {
-            Some(word) => analyse(image, word, &mut rows[share * at..][..share]),
-            None => Reply::Refused(9),
-        };
-        replies[PLACE * at..][..PLACE].copy_from_slice(&reply.number().to_le_bytes());
-    }
-    Reply::All(count)
+    Reply::of(unsafe {
+        headwords_analyse_words(
+            image.as_ptr(),
+            image.len(),
+            words.as_ptr(),
+            words.len(),
+            replies.as_mut_ptr(),
+            replies.len(),
+            rows.as_mut_ptr(),
+            rows.len(),
+        )
+    })
 }
 
 /// All readings with a path, two bytes an entry.
