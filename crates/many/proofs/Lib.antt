@@ -2,3 +2,4 @@ pub mod Over
 pub mod Records
 pub mod Replies
 pub mod Shares
+pub mod Trials
