@@ -17,7 +17,7 @@
  *   - each pointer is to at least as many bytes as the length after it says, and is not NULL, even where the length is 0;
  *   - the ranges lent to one call do not overlap, save that two ranges that are only read may;
  *   - no other thread writes to a lent range during the call, and none reads one that the call may write;
- *   - 256 kilobytes of stack are free.
+ *   - 256 kilobytes of stack are free, and for headwords_analyse_words 512.
  *
  * Every reply is one number r. r % 4 == 3 is a refusal, numbered r / 4. The tests, in the order in which they are made:
  *    1  image length 0, over 65,536, or no multiple of 512
@@ -41,7 +41,7 @@
  * A call makes those that its declaration below names, in the order in which it names them, each over the whole image, word,
  * path or pairing before the next; the first that fails is the one told. A refused call writes nothing.
  *
- * What a call can cost at worst: every call ends, and all but the two listings within a few milliseconds. A listing goes
+ * What a call can cost at worst: every call ends, and all but the listings within a few milliseconds. A listing goes
  * through the ways in which entries and pairs may follow each other. Where that turns out long, it remembers the dead ends
  * that it has met, so that empty entries in a circle or letters that may come, go or stand take milliseconds too. But
  * where rules remember what was read, no two ways come to the same end: ten entries of one letter in a circle, spelled
@@ -80,6 +80,31 @@ enum { HEADWORDS_NONE = 0, HEADWORDS_ALL = 1, HEADWORDS_MORE = 2, HEADWORDS_REFU
  *   4k + 3  refused (1 to 8, 14, 9 or 10); nothing is written
  * No byte past row n - 1 changes. */
 uint64_t headwords_analyse(const uint8_t *image, size_t image_length, const uint8_t *word, size_t word_length, uint8_t *rows, size_t rows_length);
+
+/* A word among many, as a record: byte 0 is its length, bytes 1 to 32 its letters; those past its length are not looked at. */
+#define HEADWORDS_WORD_BYTES 33
+
+/* Many words of one image: headwords_analyse for each, with one image check for all. Word i is record i of words, bytes 33i to
+ * 33i + 32, and its reply goes to place i of replies, bytes 8i to 8i + 7, the low byte first, as x86-64 has a uint64_t. There are n
+ * words, as many as whole records or as whole places, whichever are fewer. Each has an equal share of the rows, s = rows_length /
+ * 116 / n of them; share i begins with row s * i. Reply and rows of a word are those of headwords_analyse with the share as its
+ * buffer.
+ *   4n + 1  each of the n words has its reply and its rows
+ *   4k + 3  refused (1 to 8 or 14); nothing is written
+ * A word that is refused has 4k + 3 as its reply (k is 9, for a length byte over 32 too, or 10), and the others are answered all
+ * the same. No byte changes past the last place, past the last share, or in a share past the word's rows. Of no words the reply
+ * is 1; with fewer rows than words s is 0, so that a word with readings gets 2, which is more and no row.
+ *
+ *     uint8_t words[2][HEADWORDS_WORD_BYTES] = {{3, 5, 7, 8}, {5, 5, 7, 3, 4, 6}}; // luz and luces by luz
+ *     uint8_t rows[2 * 8 * HEADWORDS_ROW_BYTES];                                   // 8 rows a word
+ *     uint64_t replies[2];
+ *     headwords_analyse_words(image, image_length, words[0], sizeof words, (uint8_t *)replies, sizeof replies, rows, sizeof rows);
+ *     // 4 * 2 + 1; replies[0] is 4 * 1 + 1, with row 0; replies[1] is 4 * 2 + 1, with rows 8 and 9
+ *
+ * Image and lexicon are gone through once a call, and where it has more than a few words in such a way that each opens few entries:
+ * by the Spanish sample and 1,000 words a call a word with a reading takes 9,000 instructions, where headwords_analyse takes
+ * 420,000. A call of one word costs what headwords_analyse does. A word that is long to search holds up all others. */
+uint64_t headwords_analyse_words(const uint8_t *image, size_t image_length, const uint8_t *words, size_t words_length, uint8_t *replies, size_t replies_length, uint8_t *rows, size_t rows_length);
 
 /* The letters of a word as it is written, which is given as code points, two bytes each, the low byte first.
  *   4n + 1  the word has n letters, 1 to 32, and they are in letters[0] to letters[n - 1]; no byte past them changes

@@ -46,6 +46,39 @@ static inline void analyse(const char *what, struct bytes image, struct bytes wo
     list(headwords_analyse, what, image, word, room, reply, written);
 }
 
+/* A word's record. The bytes past its letters are no letters of any word. */
+static inline void put_record(uint8_t *record, struct bytes word)
+{
+    memset(record, 255, HEADWORDS_WORD_BYTES);
+    record[0] = (uint8_t)word.length;
+    memcpy(record + 1, word.at, word.length);
+}
+
+/* What one of many words is answered with: its reply, and the rows at the front of its share. */
+struct answer {
+    uint64_t reply;
+    struct bytes rows;
+};
+
+/* Words in records, so many bytes for their replies and for all rows. Where the image is refused there are no answers. */
+static inline void analyse_words(const char *what, struct bytes image, struct bytes words, size_t places, size_t room, uint64_t reply, const struct answer *answers)
+{
+    size_t n = reply % 4 == HEADWORDS_REFUSED ? 0 : reply / 4;
+    for (enum side side = 0; side < SIDES; side++) {
+        const uint8_t *lent_image = lend(IMAGE, side, image), *lent_words = lend(GIVEN, side, words);
+        uint8_t *replies = lend_room(REPLIES, side, places), *rows = lend_room(OUT, side, room);
+        for (size_t i = 0; i < n; i++) {
+            uint8_t number[8];
+            for (size_t j = 0; j < 8; j++)
+                number[j] = (uint8_t)(answers[i].reply >> 8 * j);
+            expect_at(REPLIES, 8 * i, (struct bytes){number, 8});
+            expect_at(OUT, room / HEADWORDS_ROW_BYTES / n * HEADWORDS_ROW_BYTES * i, answers[i].rows);
+        }
+        called = what;
+        answered(headwords_analyse_words(lent_image, image.length, lent_words, words.length, replies, places, rows, room), reply);
+    }
+}
+
 /* The bytes of code points, in one place for all: a call has to take them before the next are made. */
 #define POINTS(...) points_of((const uint16_t[]){__VA_ARGS__}, sizeof((const uint16_t[]){__VA_ARGS__}) / sizeof(uint16_t))
 

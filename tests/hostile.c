@@ -3,7 +3,7 @@
 #define _DEFAULT_SOURCE
 #include "calls.h"
 
-enum { SECONDS = 10, LONGEST = 128 * 512, ROW = HEADWORDS_ROW_BYTES };
+enum { SECONDS = 10, LONGEST = 128 * 512, ROW = HEADWORDS_ROW_BYTES, WORDS = 16 };
 
 static uint8_t image_bytes[LONGEST];
 
@@ -37,6 +37,18 @@ static struct bytes image_of(const char *folder, const char *name)
     return image;
 }
 
+/* The word in one call with itself, sixteen times, each with a share of so many rows. */
+static void sixteen(const char *name, struct bytes image, struct bytes word, size_t share, uint64_t reply, struct bytes rows)
+{
+    uint8_t records[WORDS * HEADWORDS_WORD_BYTES];
+    struct answer answers[WORDS];
+    for (size_t i = 0; i < WORDS; i++) {
+        put_record(records + HEADWORDS_WORD_BYTES * i, word);
+        answers[i] = (struct answer){reply, rows};
+    }
+    analyse_words(name, image, (struct bytes){records, sizeof records}, 8 * WORDS, share * WORDS, 4 * WORDS + 1, answers);
+}
+
 /* Neither the word of so many letters a nor the path of entry 0 so many times and then the entry that ends has a reading. */
 static void none(const char *folder, const char *name, size_t letters, size_t entries, uint8_t last)
 {
@@ -47,6 +59,7 @@ static void none(const char *folder, const char *name, size_t letters, size_t en
     unsigned before = failures;
     alarm(SECONDS);
     list(headwords_analyse, name, image, (struct bytes){word, letters}, 3 * ROW, 0, nothing);
+    sixteen(name, image, (struct bytes){word, letters}, 3 * ROW, 0, nothing);
     list(headwords_generate, name, image, (struct bytes){path, 2 * entries + 2}, 3 * ROW, 0, nothing);
     passed(before, name, "no reading of the word, and none of a path");
 }
@@ -60,8 +73,12 @@ static void between(const char *folder, const char *name)
     put_row(rows + ROW, BYTES(2, 0, 8, 0), BYTES(0));
     unsigned before = failures;
     alarm(SECONDS);
-    for (size_t room = 0; room <= 3; room++)
-        list(headwords_analyse, name, image, BYTES(2), room * ROW, room < 2 ? 4 * room + 2 : 4 * 2 + 1, (struct bytes){rows, (room < 2 ? room : 2) * ROW});
+    for (size_t room = 0; room <= 3; room++) {
+        uint64_t reply = room < 2 ? 4 * room + 2 : 4 * 2 + 1;
+        struct bytes written = {rows, (room < 2 ? room : 2) * ROW};
+        list(headwords_analyse, name, image, BYTES(2), room * ROW, reply, written);
+        sixteen(name, image, BYTES(2), room * ROW, reply, written);
+    }
     passed(before, name, "both readings, in buffers of 0 to 3 rows");
 }
 
@@ -72,8 +89,9 @@ int main(int argc, char **argv)
     const char *folder = argv[1];
     signal(SIGALRM, late);
     make_room(IMAGE, LONGEST);
-    make_room(GIVEN, 32);
-    make_room(OUT, 3 * ROW);
+    make_room(GIVEN, WORDS * HEADWORDS_WORD_BYTES);
+    make_room(REPLIES, WORDS * 8);
+    make_room(OUT, WORDS * 3 * ROW);
     none(folder, "circle-4-refused", 1, 15, 4);
     none(folder, "circle-10-refused", 1, 15, 10);
     none(folder, "form-refused", 32, 1, 1);

@@ -1,4 +1,5 @@
-/* The C entry at its limits: the largest image there is, with entries, pairs, sets and rules up to the last, and listings of more than 65,536 readings. */
+/* The C entry at its limits: the largest image there is, with entries, pairs, sets and rules up to the last, listings of more than 65,536 readings, and as many
+ * words in one call. */
 #define _DEFAULT_SOURCE
 #include "calls.h"
 
@@ -172,6 +173,23 @@ static void stem(struct bytes image, size_t e)
     form(what, image, e, 12, 4 * 2 + 1, letters);
 }
 
+/* Stems as they are, in one call: the edges of entry numbers among them, and one that rule 31 fails. */
+static void stems(struct bytes image, const size_t *numbers, size_t count)
+{
+    enum { MOST = 32 };
+    static uint8_t records[MOST * HEADWORDS_WORD_BYTES], rows[MOST * ROW];
+    static struct answer answers[MOST];
+    for (size_t i = 0; i < count; i++) {
+        struct bytes letters = letters_of(numbers[i]);
+        uint8_t x = letters.at[0], y = letters.at[1];
+        int passes = !fails(x) && !fails(y);
+        put_record(records + HEADWORDS_WORD_BYTES * i, letters);
+        put_row(rows + ROW * i, path_of(numbers[i]), BYTES(x - 2, y - 2));
+        answers[i] = (struct answer){passes ? 5 : 0, {rows + ROW * i, passes ? ROW : 0}};
+    }
+    analyse_words("stems in one call", image, (struct bytes){records, HEADWORDS_WORD_BYTES * count}, 8 * count, 2 * ROW * count, 4 * count + 1, answers);
+}
+
 /* Its letters 1 to 120 are code points 100 to 219: the small letters from d on, and then capitals with accents, which stay. */
 static void spellings(struct bytes image)
 {
@@ -191,15 +209,16 @@ static void spellings(struct bytes image)
     spell("à, whose capital is a letter", image, POINTS('E', 224), 32, refused(23), nothing);
 }
 
-static void entries(void)
+static void entries(struct bytes image)
 {
-    static const size_t edges[] = {255, 256, 1023, 1024, 2047, 2048, 2049, STEMS - 2, STEMS - 1};
-    struct bytes image = largest();
+    static const size_t edges[] = {255, 256, 1023, 1024, 2047, 2048, 2049, STEMS - 2, STEMS - 1, 0, 31, 59, 60, 62, 1891, 2700};
     check("largest image", image, image.length == 128 * BLOCK ? 1 : 0);
     for (size_t e = 0; e < STEMS; e += 59)
         stem(image, e);
     for (size_t i = 0; i < sizeof edges / sizeof *edges; i++)
         stem(image, edges[i]);
+    for (size_t count = 0; count <= sizeof edges / sizeof *edges; count++)
+        stems(image, edges, count);
     form("entry 2799", image, ENTRIES - 1, 12, 1, nothing);
     form("entry 2800", image, ENTRIES, 12, refused(12), nothing);
     generate("entry 2800", image, BYTES(ENTRIES % 256, ENTRIES / 256), ROW, refused(12), nothing);
@@ -272,21 +291,48 @@ static void readings(void)
         put_row(rows + ROW * k, (struct bytes){path, 4}, BYTES(0, 0));
     }
     listed(headwords_analyse, "a word with 65792 readings", image, BYTES(2, 2), rows, PATHS);
+    uint8_t record[HEADWORDS_WORD_BYTES];
+    put_record(record, BYTES(2, 2));
+    struct answer answer = {4 * (uint64_t)PATHS + 1, {rows, ROW * PATHS}};
+    analyse_words("a word with 65792 readings in its share", image, (struct bytes){record, sizeof record}, 8, ROW * PATHS, 5, &answer);
     for (size_t k = 0; k < WORDS; k++)
         put_row(rows + ROW * k, BYTES(0, 0), BYTES((uint8_t)(k / WAYS / WAYS), (uint8_t)(k / WAYS % WAYS), (uint8_t)(k % WAYS)));
     listed(headwords_generate, "a path with 68921 readings", image, BYTES(0, 0), rows, WORDS);
     free(rows);
 }
 
+/* More words than two bytes count. They are empty but for the last, which has a reading. */
+static void many_words(struct bytes image)
+{
+    enum { WORDS = 65537 };
+    uint8_t *records = calloc(WORDS, HEADWORDS_WORD_BYTES), row[ROW];
+    struct answer *answers = malloc(WORDS * sizeof *answers);
+    if (records == NULL || answers == NULL)
+        exit(2);
+    for (size_t i = 0; i < WORDS; i++)
+        answers[i] = (struct answer){refused(9), nothing};
+    put_record(records + HEADWORDS_WORD_BYTES * (WORDS - 1), letters_of(0));
+    put_row(row, path_of(0), BYTES(0, 0));
+    answers[WORDS - 1] = (struct answer){5, {row, ROW}};
+    make_room(GIVEN, WORDS * HEADWORDS_WORD_BYTES);
+    make_room(REPLIES, WORDS * 8);
+    analyse_words("65537 words", image, (struct bytes){records, WORDS * HEADWORDS_WORD_BYTES}, WORDS * 8, WORDS * ROW, 4 * (uint64_t)WORDS + 1, answers);
+    free(records);
+    free(answers);
+}
+
 int main(void)
 {
     make_room(IMAGE, 128 * BLOCK);
-    make_room(GIVEN, 64);
+    make_room(GIVEN, 32 * HEADWORDS_WORD_BYTES);
     make_room(PAIRING, 2);
-    make_room(OUT, 6 * ROW);
+    make_room(REPLIES, 32 * 8);
+    make_room(OUT, 64 * ROW);
     watch();
-    entries();
+    struct bytes image = largest();
+    entries(image);
     zeros();
     readings();
+    many_words(image);
     return failures > 0;
 }

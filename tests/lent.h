@@ -36,8 +36,8 @@ struct lent {
     int is_lent;
 };
 
-enum range { IMAGE, GIVEN, PAIRING, OUT, RANGES };
-static struct lent ranges[RANGES] = {{.name = "image"}, {.name = "word, code points or path"}, {.name = "pairing"}, {.name = "buffer"}};
+enum range { IMAGE, GIVEN, PAIRING, REPLIES, OUT, RANGES };
+static struct lent ranges[RANGES] = {{.name = "image"}, {.name = "word, words, code points or path"}, {.name = "pairing"}, {.name = "replies"}, {.name = "buffer"}};
 
 static const char *called = "no call"; /* the call under way, to be told when it is wrong */
 static unsigned failures;
@@ -78,10 +78,16 @@ static inline uint8_t *lend_room(enum range range, enum side side, size_t length
     return lent->pages + lent->start;
 }
 
+/* After the call a range should have these bytes from a place on. */
+static inline void expect_at(enum range range, size_t place, struct bytes bytes)
+{
+    memcpy(ranges[range].expected + ranges[range].start + place, bytes.at, bytes.length);
+}
+
 /* After the call a range should begin with these bytes. */
 static inline void expect(enum range range, struct bytes bytes)
 {
-    memcpy(ranges[range].expected + ranges[range].start, bytes.at, bytes.length);
+    expect_at(range, 0, bytes);
 }
 
 /* Lends these bytes. */

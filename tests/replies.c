@@ -37,6 +37,93 @@ static void words(void)
     analyse("letter 10 and no row", luz, BYTES(10), 0, refused(10), nothing);
 }
 
+enum { MOST_WORDS = 40, RECORD = HEADWORDS_WORD_BYTES, ROW = HEADWORDS_ROW_BYTES };
+
+/* Words of each kind: with one reading, two and none, each length byte at a limit, and letters that are out of range. */
+static void put_some_words(uint8_t *records)
+{
+    static const struct {
+        uint8_t length, letters[5];
+    } some[] = {{5, {5, 7, 3, 4, 6}}, {3, {5, 7, 8}}, {0, {5, 7, 8}}, {5, {5, 7, 8, 4, 6}}, {33, {5, 7, 8}}, {3, {5, 7, 3}}, {3, {5, 7, 1}}, {255, {5, 7, 8}}, {4, {5, 7, 8, 0}}, {32, {5, 7, 8}}, {3, {10, 7, 8}}, {2, {5, 7, 8}}, {128, {5}}};
+    for (size_t i = 0; i < MOST_WORDS; i++, records += RECORD) {
+        size_t k = i % (sizeof some / sizeof *some);
+        memset(records, k == 9 ? 5 : 255, RECORD);
+        records[0] = some[k].length;
+        memcpy(records + 1, some[k].letters, sizeof some[k].letters);
+    }
+}
+
+/* Each word is answered as it is alone, with its share as the buffer. */
+static void as_alone(const char *what, struct bytes words, size_t places, size_t room)
+{
+    static uint8_t rows[4 * MOST_WORDS * ROW];
+    struct answer answers[MOST_WORDS];
+    size_t records = words.length / RECORD, n = places / 8 < records ? places / 8 : records;
+    for (size_t i = 0; i < n; i++) {
+        const uint8_t *record = words.at + RECORD * i;
+        size_t share = room / ROW / n * ROW;
+        uint8_t *own = rows + share * i;
+        uint64_t reply = record[0] > 32 ? refused(9) : headwords_analyse(luz.at, luz.length, record + 1, record[0], own, share);
+        answers[i] = (struct answer){reply, {own, reply % 4 == HEADWORDS_REFUSED ? 0 : ROW * (reply / 4)}};
+    }
+    analyse_words(what, luz, words, places, room, 4 * n + 1, answers);
+}
+
+static void many_words(void)
+{
+    static uint8_t records[RECORD * MOST_WORDS];
+    struct bytes words = {records, sizeof records};
+    uint8_t row[3 * ROW], *second = row + ROW, *third = second + ROW;
+    struct bytes luces = {row, 2 * ROW}, luz_row = {third, ROW};
+    put_row(row, BYTES(0, 0, 3, 0), BYTES(3, 5, 6, 0, 2, 4));
+    put_row(second, BYTES(1, 0, 3, 0), BYTES(3, 5, 1, 0, 2, 4));
+    put_row(third, BYTES(0, 0, 2, 0), BYTES(3, 5, 7));
+
+    /* luces, luzes, luz, a word refused with 9, one refused with 10, luz: shares of 0 to 3 rows, and bytes past the last */
+    put_record(records, BYTES(5, 7, 3, 4, 6));
+    put_record(records + RECORD, BYTES(5, 7, 8, 4, 6));
+    put_record(records + 2 * RECORD, BYTES(5, 7, 8));
+    put_record(records + 3 * RECORD, nothing);
+    put_record(records + 4 * RECORD, BYTES(5, 10));
+    put_record(records + 5 * RECORD, BYTES(5, 7, 8));
+    for (size_t room = 0; room < 4 * 6 * ROW; room += 29) {
+        size_t share = room / ROW / 6, some = share < 2 ? share : 2;
+        struct answer one = share > 0 ? (struct answer){5, luz_row} : (struct answer){2, nothing};
+        struct answer answers[] = {{share > 1 ? 9 : 4 * share + 2, first(some * ROW, luces)}, {0, nothing}, one, {refused(9), nothing}, {refused(10), nothing}, one};
+        analyse_words("six words", luz, first(6 * RECORD, words), 6 * 8, room, 4 * 6 + 1, answers);
+    }
+
+    /* length bytes 0 and over 32 are 9 whatever the letters, and 32 is a length */
+    memset(records + 1, 5, 32);
+    for (unsigned length = 0; length < 256; length++) {
+        records[0] = (uint8_t)length;
+        struct answer answer = {length > 0 && length <= 32 ? 0 : refused(9), nothing};
+        analyse_words("a length byte", luz, first(RECORD, words), 8, ROW, 5, &answer);
+        records[32] = 10;
+        answer.reply = length == 32 ? refused(10) : answer.reply;
+        analyse_words("a length byte, and a last letter 10", luz, first(RECORD, words), 8, ROW, 5, &answer);
+        records[32] = 5;
+    }
+
+    /* words by records and by places, neither of them whole; few words, and so many that the forms are indexed too */
+    static const size_t counts[] = {0, 1, 2, 3, 14, 15, 16, 17, 18, MOST_WORDS - 1}, parts[] = {0, 1, 7}, record_parts[] = {0, 1, RECORD - 1};
+    put_some_words(records);
+    for (size_t i = 0; i < sizeof counts / sizeof *counts; i++)
+        for (size_t j = 0; j < 3; j++)
+            for (size_t more = 0; more < 2; more++) {
+                size_t n = counts[i], rooms[] = {0, 1, ROW - 1, ROW, n * ROW - (n > 0), n * ROW, 2 * n * ROW + 1, 3 * n * ROW, 3 * n * ROW + ROW - 1};
+                for (size_t k = 0; k < sizeof rooms / sizeof *rooms; k++) {
+                    as_alone("words by their records", first(n * RECORD + record_parts[j], words), (n + more) * 8 + parts[j], rooms[k]);
+                    as_alone("words by their places", first((n + more) * RECORD + record_parts[j], words), n * 8 + parts[j], rooms[k]);
+                }
+            }
+    /* each word alone, and each as the last of sixteen */
+    for (size_t i = 0; i < 24; i++) {
+        as_alone("one word", (struct bytes){records + RECORD * i, RECORD}, 8, 3 * ROW);
+        as_alone("sixteen words", (struct bytes){records + RECORD * i, 16 * RECORD}, 16 * 8, 16 * 3 * ROW);
+    }
+}
+
 /* Paths that are refused, by generation and by the judge alike. */
 static const struct {
     const char *what;
@@ -297,6 +384,11 @@ static void refused_image(const char *what, struct bytes image, unsigned k)
     check(what, image, refused(k));
     analyse(what, image, BYTES(5, 7, 8), MOST, refused(k), nothing);
     analyse(what, image, nothing, MOST, refused(k), nothing);
+    static uint8_t records[RECORD * 16];
+    for (size_t i = 0; i < 16; i++)
+        put_record(records + RECORD * i, BYTES(5, 7, 8));
+    for (size_t n = 0; n <= 16; n = n == 1 ? 16 : n + 1)
+        analyse_words(what, image, (struct bytes){records, RECORD * n}, 8 * n, MOST, refused(k), NULL);
     generate(what, image, BYTES(0, 0, 3, 0), MOST, refused(k), nothing);
     generate(what, image, BYTES(4), MOST, refused(k), nothing);
     judge(what, image, BYTES(0, 0, 3, 0), BYTES(3, 5, 6, 0, 2, 4), refused(k));
@@ -434,8 +526,9 @@ int main(int argc, char **argv)
         fclose(file);
     }
     make_room(IMAGE, 66048);
-    make_room(GIVEN, 600);
+    make_room(GIVEN, RECORD * MOST_WORDS);
     make_room(PAIRING, 300);
+    make_room(REPLIES, 8 * MOST_WORDS);
     make_room(OUT, MOST);
     watch();
     words();
@@ -449,5 +542,7 @@ int main(int argc, char **argv)
     images();
     unspelled();
     dead_front();
+    make_room(OUT, 4 * MOST_WORDS * ROW);
+    many_words();
     return failures > 0;
 }
