@@ -1,9 +1,4 @@
 pub mod Turns
 pub mod Giving
-pub mod Standing
-pub mod Candidates
-pub mod Heads
 pub mod Starting
-pub mod FirstLetters
 pub mod Choosing
-pub mod Trying

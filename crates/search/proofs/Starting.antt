@@ -23,7 +23,7 @@ use Rattle.listing.specs.Places as places
 use Rattle.listing.specs.Places.{waysAfter, stopsAfter, nodeOf}
 use Rattle.listing.specs.Search.{nodeAt, foundAt}
 use Rattle.listing.proofs.Gather.{readings-gathered}
-use Rattle.search.specs.Here.{Underway}
+use Rattle.ahead.specs.Here.{Underway}
 
 -- the root, with these states
 abbrev pub root : List ℕ → Place

@@ -1,8 +1,6 @@
 // The search for readings, whatever is asked of the path and of the word: opening an entry and pairing its letters call each other, and each
 // reading found is offered to the lent rows.
-pub mod forced;
-pub mod here;
-pub mod starts;
+pub mod sieve;
 
 ghost use mathlib.Core.Bool.{true};
 ghost use mathlib.Core.Path.{_≡_};
@@ -23,7 +21,7 @@ ghost use Rattle.filter.specs.Sieve.{MayBe, Writable, Sieve};
 ghost use Rattle.dead.specs.Dead.{Remembered};
 ghost use Rattle.search.specs.Listed.{Listed};
 ghost use Rattle.search.specs.Offered.{Offered};
-ghost use Rattle.search.specs.Here.{opensAt, Underway};
+ghost use Rattle.ahead.specs.Here.{opensAt, Underway};
 use image::Header;
 use listing::asked::Asked;
 use listing::level::Level;
@@ -184,10 +182,10 @@ pub fn open_each(
     let mut known = [0u8; 128];
     let mut e = listing::opening::next_entry(h, ways, ways.low);
     while e < entries {
-        let letter = crate::starts::first_letter(image, h, e);
+        let letter = ahead::starts::first_letter(image, h, e);
         let at = letter.0 as usize;
         if known[at] == 0 {
-            known[at] = crate::starts::look(image, index, h, word_asked, word, place, e, letter);
+            known[at] = ahead::starts::look(image, index, h, word_asked, word, place, e, letter);
         }
         if known[at] != 1 {
             let next = listing::place::enter(image, h, place, e);
@@ -314,7 +312,7 @@ pub fn pair(
         return capacity + 2;
     }
     let word_asked = asked.word;
-    let led = crate::forced::lead(image, index, h, word_asked, word, place, trail);
+    let led = ahead::forced::lead(image, index, h, word_asked, word, place, trail);
     let over = led.over;
     if over {
         return found;
@@ -378,7 +376,7 @@ pub fn pair_each(
     let mut last = place.last;
     let mut n = found;
     if place.from >= place.to {
-        if crate::here::goes_on(image, h, place) {
+        if ahead::here::goes_on(image, h, place) {
             return open(
                 image,
                 index,
@@ -398,7 +396,7 @@ pub fn pair_each(
             );
         }
         last = ENDED;
-        n = crate::here::put_ended(image, index, h, asked, path, word, place, trail, out, found);
+        n = ahead::here::put_ended(image, index, h, asked, path, word, place, trail, out, found);
         if capacity < n {
             return n;
         }
@@ -406,12 +404,12 @@ pub fn pair_each(
     if trail.pairs >= 40 {
         return n;
     }
-    let letter = crate::here::next_letter(image, place);
+    let letter = ahead::here::next_letter(image, place);
     let word_asked = asked.word;
-    let many = crate::here::candidate_count(image, index, h, letter);
+    let many = ahead::here::candidate_count(image, index, h, letter);
     let mut k: usize = 0;
     while k < many {
-        let p = crate::here::candidate(image, index, h, letter, k);
+        let p = ahead::here::candidate(image, index, h, letter, k);
         let taken = listing::pairing::take(image, index, h, word_asked, word, place, last, p);
         if taken.may {
             let next = taken.place;
@@ -486,7 +484,7 @@ fn from_start(
     let word_asked = asked.word;
     let mut masks = [0u64; 128];
     let mut reach = [0u64; 65];
-    let many = crate::here::prepare(
+    let many = crate::sieve::prepare(
         image,
         index,
         h,

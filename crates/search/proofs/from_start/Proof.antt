@@ -14,7 +14,7 @@ use Rattle.rules.specs.Live.{BegunOf}
 use Rattle.rows.specs.Offering.{offerAll}
 use Rattle.rows.specs.Fill.{put}
 use Rattle.listing.specs.Asked.{pathPattern, queryBy}
-use Rattle.search.specs.Here.{opensAt}
+use Rattle.ahead.specs.Here.{opensAt}
 use Rattle.model.specs.Query.{Query}
 use Rattle.dead.specs.Dead.{Remembered}
 use Rattle.dead.proofs.Dead.{none-remembered}

@@ -26,8 +26,8 @@ use Rattle.listing.specs.Opening.{mayEnter, WaysOf, NextOf}
 use Rattle.listing.proofs.Searching.{stopOne, stop-none}
 use Rattle.search.proofs.Turns.{turns-none, turns-more, turns-skip, turns-far, turns-stop, turns-all, turns-is}
 use Rattle.search.proofs.Giving.{gave-turn, offered-same, offered-all}
-use Rattle.search.proofs.Heads.{Opening, last-in, entry-few, entry-none, open-underway, open-less, open-turn}
-use Rattle.search.proofs.FirstLetters.{Known, known-none, known-more}
+use Rattle.ahead.proofs.Heads.{Opening, last-in, entry-few, entry-none, open-underway, open-less, open-turn}
+use Rattle.ahead.proofs.FirstLetters.{Known, known-none, known-more}
 use Rattle.search.proofs.+open+open_each+open_listed+pair+pair_each.Lts-open_each as lts
 use Rattle.search.proofs.+open+open_each+open_listed+pair+pair_each.Proof.Shared.{Tabled, OfEach}
 

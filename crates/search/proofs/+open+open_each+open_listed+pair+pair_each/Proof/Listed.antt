@@ -24,7 +24,7 @@ use Rattle.listing.specs.Search.{foundAt, entryOne}
 use Rattle.search.specs.Offered.{Offered}
 use Rattle.search.proofs.Turns.{turns-none, turns-more, turns-stop, turns-all}
 use Rattle.search.proofs.Giving.{gave-same, gave-turn, offered-same, offered-all}
-use Rattle.search.proofs.Heads.{Opening, entry-few, open-underway, open-less, open-turn}
+use Rattle.ahead.proofs.Heads.{Opening, entry-few, open-underway, open-less, open-turn}
 use Rattle.search.proofs.+open+open_each+open_listed+pair+pair_each.Lts-open_listed as lts
 use Rattle.search.proofs.+open+open_each+open_listed+pair+pair_each.Proof.Shared.{OfListed}
 

@@ -22,7 +22,7 @@ use Rattle.search.specs.Offered.{Offered}
 use Rattle.search.proofs.Turns.{state-is}
 use Rattle.search.proofs.Giving.{gave-same, gave-first, gave-next, offered-same, offered-all}
 use Rattle.search.proofs.Choosing.{chosen-listed}
-use Rattle.search.proofs.Heads.{Opening, last-in, stop-fills, stop-underway, stop-less, stop-turn, open-parts, open-last, open-offered}
+use Rattle.ahead.proofs.Heads.{Opening, last-in, stop-fills, stop-underway, stop-less, stop-turn, open-parts, open-last, open-offered}
 use Rattle.search.proofs.+open+open_each+open_listed+pair+pair_each.Lts-open as lts
 use Rattle.search.proofs.+open+open_each+open_listed+pair+pair_each.Proof.Shared.{Tabled, OfOpen}
 

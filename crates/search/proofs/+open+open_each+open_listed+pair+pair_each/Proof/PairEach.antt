@@ -25,11 +25,11 @@ use Rattle.listing.specs.declared.place.Place.{Place}
 use Rattle.listing.specs.Places.{restOf, withLast}
 use Rattle.listing.specs.Search.{nodeAt, foundAt}
 use Rattle.search.specs.Offered.{Offered}
-use Rattle.search.proofs.Standing.{not-ended}
-use Rattle.search.proofs.Candidates.{Candidate, candidate-spells}
+use Rattle.ahead.proofs.Standing.{not-ended}
+use Rattle.ahead.proofs.Candidates.{Candidate, candidate-spells}
 use Rattle.search.proofs.Turns.{turns-none, turns-more, turns-skip, turns-stop, turns-all, turns-is, state-is}
 use Rattle.search.proofs.Giving.{gave-same, gave-next, gave-turn, offered-same, offered-all}
-use Rattle.search.proofs.Heads.{Pairing, Settled, end-fills, settled-left, settled-over, candidateOne, letter-in, pair-last, pair-found, pair-offered, pair-none, pair-underway, pair-less, pair-turn}
+use Rattle.ahead.proofs.Heads.{Pairing, Settled, end-fills, settled-left, settled-over, candidateOne, letter-in, pair-last, pair-found, pair-offered, pair-none, pair-underway, pair-less, pair-turn}
 use Rattle.search.proofs.+open+open_each+open_listed+pair+pair_each.Lts-pair_each as lts
 use Rattle.search.proofs.+open+open_each+open_listed+pair+pair_each.Proof.Shared.{Tabled, OfPairEach}
 

@@ -18,9 +18,9 @@ use Rattle.listing.specs.Places.{withLast}
 use Rattle.listing.specs.Opening.{mayEnter}
 use Rattle.listing.specs.Search.{entryOne}
 use Rattle.search.proofs.Turns.{Turns}
-use Rattle.search.specs.Here.{stepsAfter}
-use Rattle.search.proofs.Heads.{candidateOne}
-use Rattle.search.proofs.FirstLetters.{Known}
+use Rattle.ahead.specs.Here.{stepsAfter}
+use Rattle.ahead.proofs.Heads.{candidateOne}
+use Rattle.ahead.proofs.FirstLetters.{Known}
 use Rattle.search.proofs.open.Reads as «open»
 use Rattle.search.proofs.open.Kinds as open-kinds
 use Rattle.search.proofs.+open+open_each+open_listed+pair+pair_each.Lts-open as open-lts
@@ -36,20 +36,20 @@ use Rattle.search.proofs.+open+open_each+open_listed+pair+pair_each.Lts
 use Rattle.search.proofs.pair_each.Reads as pair-each
 use Rattle.search.proofs.pair_each.Kinds as pair-each-kinds
 use Rattle.search.proofs.+open+open_each+open_listed+pair+pair_each.Lts-pair_each as pair-each-lts
-use Rattle.search.proofs.forced.lead.Reads as lead-reads
+use Rattle.ahead.proofs.forced.lead.Reads as lead-reads
 use Rattle.listing.proofs.opening.next_entry.Reads as next-entry-reads
 use Rattle.listing.proofs.opening.ways_on.Reads as ways-on-reads
 use Rattle.listing.proofs.pairing.take.Reads as take-reads
 use Rattle.listing.proofs.place.enter.Reads as enter-reads
 use Rattle.listing.proofs.place.may_stop.Reads as may-stop-reads
 use Rattle.listing.proofs.place.stop.Reads as stop-reads
-use Rattle.search.proofs.here.candidate.Reads as candidate-reads
-use Rattle.search.proofs.here.candidate_count.Reads as candidate-count-reads
-use Rattle.search.proofs.here.goes_on.Reads as goes-on-reads
-use Rattle.search.proofs.here.next_letter.Reads as next-letter-reads
-use Rattle.search.proofs.here.put_ended.Reads as put-ended-reads
-use Rattle.search.proofs.starts.first_letter.Reads as first-letter-reads
-use Rattle.search.proofs.starts.look.Reads as look-reads
+use Rattle.ahead.proofs.here.candidate.Reads as candidate-reads
+use Rattle.ahead.proofs.here.candidate_count.Reads as candidate-count-reads
+use Rattle.ahead.proofs.here.goes_on.Reads as goes-on-reads
+use Rattle.ahead.proofs.here.next_letter.Reads as next-letter-reads
+use Rattle.ahead.proofs.here.put_ended.Reads as put-ended-reads
+use Rattle.ahead.proofs.starts.first_letter.Reads as first-letter-reads
+use Rattle.ahead.proofs.starts.look.Reads as look-reads
 
 abbrev pub μ-open : Measures 9 open-kinds.ps ℕ
 μ-open κs a = 4 * stepsAfter (a .1 .1 .1 .1 .1 .1 .1 .1 .1 .0) (a .1 .1 .1 .1 .1 .1 .1 .1 .1 .1 .0) + 1
