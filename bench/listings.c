@@ -3,6 +3,8 @@
  *   read        each line of WORDS, letter numbers split by single spaces, becomes letter bytes, and these are summed
  *   check       the same, and one image check, which is counted as "all" where it accepts
  *   analyse     the same as read, and each word is analysed into 64 lent rows
+ *   records     the same as read, and the words are put into records
+ *   many        the same as records, and the words are analysed 1,000 a call, each with a share of 64 rows
  *   points      the same as read, and each word becomes the code points of its letters, as capitals where they have one
  *   spell       the same as points, and each word's code points are spelled; what counts as rows are letters
  *   paths       collects 200 paths from the rows of the words' readings, and sums their bytes
@@ -20,13 +22,15 @@
 
 #include "headwords.h"
 
-enum { ROWS = 64, PATHS = 200, MOST_LETTERS = 128, MOST_TEXT = 1 << 20, ROUNDS = 20 };
+enum { ROWS = 64, PATHS = 200, WORDS = 1000, MOST_LETTERS = 128, MOST_TEXT = 1 << 20, ROUNDS = 20 };
 static const double ROUND_SECONDS = 0.03;
 
 static uint8_t image[65537]; /* a byte more than an image may have, so that a longer file is refused */
 static size_t image_length;
 static char text[MOST_TEXT]; /* the words as they stand in their file; a 0 follows them */
-static uint8_t rows[ROWS * HEADWORDS_ROW_BYTES];
+static uint8_t rows[WORDS * ROWS * HEADWORDS_ROW_BYTES]; /* for a word alone the first 64 */
+static uint8_t records[WORDS][HEADWORDS_WORD_BYTES];
+static uint64_t replies[WORDS];
 
 static struct {
     uint8_t bytes[32];
@@ -130,8 +134,8 @@ static void count(struct tally *tally, uint64_t reply)
         tally->rows += reply / 4;
 }
 
-/* A pass is one of the seven below. Three are plain: they read words, their code points, or paths. The others do the same and
- * make calls. */
+/* A pass is one of the nine below. Four are plain: they read words, as letters, as records or as code points, or paths. The others
+ * do the same and make calls. */
 typedef void pass(struct tally *);
 
 static void read_words(struct tally *tally)
@@ -155,7 +159,41 @@ static void analyse_words(struct tally *tally)
     for (const char *at = text; *at != '\0';) {
         size_t n = read_word(&at, letters);
         see(tally, letters, n);
-        count(tally, headwords_analyse(image, image_length, letters, n, rows, sizeof rows));
+        count(tally, headwords_analyse(image, image_length, letters, n, rows, ROWS * HEADWORDS_ROW_BYTES));
+    }
+}
+
+/* The records of the next words, at most 1,000 of them. */
+static size_t read_records(const char **at, struct tally *tally)
+{
+    uint8_t letters[MOST_LETTERS];
+    size_t many = 0;
+    for (; many < WORDS && **at != '\0'; many++) {
+        size_t n = read_word(at, letters);
+        see(tally, letters, n);
+        if (n > HEADWORDS_WORD_BYTES - 1)
+            fail("a word of over 32 letters", "words");
+        records[many][0] = (uint8_t)n;
+        memcpy(records[many] + 1, letters, n);
+    }
+    return many;
+}
+
+static void read_all_records(struct tally *tally)
+{
+    for (const char *at = text; *at != '\0';)
+        read_records(&at, tally);
+}
+
+static void analyse_many(struct tally *tally)
+{
+    for (const char *at = text; *at != '\0';) {
+        size_t many = read_records(&at, tally);
+        uint64_t reply = headwords_analyse_words(image, image_length, records[0], many * HEADWORDS_WORD_BYTES, (uint8_t *)replies, many * sizeof *replies, rows, many * ROWS * HEADWORDS_ROW_BYTES);
+        if (reply != 4 * many + 1)
+            fail("is refused", "image");
+        for (size_t i = 0; i < many; i++)
+            count(tally, replies[i]);
     }
 }
 
@@ -197,7 +235,7 @@ static void generate_paths(struct tally *tally)
 {
     for (size_t i = 0; i < PATHS; i++) {
         see(tally, paths[i].bytes, paths[i].length);
-        count(tally, headwords_generate(image, image_length, paths[i].bytes, paths[i].length, rows, sizeof rows));
+        count(tally, headwords_generate(image, image_length, paths[i].bytes, paths[i].length, rows, ROWS * HEADWORDS_ROW_BYTES));
     }
 }
 
@@ -228,7 +266,7 @@ static void collect_paths(void)
     size_t found = 0;
     for (const char *at = text; *at != '\0' && found < PATHS;) {
         size_t n = read_word(&at, letters);
-        uint64_t reply = headwords_analyse(image, image_length, letters, n, rows, sizeof rows);
+        uint64_t reply = headwords_analyse(image, image_length, letters, n, rows, ROWS * HEADWORDS_ROW_BYTES);
         uint64_t listed = reply % 4 == HEADWORDS_REFUSED ? 0 : reply / 4;
         for (uint64_t k = 0; k < listed && found < PATHS; k++)
             take_path(found++, rows + HEADWORDS_ROW_BYTES * k);
@@ -351,6 +389,10 @@ static int run(const char *mode, unsigned long told)
         print_checked(repeat(read_and_check, repeats));
     } else if (strcmp(mode, "analyse") == 0) {
         print_tally("words", repeat(analyse_words, repeats));
+    } else if (strcmp(mode, "records") == 0) {
+        print_tally("words", repeat(read_all_records, repeats));
+    } else if (strcmp(mode, "many") == 0) {
+        print_tally("words", repeat(analyse_many, repeats));
     } else if (strcmp(mode, "points") == 0) {
         collect_capitals();
         print_tally("words", repeat(read_capitals, repeats));
@@ -389,6 +431,6 @@ int main(int argc, char **argv)
         if (run(argv[1], told))
             return EXIT_SUCCESS;
     }
-    fprintf(stderr, "usage: listings read|check|analyse|points|spell|paths|generate|time-words|time-paths IMAGE WORDS [REPEATS]\n");
+    fprintf(stderr, "usage: listings read|check|analyse|records|many|points|spell|paths|generate|time-words|time-paths IMAGE WORDS [REPEATS]\n");
     return 2;
 }
