@@ -84,16 +84,16 @@ uint64_t headwords_analyse(const uint8_t *image, size_t image_length, const uint
 /* A word among many, as a record: byte 0 is its length, bytes 1 to 32 its letters; those past its length are not looked at. */
 #define HEADWORDS_WORD_BYTES 33
 
-/* Many words of one image: headwords_analyse for each, with one image check for all. Word i is record i of words, bytes 33i to
- * 33i + 32, and its reply goes to place i of replies, bytes 8i to 8i + 7, the low byte first, as x86-64 has a uint64_t. There are n
- * words, as many as whole records or as whole places, whichever are fewer. Each has an equal share of the rows, s = rows_length /
- * 116 / n of them; share i begins with row s * i. Reply and rows of a word are those of headwords_analyse with the share as its
- * buffer.
+/* Many words of one image: headwords_analyse for each, with one image check for all. Word i is record i of words, bytes 33i
+ * to 33i + 32, and its reply goes to place i of replies, bytes 8i to 8i + 7, the low byte first, as x86-64 has a uint64_t.
+ * There are n words, as many as whole records or as whole places, whichever are fewer. Each has an equal share of the rows,
+ * s = rows_length / 116 / n of them, and share i begins with row s * i. Reply and rows of a word are those of
+ * headwords_analyse with the share as its buffer.
  *   4n + 1  each of the n words has its reply and its rows
  *   4k + 3  refused (1 to 8 or 14); nothing is written
- * A word that is refused has 4k + 3 as its reply (k is 9, for a length byte over 32 too, or 10), and the others are answered all
- * the same. No byte changes past the last place, past the last share, or in a share past the word's rows. Of no words the reply
- * is 1; with fewer rows than words s is 0, so that a word with readings gets 2, which is more and no row.
+ * A word that is refused has 4k + 3 as its reply (k is 9, for a length byte over 32 too, or 10), and the others are answered
+ * all the same. No byte changes past the last place, past the last share, or in a share past the word's rows. Of no words the
+ * reply is 1; with fewer rows than words s is 0, so that a word with readings gets 2, which is more and no row.
  *
  *     uint8_t words[2][HEADWORDS_WORD_BYTES] = {{3, 5, 7, 8}, {5, 5, 7, 3, 4, 6}}; // luz and luces by luz
  *     uint8_t rows[2 * 8 * HEADWORDS_ROW_BYTES];                                   // 8 rows a word
@@ -101,7 +101,7 @@ uint64_t headwords_analyse(const uint8_t *image, size_t image_length, const uint
  *     headwords_analyse_words(image, image_length, words[0], sizeof words, (uint8_t *)replies, sizeof replies, rows, sizeof rows);
  *     // 4 * 2 + 1; replies[0] is 4 * 1 + 1, with row 0; replies[1] is 4 * 2 + 1, with rows 8 and 9
  *
- * Image and lexicon are gone through once a call, and where it has more than a few words in such a way that each opens few entries:
+ * Image and lexicon are gone through once a call, and with more than a few words in such a way that each opens few entries:
  * by the Spanish sample and 1,000 words a call a word with a reading takes 9,000 instructions, where headwords_analyse takes
  * 420,000. A call of one word costs what headwords_analyse does. A word that is long to search holds up all others. */
 uint64_t headwords_analyse_words(const uint8_t *image, size_t image_length, const uint8_t *words, size_t words_length, uint8_t *replies, size_t replies_length, uint8_t *rows, size_t rows_length);

@@ -1,6 +1,7 @@
 /* The C entry with the one fault that the environment variable FAULT names. The functions of the true library are renamed, with real_ in front.
  *
- * CALL is a function's name without headwords_, RANGE one of image, given (word, path or code points), pairing and out.
+ * CALL is a function's name without headwords_, or places for analyse_words with its replies as the buffer; RANGE is one of image, given (word, words,
+ * path or code points), pairing and out.
  * entry CALL            entry numbers of row 0 from 2,048 on are wrong
  * count CALL            n is cut to two bytes
  * after RANGE CALL      a byte after the range is read
@@ -11,7 +12,10 @@
  * reading CALL          a call that is not refused writes into its image
  * fold P Q              code point P, where it is no letter, is spelled as Q
  * early spell           a capital below 256 is folded where it is a letter too
- * boundary spell        the boundary is taken for a letter of a word */
+ * boundary spell        the boundary is taken for a letter of a word
+ * long words            a length byte over 32 is taken for 32
+ * early words           the words after one that is refused are not answered
+ * last words            of sixteen words and more the last is answered as the first */
 #include <stdio.h>
 #include <stdlib.h>
 #include <string.h>
@@ -19,6 +23,7 @@
 #include "headwords.h"
 
 uint64_t real_headwords_analyse(const uint8_t *image, size_t image_length, const uint8_t *word, size_t word_length, uint8_t *rows, size_t rows_length);
+uint64_t real_headwords_analyse_words(const uint8_t *image, size_t image_length, const uint8_t *words, size_t words_length, uint8_t *replies, size_t replies_length, uint8_t *rows, size_t rows_length);
 uint64_t real_headwords_generate(const uint8_t *image, size_t image_length, const uint8_t *path, size_t path_length, uint8_t *rows, size_t rows_length);
 uint64_t real_headwords_check(const uint8_t *image, size_t image_length);
 uint64_t real_headwords_seal(uint8_t *image, size_t image_length);
@@ -97,6 +102,42 @@ uint64_t headwords_analyse(const uint8_t *image, size_t image_length, const uint
 {
     uint64_t reply = real_headwords_analyse(image, image_length, word, word_length, rows, rows_length);
     return with_fault(reply, (struct call){"analyse", {image, image_length}, {word, word_length}, {NULL, 0}, {rows, rows_length}, HEADWORDS_ROW_BYTES});
+}
+
+static void *copy_of(const uint8_t *bytes, size_t length)
+{
+    void *copy = malloc(length + 1);
+    if (copy == NULL)
+        exit(2);
+    return memcpy(copy, bytes, length);
+}
+
+/* The words that the true call is given. */
+static void put_wrong_words(uint8_t *words, size_t length)
+{
+    size_t n = length / HEADWORDS_WORD_BYTES, last = HEADWORDS_WORD_BYTES * (n - 1);
+    for (size_t i = 0; i < n && is_fault("long%s %s", "", "words", 0); i++)
+        if (words[HEADWORDS_WORD_BYTES * i] > 32)
+            words[HEADWORDS_WORD_BYTES * i] = 32;
+    if (n >= 16 && is_fault("last%s %s", "", "words", 0))
+        memcpy(words + last, words, HEADWORDS_WORD_BYTES);
+}
+
+uint64_t headwords_analyse_words(const uint8_t *image, size_t image_length, const uint8_t *words, size_t words_length, uint8_t *replies, size_t replies_length, uint8_t *rows, size_t rows_length)
+{
+    uint8_t *given = copy_of(words, words_length), *before = copy_of(replies, replies_length);
+    put_wrong_words(given, words_length);
+    uint64_t reply = real_headwords_analyse_words(image, image_length, given, words_length, replies, replies_length, rows, rows_length);
+    size_t n = reply % 4 == HEADWORDS_REFUSED ? 0 : reply / 4, share = n == 0 ? 0 : rows_length / HEADWORDS_ROW_BYTES / n;
+    for (size_t i = 0; i < n && is_fault("early%s %s", "", "words", 0); i++)
+        if (replies[8 * i] % 4 == HEADWORDS_REFUSED) {
+            memcpy(replies + 8 * (i + 1), before + 8 * (i + 1), 8 * (n - i - 1));
+            break;
+        }
+    free(given);
+    free(before);
+    reply = with_fault(reply, (struct call){"places", {image, image_length}, {words, words_length}, {NULL, 0}, {replies, replies_length}, 8});
+    return with_fault(reply, (struct call){"analyse_words", {image, image_length}, {words, words_length}, {NULL, 0}, {rows, rows_length}, HEADWORDS_ROW_BYTES * share});
 }
 
 uint64_t headwords_generate(const uint8_t *image, size_t image_length, const uint8_t *path, size_t path_length, uint8_t *rows, size_t rows_length)

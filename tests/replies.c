@@ -39,15 +39,30 @@ static void words(void)
 
 enum { MOST_WORDS = 40, RECORD = HEADWORDS_WORD_BYTES, ROW = HEADWORDS_ROW_BYTES };
 
-/* Words of each kind: with one reading, two and none, each length byte at a limit, and letters that are out of range. */
+/* Words of each kind, over and over: with one reading, two and none, length bytes at the limits, and letters that are out of range. The bytes of a record
+ * past these letters are l, so that a length of 32 is a word. */
 static void put_some_words(uint8_t *records)
 {
     static const struct {
         uint8_t length, letters[5];
-    } some[] = {{5, {5, 7, 3, 4, 6}}, {3, {5, 7, 8}}, {0, {5, 7, 8}}, {5, {5, 7, 8, 4, 6}}, {33, {5, 7, 8}}, {3, {5, 7, 3}}, {3, {5, 7, 1}}, {255, {5, 7, 8}}, {4, {5, 7, 8, 0}}, {32, {5, 7, 8}}, {3, {10, 7, 8}}, {2, {5, 7, 8}}, {128, {5}}};
+    } some[] = {
+        {5, {5, 7, 3, 4, 6}},
+        {3, {5, 7, 8, 255, 255}},
+        {0, {5, 7, 8, 5, 5}},
+        {5, {5, 7, 8, 4, 6}},
+        {33, {5, 7, 8, 5, 5}},
+        {3, {5, 7, 3, 0, 1}},
+        {3, {5, 7, 1, 5, 5}},
+        {255, {5, 7, 8, 5, 5}},
+        {4, {5, 7, 8, 0, 5}},
+        {32, {5, 7, 8, 4, 6}},
+        {3, {10, 7, 8, 5, 5}},
+        {2, {5, 7, 8, 5, 5}},
+        {128, {5, 7, 8, 5, 5}},
+    };
     for (size_t i = 0; i < MOST_WORDS; i++, records += RECORD) {
         size_t k = i % (sizeof some / sizeof *some);
-        memset(records, k == 9 ? 5 : 255, RECORD);
+        memset(records, 5, RECORD);
         records[0] = some[k].length;
         memcpy(records + 1, some[k].letters, sizeof some[k].letters);
     }

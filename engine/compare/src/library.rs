@@ -14,6 +14,16 @@ extern "C" {
         rows: *mut u8,
         rows_length: usize,
     ) -> u64;
+    fn headwords_analyse_words(
+        image: *const u8,
+        image_length: usize,
+        words: *const u8,
+        words_length: usize,
+        replies: *mut u8,
+        replies_length: usize,
+        rows: *mut u8,
+        rows_length: usize,
+    ) -> u64;
     fn headwords_generate(
         image: *const u8,
         image_length: usize,
@@ -59,6 +69,22 @@ pub fn analyse(image: &Lent, word: &Lent, rows: &mut Lent) -> u64 {
             image.length(),
             word.start(),
             word.length(),
+            rows.start_mut(),
+            room,
+        )
+    }
+}
+
+pub fn analyse_words(image: &Lent, words: &Lent, replies: &mut Lent, rows: &mut Lent) -> u64 {
+    let (places, room) = (replies.length(), rows.length());
+    unsafe {
+        headwords_analyse_words(
+            image.start(),
+            image.length(),
+            words.start(),
+            words.length(),
+            replies.start_mut(),
+            places,
             rows.start_mut(),
             room,
         )

@@ -2,6 +2,8 @@
 
 mod lent;
 mod library;
+mod many;
+mod met;
 mod spelled;
 mod tally;
 mod touched;
@@ -11,8 +13,9 @@ use draw::grammars::{self, Many};
 use draw::inputs::{any_room, any_word, entry, room, Pool};
 use draw::points::{any_points, folding_trials, letters_room, point_bytes, points_given};
 use draw::prng::Prng;
+use draw::records::{asked, record, Asked};
 use lent::Lent;
-use other_engine::calls::{self, Known};
+use other_engine::calls::{self, Known, PLACE, RECORD};
 use other_engine::draft::Draft;
 use other_engine::image::{read, BLOCK};
 use other_engine::listing::{list, refused, ROW};
@@ -60,6 +63,7 @@ fn main() {
     // A run of its own, so that what the trials of the folding met is not taken for something drawn.
     let mut run = Run::new(seed, "call", calls);
     run.many_readings();
+    run.most_words();
     // Late entries are seldom listed, so a run begins with grammars that have them.
     let first: [fn(&mut Prng) -> Draft; 4] = [
         grammars::largest,
@@ -118,8 +122,8 @@ struct Outcome<'a> {
     given: &'a [(&'a str, &'a [u8])],
     entry: Option<usize>,
     reply: (u64, u64),
-    /// The written range before the call, as the engine leaves it, and as the library left it.
-    written: Option<(&'a str, &'a [u8], &'a [u8], &'a Lent)>,
+    /// Each written range before the call, as the engine leaves it, and as the library left it.
+    written: &'a [(&'a str, &'a [u8], &'a [u8], &'a Lent)],
     kept: &'a [(&'a str, &'a [u8], &'a Lent)],
 }
 
@@ -193,6 +197,20 @@ impl Run {
         }
     }
 
+    /// More words than two bytes count, all refused but the last.
+    fn most_words(&mut self) {
+        let image = self.image(Draft::luz().image());
+        let count = 65_536 + self.prng.below(3);
+        let mut words = vec![0; RECORD * (count - 1)];
+        words.extend(record(&mut self.prng, &[5, 7, 8]));
+        let asked = Asked {
+            words,
+            places: PLACE * count,
+            rows: ROW * count,
+        };
+        self.answered(&image, &asked);
+    }
+
     /// One grammar: calls on its image, then on damaged ones.
     fn grammar(&mut self, draft: &Draft) {
         let image = self.image(draft.image());
@@ -238,9 +256,9 @@ impl Run {
             return;
         }
         let weights = if image.known.is_ok() {
-            [42, 22, 2, 4, 19, 5, 9]
+            [34, 22, 2, 4, 19, 5, 9, 8]
         } else {
-            [18, 18, 18, 5, 16, 15, 10]
+            [15, 16, 16, 5, 14, 14, 10, 10]
         };
         match self.prng.weighted(&weights) {
             0 => self.analyse(image, pool),
@@ -249,7 +267,59 @@ impl Run {
             3 => self.seal(image),
             4 => self.judge(image, pool),
             5 => self.form(image),
-            _ => self.spell(image),
+            6 => self.spell(image),
+            _ => self.words(image, pool),
+        }
+    }
+
+    /// Calls analysis with many words, of which a few are unlike.
+    fn words(&mut self, image: &Image, pool: &Pool) {
+        let unlike = self.prng.between(1, 4);
+        let words: Vec<Vec<u8>> = (0..unlike)
+            .map(|_| match &image.known {
+                Ok(grammar) => pool.word(&mut self.prng, grammar),
+                Err(_) => any_word(&mut self.prng),
+            })
+            .collect();
+        let asked = asked(&mut self.prng, &words);
+        self.answered(image, &asked);
+    }
+
+    /// One call with many words.
+    fn answered(&mut self, image: &Image, asked: &Asked) {
+        let Asked {
+            words,
+            places,
+            rows,
+        } = asked;
+        let before = (self.prng.bytes(*places), self.prng.bytes(*rows));
+        let mut expected = before.clone();
+        let Ok(reply) = calls::words_reply(&image.known, words, &mut expected.0, &mut expected.1)
+        else {
+            self.skipped += 1;
+            return;
+        };
+        let lent = Lent::new(&mut self.prng, words);
+        let mut replies = Lent::new(&mut self.prng, &before.0);
+        let mut rows = Lent::new(&mut self.prng, &before.1);
+        self.under_way(Kind::Words);
+        let got = library::analyse_words(&image.lent, &lent, &mut replies, &mut rows);
+        self.compared(Outcome {
+            kind: Kind::Words,
+            given: &[("image", &image.bytes), ("words", words)],
+            entry: None,
+            reply: (reply, got),
+            written: &[
+                ("replies", &before.0, &expected.0, &replies),
+                ("rows", &before.1, &expected.1, &rows),
+            ],
+            kept: &[
+                ("image", &image.bytes, &image.lent),
+                ("words", words, &lent),
+            ],
+        });
+        if image.known.is_ok() {
+            self.tally.count_words(words, &expected.0, before.1.len());
         }
     }
 
@@ -335,7 +405,7 @@ impl Run {
             given: &[("image", &image.bytes), (name, given)],
             entry: None,
             reply: (reply, got),
-            written: Some(("rows", &before, &expected, &rows)),
+            written: &[("rows", &before, &expected, &rows)],
             kept: &[("image", &image.bytes, &image.lent), (name, given, &lent)],
         });
         if let (Ok(grammar), Ok(readings)) = (&image.known, readings) {
@@ -352,7 +422,7 @@ impl Run {
             given: &[("image", &image.bytes)],
             entry: None,
             reply: (calls::check_reply(&image.known), got),
-            written: None,
+            written: &[],
             kept: &[("image", &image.bytes, &image.lent)],
         });
     }
@@ -393,7 +463,7 @@ impl Run {
             given: &[],
             entry: None,
             reply: (reply, got),
-            written: Some(("image", &before, &expected, &lent)),
+            written: &[("image", &before, &expected, &lent)],
             kept: &[],
         });
     }
@@ -422,7 +492,7 @@ impl Run {
             ],
             entry: None,
             reply: (reply, got),
-            written: None,
+            written: &[],
             kept: &[
                 ("image", &image.bytes, &image.lent),
                 ("path", &path, &lent_path),
@@ -457,7 +527,7 @@ impl Run {
             given: &[("image", &image.bytes)],
             entry: Some(number),
             reply: (reply, got),
-            written: Some(("letters", &before, &expected, &letters)),
+            written: &[("letters", &before, &expected, &letters)],
             kept: &[("image", &image.bytes, &image.lent)],
         });
     }
@@ -494,7 +564,7 @@ impl Run {
             given: &[("image", &image.bytes), ("points", points)],
             entry: None,
             reply: (reply, got),
-            written: Some(("letters", &before, &expected, &letters)),
+            written: &[("letters", &before, &expected, &letters)],
             kept: &[
                 ("image", &image.bytes, &image.lent),
                 ("points", points, &lent),
@@ -509,8 +579,8 @@ impl Run {
         if outcome.reply.0 != outcome.reply.1 {
             faults.push("the replies differ".to_string());
         }
-        if let Some((name, _, expected, lent)) = outcome.written {
-            if lent.bytes() != expected {
+        for (name, _, expected, lent) in outcome.written {
+            if lent.bytes() != *expected {
                 faults.push(format!("the {name} differ"));
             }
             if !lent.rest_kept() {
@@ -548,7 +618,7 @@ impl Run {
             spoken(outcome.reply.0),
             spoken(outcome.reply.1)
         );
-        if let Some((name, before, expected, lent)) = outcome.written {
+        for (name, before, expected, lent) in outcome.written {
             let part = shown(expected, lent.bytes());
             println!("{name} ({} bytes), from byte {}", before.len(), part.start);
             println!("{name}, before  {}", hex(&before[part.clone()]));

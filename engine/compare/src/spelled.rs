@@ -1,5 +1,6 @@
 //! Spellings are of several sorts, by what becomes of their code points and by the one thing for which they are refused.
 
+use crate::met::met;
 use draw::points::SURROGATES;
 use other_engine::calls::{letter_spelled, numbers};
 use other_engine::folding::{folded, lower_case, LAST_FOLDED};
@@ -86,9 +87,4 @@ fn stray(grammar: &Grammar, point: u16, no_room: bool) -> Vec<&'static str> {
         ),
         ("no letter and no room", no_room),
     ])
-}
-
-fn met(sorts: &[(&'static str, bool)]) -> Vec<&'static str> {
-    let met = sorts.iter().filter(|(_, is)| *is);
-    met.map(|(sort, _)| *sort).collect()
 }

@@ -1,6 +1,6 @@
 //! Replies are counted by kind of call, so that a run shows what it has met and what it has not.
 
-use crate::spelled;
+use crate::{many, spelled};
 use other_engine::grammar::{set_named, Grammar, BOUNDARY, NULL};
 use other_engine::Reading;
 use std::fmt::Write;
@@ -15,9 +15,10 @@ pub enum Kind {
     Judge,
     Form,
     Spell,
+    Words,
 }
 
-const KINDS: [(Kind, &str); 7] = [
+const KINDS: [(Kind, &str); 8] = [
     (Kind::Analyse, "analyse"),
     (Kind::Generate, "generate"),
     (Kind::Check, "check"),
@@ -25,6 +26,7 @@ const KINDS: [(Kind, &str); 7] = [
     (Kind::Judge, "judge"),
     (Kind::Form, "form"),
     (Kind::Spell, "spell"),
+    (Kind::Words, "analyse_words"),
 ];
 
 impl Kind {
@@ -42,6 +44,7 @@ impl Kind {
             Kind::Judge => [Some("fails"), Some("holds"), None],
             Kind::Form => [None, Some("letters"), Some("short")],
             Kind::Spell => [None, Some("spelled"), None],
+            Kind::Words => [None, Some("answered"), None],
         }
     }
 
@@ -53,7 +56,7 @@ impl Kind {
             Kind::Judge => &[11, 12, 13],
             Kind::Form => &[12],
             Kind::Spell => &[9, 23, 24],
-            Kind::Check => &[],
+            Kind::Check | Kind::Words => &[],
             Kind::Seal => return vec![1],
         };
         (1..=8).chain([14]).chain(own.iter().copied()).collect()
@@ -96,13 +99,15 @@ fn sets_asked(grammar: &Grammar, row: &Reading) -> Vec<(usize, u8)> {
     asked
 }
 
-/// How many replies of each kind of call have been met, how many listings by each with a row at a limit, and how many spellings of each sort.
+/// How many replies of each kind of call have been met, how many listings by each with a row at a limit, and how many spellings and calls with many
+/// words of each sort.
 #[derive(Default)]
 pub struct Tally {
-    replies: [[u64; 3]; 7],
-    refusals: [[u64; 25]; 7],
+    replies: [[u64; 3]; KINDS.len()],
+    refusals: [[u64; 25]; KINDS.len()],
     limits: [[u64; 13]; 2],
     spellings: [u64; spelled::SORTS.len()],
+    many: [u64; many::SORTS.len()],
 }
 
 impl Tally {
@@ -165,6 +170,14 @@ impl Tally {
         }
     }
 
+    /// Counts the sorts that a call with many words is of, by an accepted image, which left these replies, with so many bytes of rows.
+    pub fn count_words(&mut self, words: &[u8], replies: &[u8], room: usize) {
+        let met = many::sorts(words, replies, room);
+        for (count, sort) in self.many.iter_mut().zip(many::SORTS) {
+            *count += u64::from(met.contains(&sort));
+        }
+    }
+
     /// All calls of a kind.
     fn calls(&self, kind: Kind) -> u64 {
         let k = kind as usize;
@@ -196,6 +209,10 @@ impl Tally {
         for (sort, count) in spelled::SORTS.iter().zip(self.spellings) {
             let _ = write!(line, " {sort}: {count}");
         }
+        line.push_str("; many words with");
+        for (sort, count) in many::SORTS.iter().zip(self.many) {
+            let _ = write!(line, " {sort}: {count}");
+        }
         line
     }
 
@@ -224,6 +241,11 @@ impl Tally {
         for (sort, count) in spelled::SORTS.iter().zip(self.spellings) {
             if count == 0 {
                 missing.push(format!("a spelling with {sort}"));
+            }
+        }
+        for (sort, count) in many::SORTS.iter().zip(self.many) {
+            if count == 0 {
+                missing.push(format!("many words with {sort}"));
             }
         }
         missing

@@ -3,9 +3,16 @@
 use crate::folding::folded;
 use crate::grammar::{Grammar, BOUNDARY};
 use crate::image;
-use crate::listing::refused;
+use crate::listing::{list, refused, ROW};
 use crate::pairings::Budget;
 use crate::reading::{Reading, Stop};
+use std::collections::BTreeMap;
+
+/// The bytes of a word's record: its length, then its letters.
+pub const RECORD: usize = 33;
+
+/// The bytes of a reply's place.
+pub const PLACE: usize = 8;
 
 /// An image as the image check left it.
 pub type Known = Result<Grammar, u8>;
@@ -74,6 +81,44 @@ pub fn analyse_within(
         }
     }
     Ok(grammar.in_step_order(readings))
+}
+
+/// The word of a record, where its length is that of a word that fits.
+pub fn word_of(record: &[u8]) -> Option<&[u8]> {
+    record.get(1..=usize::from(record[0]))
+}
+
+/// How many words are answered: as many as have a whole record and a whole place.
+pub fn word_count(words: &[u8], replies: &[u8]) -> usize {
+    (words.len() / RECORD).min(replies.len() / PLACE)
+}
+
+/// Writes each word's reply into its place and its rows into its share, and replies by number. Each different word is listed once.
+pub fn words_reply(
+    known: &Known,
+    words: &[u8],
+    replies: &mut [u8],
+    rows: &mut [u8],
+) -> Result<u64, Stop> {
+    if let Err(k) = known {
+        return Ok(refused(*k));
+    }
+    let count = word_count(words, replies);
+    let share = rows.len() / ROW / count.max(1) * ROW;
+    let mut listed = BTreeMap::new();
+    for i in 0..count {
+        let own = &mut rows[share * i..share * (i + 1)];
+        let reply = match word_of(&words[RECORD * i..RECORD * (i + 1)]) {
+            None => refused(9),
+            Some(word) => match listed.entry(word).or_insert_with(|| analyse(known, word)) {
+                Ok(readings) => list(readings, own),
+                Err(Stop::Refused(k)) => refused(*k),
+                Err(Stop::TooBig) => return Err(Stop::TooBig),
+            },
+        };
+        replies[PLACE * i..PLACE * (i + 1)].copy_from_slice(&reply.to_le_bytes());
+    }
+    Ok(4 * count as u64 + 1)
 }
 
 /// All readings of a path, in step order.
