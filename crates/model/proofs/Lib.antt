@@ -20,7 +20,5 @@ pub mod Rows
 pub mod Demand
 pub mod Sealing
 pub mod Computed
-pub mod Trials
-pub mod Limits
 pub mod BlockSum
-pub mod Examples
+pub mod Matching

@@ -1,7 +1,7 @@
 -- Document 01 as definitions; a change that document 02 makes is quoted where it is made. Its headings, in its order, and the files that stand for them:
 -- "Blocks": Blocks. "Letters, pairs, rule tables": RuleTables. "Lexicon": Lexicon. "Readings and step order": Readings.
 -- "Analysis, then generation": Query, Walk and Tree (the list of all readings), Rows, Calls; demand 3: Demand.
--- "Beside the listings": Beside, Lines. "When a call is turned down": Refusals, Unspelled. "The luz grammar and other trials": Samples.
+-- "Beside the listings": Beside, Lines. "When a call is turned down": Refusals, Unspelled. "The luz grammar and other trials": Samples, and the crate trials.
 -- Document 02, (m): Spelling, above folding/specs/Folding; its tests in Refusals, its reply and bytes in Beside.
 -- Grammar is what the image of every form stands for, GrammarOf how an image of form 1 does; Lists is the vocabulary.
 pub mod Lists
@@ -23,4 +23,3 @@ pub mod Demand
 pub mod Beside
 pub mod Lines
 pub mod Samples
-pub mod Trials

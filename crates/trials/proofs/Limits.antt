@@ -4,16 +4,16 @@ use mathlib.Core.Bool.{true, false}
 use mathlib.Core.Path.{_≡_, refl}
 use mathlib.Core.List.{List, [], _∷_, _++_, map}
 use lib.ListN.{take, replicate, set}
 use Rattle.model.specs.Lists.{below, numberBytes}
 use Rattle.model.specs.Blocks.{Header, checkOf, laidOut, withinLimits, inAll, recordWidth, perBlock, firstBlock, recordStart, blockTotal, kindAt, recordsAt}
-use Rattle.model.specs.RuleTables.{Pair, Sides, codePoints, isCodePoint, pairs, isPair, inSet, isSet, isSide, matchesSide, table, column, isTable, nextState, isFinal, pairsAndBoundary, breadth, columnsOf}
+use Rattle.model.specs.RuleTables.{Pair, Sides, codePoints, isCodePoint, pairs, isPair, isSet, isSide, table, column, isTable, nextState, isFinal, pairsAndBoundary, breadth, columnsOf}
 use Rattle.model.specs.Lexicon.{entryCount, firstEntry, entry, formOf, continuation, gloss, isEntry, pathLength}
 use Rattle.model.specs.Readings.{wordLength, pairingLength}
 use Rattle.model.specs.Refusals.{rightLength}
 use Rattle.model.specs.Rows.{Reply, replyNumber, rowCount}
 use Rattle.model.specs.Beside.{viewed}
 use Rattle.model.specs.Samples.{plainBlock, entryBytes, setBytes, imageOf, luzLetters, luzPairs, luzTable, luzImage, tcImage}
 use Rattle.model.proofs.Computed.{computed}
 
 -- blocks
 all-255 : checkOf (replicate 510 255 ++ (0 ∷ 0 ∷ [])) ≡ 8629
@@ -162,21 +162,10 @@ column-sides : (map (isSide 9 2) (0 ∷ 9 ∷ 10 ∷ 127 ∷ 128 ∷ 129 ∷ 130
 unfolding computed
 column-sides = (refl, refl, refl)
 
--- "bit b of byte j for letter 8j + b": bytes 0 and 15 alone
-set-bits : map (inSet (129 ∷ (replicate 14 0 ++ (2 ∷ [])))) (0 ∷ 1 ∷ 7 ∷ 8 ∷ 119 ∷ 120 ∷ 121 ∷ 122 ∷ 128 ∷ 136 ∷ []) ≡ true ∷ false ∷ true ∷ false ∷ false ∷ false ∷ true ∷ false ∷ false ∷ false ∷ []
-unfolding computed
-set-bits = refl
-
 -- no bit above L: letters 9 and 10 where L is 9; the last bit of all; an empty set
 set-letters : map (λ s. isSet 9 (setBytes s)) ([] ∷ (0 ∷ 1 ∷ 9 ∷ []) ∷ (10 ∷ []) ∷ (127 ∷ []) ∷ []) ≡ true ∷ true ∷ false ∷ false ∷ []
 unfolding computed
 set-letters = refl
-
--- sides that name a set match what it has; where it is missing, nothing
-set-matches : (map (matchesSide ((2 ∷ []) ∷ (12 ∷ []) ∷ []) 129) (below 5) ≡ false ∷ false ∷ true ∷ true ∷ false ∷ []) × (map (matchesSide ((255 ∷ []) ∷ []) 129) (below 5) ≡ replicate 5 false)
-    × (map (λ s. matchesSide ((255 ∷ []) ∷ []) s 2) (2 ∷ 3 ∷ 128 ∷ 158 ∷ 159 ∷ 254 ∷ 255 ∷ []) ≡ true ∷ false ∷ true ∷ false ∷ false ∷ false ∷ true ∷ [])
-unfolding computed
-set-matches = (refl, refl, refl)
 
 abbrev sides : ℕ → ℕ → Sides
 sides a b = record { lexical = a; surface = b }

@@ -1,7 +1,7 @@
 -- The starred trials of document 01, and those of document 02, computed from the definitions.
 use mathlib.Core.Path.{refl}
-use Rattle.model.specs.Trials.{Starred}
+use Rattle.trials.specs.Trials.{Starred}
 use Rattle.model.proofs.Computed.{computed}
 
 pub starred : Starred
 unfolding computed
