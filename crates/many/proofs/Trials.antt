@@ -5,7 +5,7 @@ use mathlib.Core.List.{List, [], _∷_, _++_}
 use lib.ListN.{length, replicate}
 use Rattle.model.specs.Rows.{rowBytes}
 use Rattle.model.specs.Samples.{luzImage, slipImage}
-use Rattle.model.specs.Trials.{luces, luzes, lucesOfLuZ}
+use Rattle.trials.specs.Trials.{luces, luzes, lucesOfLuZ}
 use Rattle.model.proofs.Computed.{computed}
 use Rattle.many.specs.Words.{ManyReply, recordReply, afterRecord, manyReply, afterReplies, afterRows}
 
