@@ -129,7 +129,7 @@ fn analyse_many(image: &[u8], words: &[u8], replies: &mut [u8], out: &mut [u8]) 
     }
 }
 
-// From 4 words on the index of forms is worth making. An image that tests 1 to 6 refuse costs no index.
+// From 5 words on the index of forms is worth making. An image that tests 1 to 6 refuse costs no index.
 pub fn analyse_words(image: &[u8], words: &[u8], replies: &mut [u8], out: &mut [u8]) -> Many
     ensures reply { λ r. ⌜ manyOf r ≡ manyReply (now (image .entry)) (now (words .entry)) (now (replies .entry)) ⌝ }
     ensures replies { λ _. ⌜ now (replies .exit) ≡ afterReplies (now (image .entry)) (now (words .entry)) (now (replies .entry)) (now (out .entry)) ⌝ }
@@ -139,7 +139,7 @@ pub fn analyse_words(image: &[u8], words: &[u8], replies: &mut [u8], out: &mut [
     match early {
         Verdict::Refused(k) => Many::Refused(k),
         Verdict::Accepted => {
-            if word_count(words.len(), replies.len()) < 4 {
+            if word_count(words.len(), replies.len()) < 5 {
                 return analyse_few(image, words, replies, out);
             }
             analyse_many(image, words, replies, out)
