@@ -259,6 +259,38 @@ sed '/^$/d' printed | sort >forms
 cut -f 1 forms | sort -u | "$headwords" read -q quichua.img >readings
 [ "$(wc -l <forms)" -gt 50 ]
 [ -z "$(sort readings | comm -13 - forms)" ]
+# a path with very many forms, entries that are alike, and those that lead to no end: nothing is dropped without a word
+printf '%s\n' 'BOUNDARY #' 'NULL 0' 'ANY @' 'ALPHABET a b c' 'PAIRS a:a a:b a:c' 'LEXICON Root' 'aaaa # "many"' 'b #  "one"' 'b #  "two"' 'b #  "three"' END | sed 's/^PAIRS.*/& b:b/' >alike.txt
+ends 0 "$headwords" forms alike.txt many
+[ "$(grep -c many printed)" -eq 64 ]
+tells <<'END'
+headwords: many: 1 path with over 64 written forms, of which the first are printed
+END
+ends 0 "$headwords" generate --most 2 alike.txt b
+prints <<'END'
+b	one	b (one)	b:b
+b	two	b (two)	b:b
+b	+...	more 2
+
+END
+tells <<'END'
+headwords: b: the entries can be linked in over 2 ways; --most N tries N
+END
+"$root/bench/hostile_text" equal >equal.txt
+ends 0 timeout 20 "$headwords" forms equal.txt a
+tells <<'END'
+headwords: a: stopped after 100000 entries and 0 paths; --most N tries 100 N and N
+END
+# shellcheck disable=SC2046
+ends 1 timeout 20 "$headwords" generate equal.txt $(yes a | head -n 16)
+tells <<'END'
+headwords: refused 12: the word does not end after a: lexicon Circle follows
+END
+yes a | head -n 32000 | tr '\n' ' ' >path
+ends 1 "$headwords" generate equal.txt --file path
+tells <<'END'
+path:1: refused 11: path of 0 or over 16 entries, or an odd count of bytes
+END
 echo "generate and forms: as stored, and read back"
 
 # a weekly change
