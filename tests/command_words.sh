@@ -416,6 +416,14 @@ for arguments in "generate $luz luZ +es" "forms $luz luz" "sheet $luz words" "re
     "$headwords" $arguments >/dev/full 2>told || status=$?
     [ "$status" -eq 1 ] && grep -q '^standard output: No space left on device' told
 done
+for arguments in "read $luz luz" "check $luz"; do
+    status=0
+    # shellcheck disable=SC2086
+    "$headwords" $arguments 1<words 2>told || status=$?
+    [ "$status" -eq 1 ] && grep -q '^standard output: Bad file descriptor' told
+done
+ends 1 "$headwords" read "$luz" 0>written
+grep -q '^headwords: standard input: Bad file descriptor' told
 echo "what fails: told, with a status"
 
 # reads and writes that stop short, are interrupted or fail
