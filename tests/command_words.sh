@@ -12,6 +12,7 @@ luz=$root/grammars/luz.txt
 work=$(mktemp -d)
 trap 'rm -rf "$work"' EXIT
 cc -shared -fPIC -O1 -Wall -Wextra -Werror -o "$work/failing.so" tests/failing_read.c
+cc -shared -fPIC -O1 -Wall -Wextra -Werror -o "$work/threads.so" tests/few_threads.c -ldl
 cd "$work"
 export LC_ALL=C.UTF-8
 
@@ -198,6 +199,18 @@ awk -F '\t' '/\t/ && $1 != last || /^$/ { if (NF) print $1; last = NF ? $1 : "" 
 ends 0 "$headwords" read -q spanish.img <many
 [ "$(cksum <printed)" = "$(cut -d ' ' -f 1,2 sums | head -n 1)" ]
 [ ! -s told ]
+# with fewer threads than are wanted all the same; with none it is told
+for threads in 2 3; do
+    ends 0 env LD_PRELOAD="$work/threads.so" THREADS="$threads" "$headwords" read -q --jobs 8 spanish.img --file many
+    [ "$(cksum <printed)" = "$(cut -d ' ' -f 1,2 sums | head -n 1)" ]
+done
+for threads in 0 1; do
+    ends 1 env LD_PRELOAD="$work/threads.so" THREADS="$threads" "$headwords" read -q spanish.img --file many
+    grep -q '^headwords: no thread can be had: ' told
+    [ ! -s printed ]
+done
+ends 0 env LD_PRELOAD="$work/threads.so" THREADS=0 "$headwords" why "$luz" luzes
+"$headwords" why "$luz" luzes | prints
 echo "100,000 words: in order, by any number of jobs"
 
 # entries to written forms
