@@ -330,6 +330,27 @@ ends 0 "$headwords" compare "$luz" moved.txt - <words
 [ ! -s printed ]
 ends 0 "$headwords" compare -q spanish.img "$root/grammars/spanish.txt" spanish.txt
 [ ! -s printed ] && [ ! -s told ]
+# an image without its names, beside one that has them
+cp luz.img bare.img
+ends 0 "$headwords" compare bare.img luz.img words
+[ ! -s printed ] && grep -qx 'headwords: bare.img has no names beside it; compared is without names and glosses in words' told
+ends 1 "$headwords" compare new.txt bare.img words
+diff printed - <<'END'
+changed	+	luces	luc	luc +es	l:l u:u c:c +:0 e:e s:s
+gained	+	luc	luc	luc 0	l:l u:u c:c
+lost	-	ceces	ceZ	ceZ +es	c:c e:e Z:c +:0 e:e s:s
+END
+# a gloss that is a number stays one, though it may be the entry's own
+sed 's/"luz"/7/; s/"luc"/1/' "$luz" >seven.txt
+sed 's/"luz"/7/; s/"luc"/1/' moved.txt >moved_seven.txt
+ends 0 "$headwords" compare -q seven.txt moved_seven.txt words
+ends 0 "$headwords" read --tsv seven.txt luc
+prints <<'END'
+luc	all	luc	luc 0	1|singular	l:l u:u c:c
+END
+"$headwords" assemble seven.txt seven.img
+"$headwords" read --tsv seven.img luc | prints
+"$headwords" text seven.img | diff - <("$headwords" text seven.txt)
 ends 2 "$headwords" compare "$luz" none.txt words
 ends 2 "$headwords" compare "$luz" new.txt none
 ends 2 "$headwords" compare "$luz"
@@ -397,6 +418,15 @@ grep -qx 'Takes the listing: ________________' printed
 [ "$(sed -n '/^### Refused: 1$/,/^### Over 1 readings: 1$/p' printed | grep '^    ')" = "    	refused 9" ]
 [ "$(sed -n '/^### Over 1 readings: 1$/,/^## /p' printed | grep '^    ')" = "    luces" ]
 echo "sheet: as stored"
+
+# what begins with - and is no option; files with blanks in their names, and with bytes that are not UTF-8
+ends 0 "$headwords" read -q "$luz" -- -luz
+ends 2 "$headwords" read "$luz" -luz
+grep -qx 'headwords read: there is no option -luz; what begins with - and is no option stands after --' told
+odd=$(printf 'a b\377')
+cp words "$odd"
+ends 0 "$headwords" read "$luz" --file="$odd" --file "$odd"
+[ "$(grep -c '^luz	' printed)" -eq 2 ]
 
 # what is missing, refused or cannot be used: words, and a status
 head -c 512 luz.img >part.img
