@@ -30,7 +30,7 @@ END
 }
 luz=(luzes luces lu luce lucesu luzeu lus LUZ Luzes luzé 'l#z' l0z @ k " luz " "" lllllllllllllllllllllllllllllllll)
 explains grammars/luz.txt luz "${luz[@]}"
-explains grammars/spanish.txt spanish luzes regiónes $'regio\u0301nes' lapizes jovenex casaes cas xilófon bloces blocues Zona ÀRBOL ä ǧato mañanita
+explains grammars/spanish.txt spanish luzes regiónes $'regio\314\201nes' lapizes jovenex casaes cas xilófon bloces blocues Zona ÀRBOL ä ǧato mañanita
 explains grammars/quichua.txt quichua tarpurqan wañuq aaawan ayqichi Ǧa Rimani tarpumunpi aamun
 echo "why: as stored, in words and as JSON"
 
