@@ -201,15 +201,15 @@ ends 0 "$headwords" read -q spanish.img <many
 [ ! -s told ]
 # with fewer threads than are wanted all the same; with none it is told
 for threads in 2 3; do
-    ends 0 env LD_PRELOAD="$work/threads.so" THREADS="$threads" "$headwords" read -q --jobs 8 spanish.img --file many
+    ends 0 env LD_PRELOAD=./threads.so THREADS="$threads" "$headwords" read -q --jobs 8 spanish.img --file many
     [ "$(cksum <printed)" = "$(cut -d ' ' -f 1,2 sums | head -n 1)" ]
 done
 for threads in 0 1; do
-    ends 1 env LD_PRELOAD="$work/threads.so" THREADS="$threads" "$headwords" read -q spanish.img --file many
+    ends 1 env LD_PRELOAD=./threads.so THREADS="$threads" "$headwords" read -q spanish.img --file many
     grep -q '^headwords: no thread can be had: ' told
     [ ! -s printed ]
 done
-ends 0 env LD_PRELOAD="$work/threads.so" THREADS=0 "$headwords" why "$luz" luzes
+ends 0 env LD_PRELOAD=./threads.so THREADS=0 "$headwords" why "$luz" luzes
 "$headwords" why "$luz" luzes | prints
 echo "100,000 words: in order, by any number of jobs"
 
@@ -474,7 +474,7 @@ ends 0 "$headwords" read spanish.img <spanish.txt
 mv printed right
 under() {
     local status=0
-    env LD_PRELOAD="$work/failing.so" "${@:2}" "$headwords" read -q --jobs 2 spanish.img <spanish.txt >printed 2>told || status=$?
+    env LD_PRELOAD=./failing.so "${@:2}" "$headwords" read -q --jobs 2 spanish.img <spanish.txt >printed 2>told || status=$?
     [ "$status" -eq "$1" ] && cmp -n "$(wc -c <printed)" printed right || { cat told; echo "${*:2}: status $status, not $1"; exit 1; }
 }
 for variables in "READ_OF=- READ_SHORT=7" "READ_OF=- READ_INTERRUPTED=1" WRITE_SHORT=1000 WRITE_INTERRUPTED=1 "READ_OF=spanish.img READ_SHORT=100"; do
