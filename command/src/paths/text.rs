@@ -4,6 +4,7 @@ use super::links::Links;
 use super::MOST_ENTRIES;
 use crate::nearest::{is_meant, nearest};
 use crate::readings::Names;
+use crate::text::lines::BLANKS;
 use std::collections::HashMap;
 
 pub struct Entries<'a> {
@@ -11,8 +12,6 @@ pub struct Entries<'a> {
     links: &'a Links<'a>,
     by_form: HashMap<&'a str, Vec<usize>>,
 }
-
-const BLANKS: [char; 2] = [' ', '\t'];
 
 impl<'a> Entries<'a> {
     pub fn new(names: &'a Names, links: &'a Links<'a>) -> Entries<'a> {

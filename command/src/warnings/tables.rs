@@ -63,7 +63,7 @@ fn states_inside(rule: &Rule) -> Vec<usize> {
         _ => after(rule, state),
     };
     let front = rule.next(1, rule.boundary());
-    let reached = reached(rule.states.len() + 1, front, onward);
+    let reached = reached(rule.states.len() + 1, vec![front], onward);
     (1..=rule.states.len()).filter(|&state| reached[state]).collect()
 }
 
