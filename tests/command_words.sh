@@ -55,6 +55,7 @@ lllllllllllllllllllllllllllllllll	+?	refused 9
 END
 tells <<'END'
 argument 5: unread: k (U+006B) is no letter of a word
+capitals folded in 2 words
 END
 ends 0 "$headwords" read --numbers "$luz" -- luces
 prints <<'END'
@@ -159,6 +160,10 @@ lu z|+?|unread
 luz|luz|luZ (luz) 0 (singular)
 END
 head -n 3 words | ends 0 "$headwords" read "$root/grammars/spanish.txt"
+tells <<'END'
+capitals folded in 1 word; accents joined with their letters in 2 words; byte order mark dropped
+END
+head -n 3 words | ends 0 "$headwords" read -q "$root/grammars/spanish.txt"
 [ ! -s told ]
 yes k | head -n 30 | ends 0 "$headwords" read "$luz"
 [ "$(grep -c '^standard input:[0-9]*: unread' told)" -eq 20 ]

@@ -43,7 +43,7 @@ first entry's gloss; where that is not in words, its form. A word without a read
   WORD<TAB>+...<TAB>more 64   after 64 readings, where there are more (--most)
 
 Capitals that are no letters themselves are folded, accents that stand by themselves are joined with their letters, a byte
-order mark is dropped; the summary on standard error says in how many words.
+order mark is dropped; in how many words is told on standard error.
 The columns of --tsv are word, outcome, headword, forms, glosses (divided by |), pairing; and entry numbers, pair numbers.
 The status is 0, though words have no reading; 1 where something cannot be read or written or the grammar is refused.
 ",

@@ -164,13 +164,12 @@ impl<'a> Teller<'a> {
         if tally.unread > MOST_TOLD {
             tell(&format!("{} more are unread\n", words(tally.unread - MOST_TOLD)));
         }
-        let wanted = match self.settings.summary {
-            Summary::Every => true,
-            Summary::Long => tally.words > SHORT,
-            Summary::Never => false,
-        };
-        if wanted {
-            tell(&tally.summary(self.progress.took()));
+        let is_short = tally.words <= SHORT;
+        match self.settings.summary {
+            Summary::Never => {}
+            // What was done to words is told of a single word too.
+            Summary::Long if is_short => tally.handled().iter().for_each(|handled| tell(&format!("{handled}\n"))),
+            Summary::Long | Summary::Every => tell(&tally.summary(self.progress.took())),
         }
     }
 }
