@@ -294,6 +294,10 @@ END
 tells <<'END'
 headwords: b: the entries can be linked in over 2 ways; --most N tries N
 END
+ends 0 "$headwords" forms --most 1 "$luz" luz
+tells <<'END'
+headwords: luz: stopped after 1 path, and there are more; --most N tries N
+END
 "$root/bench/hostile_text" equal >equal.txt
 ends 0 timeout 20 "$headwords" forms equal.txt a
 tells <<'END'

@@ -129,17 +129,15 @@ impl Walk<'_> {
     }
 
     fn end(&mut self, headword: &str, most: usize) -> Result<(), Failure> {
-        let tried = most - self.paths_left;
+        let tried = paths(most - self.paths_left);
         if self.is_cut && self.paths_left == 0 {
-            failed(&format!("{headword}: stopped after {tried} paths, and there are more; --most N tries N"));
+            failed(&format!("{headword}: stopped after {tried}, and there are more; --most N tries N"));
         } else if self.is_cut {
             let entries = most.saturating_mul(STEPS);
-            failed(&format!(
-                "{headword}: stopped after {entries} entries and {tried} paths; --most N tries {STEPS} N and N"
-            ));
+            failed(&format!("{headword}: stopped after {entries} entries and {tried}; --most N tries {STEPS} N and N"));
         }
         if self.short > 0 {
-            let paths = if self.short == 1 { "1 path".to_string() } else { format!("{} paths", self.short) };
+            let paths = paths(self.short);
             failed(&format!(
                 "{headword}: {paths} with over {MOST_WRITTEN} written forms, of which the first are printed"
             ));
@@ -151,4 +149,9 @@ impl Walk<'_> {
         self.out.push(b'\n');
         put_out(&mut self.out)
     }
+}
+
+/// `1 path`, `2 paths`
+fn paths(count: usize) -> String {
+    format!("{count} path{}", if count == 1 { "" } else { "s" })
 }
