@@ -30,7 +30,7 @@ END
 }
 luz=(luzes luces lu luce lucesu luzeu lus LUZ Luzes luzé 'l#z' l0z @ k " luz " "" lllllllllllllllllllllllllllllllll)
 explains grammars/luz.txt luz "${luz[@]}"
-explains grammars/spanish.txt spanish luzes regiónes $'regio\u0301nes' lapizes jovenex casaes cas xilófon bloces blocues Zona ÀRBOL ä ǧato mañanita
+explains grammars/spanish.txt spanish luzes regiónes $'regio\314\201nes' lapizes jovenex casaes cas xilófon bloces blocues Zona ÀRBOL ä ǧato mañanita
 explains grammars/quichua.txt quichua tarpurqan wañuq aaawan ayqichi Ǧa Rimani tarpumunpi aamun
 echo "why: as stored, in words and as JSON"
 
@@ -59,7 +59,14 @@ for name in $(bench/hostile_text | grep -vx mindful); do
     grep -q ': no reading$' "$work/said"
 done
 bench/hostile_text mindful >"$work/hostile.txt"
-timeout 60 "$headwords" why "$work/hostile.txt" "$(bench/hostile_text mindful word)" 2>"$work/told" | grep -q ': the library has not answered within 10 seconds'
+word=$(bench/hostile_text mindful word)
+# by this one the answer comes at once, and those without a rule do not
+awk '/^LEXICON/ { print "RULE \"no front\" 1 2\n# @\n# @\n1. 0 1" } { print }' "$work/hostile.txt" >"$work/front.txt"
+timeout 60 "$headwords" why --json "$work/front.txt" "$word" >"$work/front.json" &
+front=$!
+timeout 60 "$headwords" why "$work/hostile.txt" "$word" 2>"$work/told" | grep -q ': the library has not answered within 10 seconds'
+wait "$front"
+grep -q '"outcome":"none","reason":"the library has not answered within 10 seconds, so that not every rule was left out in turn"' "$work/front.json"
 echo "why: every hostile grammar is answered in time"
 
 diff <("$headwords" show grammars/quichua.txt) <(sed -n 's/^RULE "\(.*\)".*/\1/p' grammars/quichua.txt | awk '{ print NR - 1 "\t" $0 }')

@@ -12,6 +12,7 @@ luz=$root/grammars/luz.txt
 work=$(mktemp -d)
 trap 'rm -rf "$work"' EXIT
 cc -shared -fPIC -O1 -Wall -Wextra -Werror -o "$work/failing.so" tests/failing_read.c
+cc -shared -fPIC -O1 -Wall -Wextra -Werror -o "$work/threads.so" tests/few_threads.c -ldl
 cd "$work"
 export LC_ALL=C.UTF-8
 
@@ -54,6 +55,7 @@ lllllllllllllllllllllllllllllllll	+?	refused 9
 END
 tells <<'END'
 argument 5: unread: k (U+006B) is no letter of a word
+capitals folded in 2 words
 END
 ends 0 "$headwords" read --numbers "$luz" -- luces
 prints <<'END'
@@ -158,6 +160,10 @@ lu z|+?|unread
 luz|luz|luZ (luz) 0 (singular)
 END
 head -n 3 words | ends 0 "$headwords" read "$root/grammars/spanish.txt"
+tells <<'END'
+capitals folded in 1 word; accents joined with their letters in 2 words; byte order mark dropped
+END
+head -n 3 words | ends 0 "$headwords" read -q "$root/grammars/spanish.txt"
 [ ! -s told ]
 yes k | head -n 30 | ends 0 "$headwords" read "$luz"
 [ "$(grep -c '^standard input:[0-9]*: unread' told)" -eq 20 ]
@@ -198,6 +204,18 @@ awk -F '\t' '/\t/ && $1 != last || /^$/ { if (NF) print $1; last = NF ? $1 : "" 
 ends 0 "$headwords" read -q spanish.img <many
 [ "$(cksum <printed)" = "$(cut -d ' ' -f 1,2 sums | head -n 1)" ]
 [ ! -s told ]
+# with fewer threads than are wanted all the same; with none it is told
+for threads in 2 3; do
+    ends 0 env LD_PRELOAD=./threads.so THREADS="$threads" "$headwords" read -q --jobs 8 spanish.img --file many
+    [ "$(cksum <printed)" = "$(cut -d ' ' -f 1,2 sums | head -n 1)" ]
+done
+for threads in 0 1; do
+    ends 1 env LD_PRELOAD=./threads.so THREADS="$threads" "$headwords" read -q spanish.img --file many
+    grep -q '^headwords: no thread can be had: ' told
+    [ ! -s printed ]
+done
+ends 0 env LD_PRELOAD=./threads.so THREADS=0 "$headwords" why "$luz" luzes
+"$headwords" why "$luz" luzes | prints
 echo "100,000 words: in order, by any number of jobs"
 
 # entries to written forms
@@ -259,6 +277,42 @@ sed '/^$/d' printed | sort >forms
 cut -f 1 forms | sort -u | "$headwords" read -q quichua.img >readings
 [ "$(wc -l <forms)" -gt 50 ]
 [ -z "$(sort readings | comm -13 - forms)" ]
+# a path with very many forms, entries that are alike, and those that lead to no end: nothing is dropped without a word
+printf '%s\n' 'BOUNDARY #' 'NULL 0' 'ANY @' 'ALPHABET a b c' 'PAIRS a:a a:b a:c' 'LEXICON Root' 'aaaa # "many"' 'b #  "one"' 'b #  "two"' 'b #  "three"' END | sed 's/^PAIRS.*/& b:b/' >alike.txt
+ends 0 "$headwords" forms alike.txt many
+[ "$(grep -c many printed)" -eq 64 ]
+tells <<'END'
+headwords: many: 1 path with over 64 written forms, of which the first are printed
+END
+ends 0 "$headwords" generate --most 2 alike.txt b
+prints <<'END'
+b	one	b (one)	b:b
+b	two	b (two)	b:b
+b	+...	more 2
+
+END
+tells <<'END'
+headwords: b: the entries can be linked in over 2 ways; --most N tries N
+END
+ends 0 "$headwords" forms --most 1 "$luz" luz
+tells <<'END'
+headwords: luz: stopped after 1 path, and there are more; --most N tries N
+END
+"$root/bench/hostile_text" equal >equal.txt
+ends 0 timeout 20 "$headwords" forms equal.txt a
+tells <<'END'
+headwords: a: stopped after 100000 entries and 0 paths; --most N tries 100 N and N
+END
+# shellcheck disable=SC2046
+ends 1 timeout 20 "$headwords" generate equal.txt $(yes a | head -n 16)
+tells <<'END'
+headwords: refused 12: the word does not end after a: lexicon Circle follows
+END
+yes a | head -n 32000 | tr '\n' ' ' >path
+ends 1 "$headwords" generate equal.txt --file path
+tells <<'END'
+path:1: refused 11: path of 0 or over 16 entries, or an odd count of bytes
+END
 echo "generate and forms: as stored, and read back"
 
 # a weekly change
@@ -285,6 +339,27 @@ ends 0 "$headwords" compare "$luz" moved.txt - <words
 [ ! -s printed ]
 ends 0 "$headwords" compare -q spanish.img "$root/grammars/spanish.txt" spanish.txt
 [ ! -s printed ] && [ ! -s told ]
+# an image without its names, beside one that has them
+cp luz.img bare.img
+ends 0 "$headwords" compare bare.img luz.img words
+[ ! -s printed ] && grep -qx 'headwords: bare.img has no names beside it; compared is without names and glosses in words' told
+ends 1 "$headwords" compare new.txt bare.img words
+diff printed - <<'END'
+changed	+	luces	luc	luc +es	l:l u:u c:c +:0 e:e s:s
+gained	+	luc	luc	luc 0	l:l u:u c:c
+lost	-	ceces	ceZ	ceZ +es	c:c e:e Z:c +:0 e:e s:s
+END
+# a gloss that is a number stays one, though it may be the entry's own
+sed 's/"luz"/7/; s/"luc"/1/' "$luz" >seven.txt
+sed 's/"luz"/7/; s/"luc"/1/' moved.txt >moved_seven.txt
+ends 0 "$headwords" compare -q seven.txt moved_seven.txt words
+ends 0 "$headwords" read --tsv seven.txt luc
+prints <<'END'
+luc	all	luc	luc 0	1|singular	l:l u:u c:c
+END
+"$headwords" assemble seven.txt seven.img
+"$headwords" read --tsv seven.img luc | prints
+"$headwords" text seven.img | diff - <("$headwords" text seven.txt)
 ends 2 "$headwords" compare "$luz" none.txt words
 ends 2 "$headwords" compare "$luz" new.txt none
 ends 2 "$headwords" compare "$luz"
@@ -353,6 +428,15 @@ grep -qx 'Takes the listing: ________________' printed
 [ "$(sed -n '/^### Over 1 readings: 1$/,/^## /p' printed | grep '^    ')" = "    luces" ]
 echo "sheet: as stored"
 
+# what begins with - and is no option; files with blanks in their names, and with bytes that are not UTF-8
+ends 0 "$headwords" read -q "$luz" -- -luz
+ends 2 "$headwords" read "$luz" -luz
+grep -qx 'headwords read: there is no option -luz; what begins with - and is no option stands after --' told
+odd=$(printf 'a b\377')
+cp words "$odd"
+ends 0 "$headwords" read "$luz" --file="$odd" --file "$odd"
+[ "$(grep -c '^luz	' printed)" -eq 2 ]
+
 # what is missing, refused or cannot be used: words, and a status
 head -c 512 luz.img >part.img
 ends 1 "$headwords" read none.txt luz
@@ -384,6 +468,14 @@ for arguments in "generate $luz luZ +es" "forms $luz luz" "sheet $luz words" "re
     "$headwords" $arguments >/dev/full 2>told || status=$?
     [ "$status" -eq 1 ] && grep -q '^standard output: No space left on device' told
 done
+for arguments in "read $luz luz" "check $luz"; do
+    status=0
+    # shellcheck disable=SC2086
+    "$headwords" $arguments 1<words 2>told || status=$?
+    [ "$status" -eq 1 ] && grep -q '^standard output: Bad file descriptor' told
+done
+ends 1 "$headwords" read "$luz" 0>written
+grep -q '^headwords: standard input: Bad file descriptor' told
 echo "what fails: told, with a status"
 
 # reads and writes that stop short, are interrupted or fail
@@ -391,7 +483,7 @@ ends 0 "$headwords" read spanish.img <spanish.txt
 mv printed right
 under() {
     local status=0
-    env LD_PRELOAD="$work/failing.so" "${@:2}" "$headwords" read -q --jobs 2 spanish.img <spanish.txt >printed 2>told || status=$?
+    env LD_PRELOAD=./failing.so "${@:2}" "$headwords" read -q --jobs 2 spanish.img <spanish.txt >printed 2>told || status=$?
     [ "$status" -eq "$1" ] && cmp -n "$(wc -c <printed)" printed right || { cat told; echo "${*:2}: status $status, not $1"; exit 1; }
 }
 for variables in "READ_OF=- READ_SHORT=7" "READ_OF=- READ_INTERRUPTED=1" WRITE_SHORT=1000 WRITE_INTERRUPTED=1 "READ_OF=spanish.img READ_SHORT=100"; do

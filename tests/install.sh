@@ -3,7 +3,8 @@
 # library, header, package and libraries tell one version, only the header's calls are exported, and make uninstall leaves nothing.
 set -eu
 cd "$(dirname "$0")/.."
-work=$(mktemp -d)
+# no PREFIX has blanks in it, as a folder for what is temporary may
+work=$(TMPDIR=/tmp mktemp -d)
 trap 'rm -rf "$work"' EXIT
 image=crates/check_image/data/grammar.img
 prefix=$work/usr

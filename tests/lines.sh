@@ -50,7 +50,7 @@ echo "a standard output that closes: ends"
 # told WORDS VARIABLE=VALUE...: under these failures it prints the stored answers to the stored input, or the first bytes of them, and tells the words
 cc -shared -fPIC -O1 -Wall -Wextra -Werror -o failing.so "$root/tests/failing_read.c"
 told() {
-    env LD_PRELOAD="$work/failing.so" "${@:2}" "$root/target/bin/lines" <"$root/crates/lines/stdin" >printed 2>errors
+    env LD_PRELOAD=./failing.so "${@:2}" "$root/target/bin/lines" <"$root/crates/lines/stdin" >printed 2>errors
     cmp -n "$(wc -c <printed)" printed "$root/crates/lines/stdout"
     [ "$(cat errors)" = "$1" ] || { cat errors; return 1; }
 }
@@ -74,7 +74,7 @@ echo "reads and writes that stop short or are interrupted: all is printed; that 
 cat grammar.img grammar.img >both
 mv both grammar.img
 for after in 0 1 3072 6143 6144; do
-    got=$(env LD_PRELOAD="$work/failing.so" READ_OF=grammar.img READ_FAILS_AFTER=$after "$root/target/bin/lines" <"$root/crates/lines/stdin" 2>errors | sort -u)
+    got=$(env LD_PRELOAD=./failing.so READ_OF=grammar.img READ_FAILS_AFTER=$after "$root/target/bin/lines" <"$root/crates/lines/stdin" 2>errors | sort -u)
     [ "$got" = "refused 1" ]
     [ "$(cat errors)" = "grammar.img: Input/output error" ]
 done

@@ -182,7 +182,7 @@ printf 'Luces\n\nárbol\nluZ+es\nluz' >words
 "$headwords" spell grammar.img <words >right 2>/dev/null
 under() {
     local status=0
-    env LD_PRELOAD="$work/failing.so" "${@:3}" "$headwords" spell grammar.img <words >printed 2>told || status=$?
+    env LD_PRELOAD=./failing.so "${@:3}" "$headwords" spell grammar.img <words >printed 2>told || status=$?
     sed -i '/: unread: /d' told
     cmp -n "$(wc -c <printed)" printed right
     [ "$status" -eq "$1" ] && [ "$(cut -d '(' -f 1 told)" = "$2" ] || { cat told; echo "${*:3}: status $status, not $1"; exit 1; }

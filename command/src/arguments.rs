@@ -4,6 +4,7 @@ use crate::commands::Command;
 use crate::failure::Failure;
 use crate::nearest::{is_meant, nearest};
 use std::ffi::{OsStr, OsString};
+use std::os::unix::ffi::OsStrExt;
 
 /// An option that a command takes.
 #[derive(Clone, Copy, Debug)]
@@ -74,16 +75,14 @@ fn read_option<'a>(
     command: &Command,
     rest: &mut impl Iterator<Item = &'a OsString>,
 ) -> Result<(&'static str, OsString), Failure> {
-    let Some(text) = argument.to_str() else {
-        return Err(Failure::Usage(format!("there is no option {}", argument.display())));
+    let bytes = argument.as_encoded_bytes();
+    let (name, value) = match bytes.iter().position(|&byte| byte == b'=') {
+        Some(at) => (&bytes[..at], Some(OsStr::from_bytes(&bytes[at + 1..]).to_os_string())),
+        None => (bytes, None),
     };
-    let (name, value) = match text.split_once('=') {
-        Some((name, value)) => (name, Some(OsString::from(value))),
-        None => (text, None),
-    };
+    let name = String::from_utf8_lossy(name);
     let Some(choice) = command.options.iter().find(|choice| choice.name == name) else {
-        let names = command.options.iter().map(|choice| choice.name);
-        return Err(Failure::Usage(format!("there is no option {name}{}", is_meant(nearest(name, names)))));
+        return Err(Failure::Usage(no_option(&name, command)));
     };
     match (choice.value, value) {
         (None, None) => Ok((choice.name, OsString::new())),
@@ -94,6 +93,15 @@ fn read_option<'a>(
             None => Err(Failure::Usage(format!("{name} takes a value, {name} {what}"))),
         },
     }
+}
+
+fn no_option(name: &str, command: &Command) -> String {
+    let near = nearest(name, command.options.iter().map(|choice| choice.name));
+    let hint = match near {
+        None if !name.starts_with("--") => "; what begins with - and is no option stands after --".to_string(),
+        near => is_meant(near),
+    };
+    format!("there is no option {name}{hint}")
 }
 
 fn check_count(given: &Given, command: &Command) -> Result<(), Failure> {

@@ -1,7 +1,9 @@
 //! How a command ends where it does not end well: its status, and its words on standard error.
 
 use crate::text::{Fault, Faults};
+use std::fs::File;
 use std::io::{self, ErrorKind, Write};
+use std::os::fd::AsFd;
 use std::path::Path;
 
 /// Why a command ended otherwise than well.
@@ -50,7 +52,7 @@ fn tell_some(file: &Path, faults: &[Fault], kind: &str) {
 }
 
 /// A reader that has seen enough closes the pipe; that needs no words.
-pub fn output_failed(error: io::Error) -> Failure {
+fn output_failed(error: io::Error) -> Failure {
     if error.kind() != ErrorKind::BrokenPipe {
         tell(&format!("standard output: {error}\n"));
     }
@@ -59,8 +61,21 @@ pub fn output_failed(error: io::Error) -> Failure {
 
 /// Prints a text that is ready as a whole.
 pub fn print(text: &str) -> Result<(), Failure> {
+    put(text.as_bytes())
+}
+
+/// Writes to standard output at once, so that nobody waits for what is there.
+pub fn put(bytes: &[u8]) -> Result<(), Failure> {
+    if bytes.is_empty() {
+        return Ok(());
+    }
     let mut output = io::stdout().lock();
-    output.write_all(text.as_bytes()).and_then(|()| output.flush()).map_err(output_failed)
+    takes_writes().and_then(|()| output.write_all(bytes)).and_then(|()| output.flush()).map_err(output_failed)
+}
+
+/// A write of nothing fails where standard output may only be read, which Rust's own writes pass over.
+fn takes_writes() -> io::Result<()> {
+    File::from(io::stdout().as_fd().try_clone_to_owned()?).write(&[]).map(drop)
 }
 
 /// With standard error closed there is nobody to tell.

@@ -20,6 +20,12 @@ pub struct Loaded {
 }
 
 impl Loaded {
+    /// Leaves what the image alone says.
+    pub fn forget_names(&mut self) {
+        self.grammar = decode(&self.image);
+        self.named = false;
+    }
+
     /// How much of what it holds, in the order in which that is told.
     pub fn counts(&self) -> [(&'static str, usize); 7] {
         let grammar = &self.grammar;

@@ -6,6 +6,7 @@ use crate::text::limits;
 use crate::text::lines::{decode, number, one_character, split, Line, Word};
 use crate::text::sections::Keyword;
 use crate::text::{Fault, Grammar};
+use std::collections::HashSet;
 use std::path::{Path, PathBuf};
 
 /// `IMAGE.names`, beside the file itself where the image is a link to it.
@@ -52,6 +53,9 @@ pub fn name_grammar(grammar: &mut Grammar, image: &[u8], bytes: &[u8]) -> Result
         read_line(&mut names, line)?;
     }
     let sum = checksum(image).to_string();
+    if names.sum.is_empty() {
+        return Err(Fault::new(0, "CKSUM is missing"));
+    }
     if names.sum != sum {
         let what = format!("names of another image: its cksum is {}, and this image's {sum}", names.sum);
         return Err(Fault::new(0, what));
@@ -115,10 +119,16 @@ fn check_names(names: &[&str], is_taken: impl Fn(&str) -> bool) -> Result<(), St
 fn check_glosses(names: &Names, grammar: &Grammar) -> Result<(), String> {
     let entries = grammar.entries();
     let has_own = |number: usize| entries.get(number).is_some_and(|(_, entry)| usize::from(entry.gloss) == number);
-    match names.glosses.iter().find(|&&(number, _)| !has_own(number)) {
-        Some((number, _)) => Err(format!("there is no entry {number} with a gloss in words")),
-        None => Ok(()),
+    let mut seen = HashSet::new();
+    for &(number, _) in &names.glosses {
+        if !has_own(number) {
+            return Err(format!("there is no entry {number} with a gloss in words"));
+        }
+        if !seen.insert(number) {
+            return Err(format!("entry {number} has two glosses"));
+        }
     }
+    Ok(())
 }
 
 fn give(names: Names, grammar: &mut Grammar) {

@@ -38,7 +38,8 @@ impl Names {
         let entries = entries.map(|(number, (_, entry))| {
             let form = grammar.show_form(&entry.form);
             let in_words = Some(entry.gloss_text.clone()).filter(|text| !text.is_empty());
-            let headword = in_words.clone().unwrap_or_else(|| form.clone());
+            let is_number = |text: &String| *text == entry.gloss.to_string();
+            let headword = in_words.clone().filter(|text| !is_number(text)).unwrap_or_else(|| form.clone());
             // An entry without a gloss has its own number for one, which says nothing.
             let in_number = (usize::from(entry.gloss) != number).then(|| entry.gloss.to_string());
             EntryName { form, gloss: in_words.or(in_number), headword }

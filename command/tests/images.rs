@@ -133,9 +133,9 @@ fn the_null_and_any_are_no_letters() {
 fn names_that_are_not_the_images_own_are_told_and_not_used() {
     let folder = folder_of("images-names", "quichua");
     let right = fs::read_to_string(folder.join("grammar.img.names")).unwrap();
-    let edits: [(&str, &str, &str); 14] = [
+    let edits: [(&str, &str, &str); 15] = [
         ("CKSUM 4239684411", "CKSUM 1", "0: names of another image: its cksum is 1, and this image's 4239684411"),
-        ("CKSUM 4239684411\n", "", "0: names of another image: its cksum is , and this image's 4239684411"),
+        ("CKSUM 4239684411\n", "", "0: CKSUM is missing"),
         ("NULL 0\n", "", "0: NULL or ANY is missing, or is not one character"),
         ("ANY @", "ANY @@", "0: NULL or ANY is missing, or is not one character"),
         ("ANY @", "ANY 0", "0: NULL or ANY is a letter, or they are the same"),
@@ -147,6 +147,7 @@ fn names_that_are_not_the_images_own_are_told_and_not_used() {
         ("SUBSET Ftr\n", "SUBSET RULE\n", "0: RULE cannot be the name of set or lexicon 0"),
         ("SUBSET Ftr\n", "SUBSET Ftr y\n", "5: this names nothing"),
         ("SUBSET Ftr\n", "SUBSET \"Ftr\n", "5: a quotation mark without its partner in the same line"),
+        ("GLOSS 1 ", "GLOSS 0 ", "0: entry 0 has two glosses"),
         ("GLOSS 0 ", "GLOSS 3000 ", "0: there is no entry 3000 with a gloss in words"),
     ];
     for (from, to, told) in edits {

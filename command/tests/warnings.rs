@@ -175,6 +175,19 @@ fn a_rule_that_no_word_can_pass() {
     assert_eq!(told_of("LEXICON Noun\n", rule), [(line_of("LEXICON Noun"), what.to_string())]);
 }
 
+/// A word has a letter or more, so that one that is refused at its first pair, or may only end before it, is none.
+#[test]
+fn a_rule_that_only_no_letters_pass() {
+    for (rows, what) in [
+        ("1 2\n # @\n # @\n 1: 1 0", "refuses every pair"),
+        ("3 2\n # @\n # @\n 1. 2 0\n 2: 2 3\n 3. 3 3", "comes to no final state at the end of a word"),
+    ] {
+        let rule = format!("RULE \"end\" {rows}\nLEXICON Noun\n");
+        let what = format!("rule \"end\" {what}: no word has a reading");
+        assert_eq!(told_of("LEXICON Noun\n", &rule), [(line_of("LEXICON Noun"), what)]);
+    }
+}
+
 #[test]
 fn a_column_that_a_narrower_one_hides() {
     // Z:@ matches Z:c and Z:z, and each has a column of its own.

@@ -3,7 +3,7 @@
 use crate::arguments::Given;
 use crate::commands::read::put_out;
 use crate::commands::Command;
-use crate::failure::{tell, Failure};
+use crate::failure::{failed, tell, Failure};
 use crate::layout::Plain;
 use crate::library::{Reply, ROW};
 use crate::loaded::{load, Loaded};
@@ -20,7 +20,8 @@ pub const COMMAND: Command = Command {
     options: &[words::MOST, words::JOBS, words::QUIET, words::Q],
     more: "\
 OLD and NEW are grammars, WORDS a file of words, a line each; - or nothing is standard input. Readings are compared by what they
-say, headword, entries with glosses and pairing, and not by number or order. A line is printed for each reading that one of them
+say, headword, entries with glosses and pairing, and not by number or order; where one is an image without its names, that is
+told, and glosses in words are not compared. A line is printed for each reading that one of them
 has: gained, lost or changed, + for NEW and - for OLD, the word, its headword, the entries with their glosses, the pairing. A
 word that had no reading has gained, one that has none any more has lost, another has changed.
 The status is that of diff: 0 where no word did, 1 where one did, 2 where something cannot be read or written or is refused.
@@ -79,7 +80,8 @@ impl Compared {
 }
 
 fn compare(given: &Given, settings: &Settings) -> Result<Compared, Failure> {
-    let (old, new) = (load(Path::new(&given.operands[0]))?, load(Path::new(&given.operands[1]))?);
+    let (mut old, mut new) = (load(Path::new(&given.operands[0]))?, load(Path::new(&given.operands[1]))?);
+    compare_alike(&mut old, &mut new);
     let file = given.operands.get(2).map(|file| file.as_os_str());
     let sources = words::open(&[], file.as_slice())?;
     let letters = [&old, &new].map(|side| Letters::new(&side.image, &side.grammar));
@@ -105,6 +107,17 @@ fn compare(given: &Given, settings: &Settings) -> Result<Compared, Failure> {
         put_out(out)
     })?;
     Ok(compared)
+}
+
+/// Where only one of two grammars has its names, both are compared without: else every word would have changed.
+fn compare_alike(old: &mut Loaded, new: &mut Loaded) {
+    let (named, bare) = match (old.named, new.named) {
+        (true, false) => (old, new),
+        (false, true) => (new, old),
+        _ => return,
+    };
+    named.forget_names();
+    failed(&format!("{} has no names beside it; compared is without names and glosses in words", bare.path.display()));
 }
 
 /// The readings of a batch's words by one grammar, a line each.

@@ -5,6 +5,7 @@ use crate::commands::read::{put_out, NUMBERS};
 use crate::commands::Command;
 use crate::failure::{failed, tell, Failure};
 use crate::layout::put_field;
+use crate::library::Reply;
 use crate::loaded::load;
 use crate::nearest::{is_meant, nearest};
 use crate::paths::{Links, Writer, MOST_ENTRIES};
@@ -13,7 +14,7 @@ use std::path::Path;
 
 const MOST: Choice = Choice { name: "--most", value: Some("N"), what: "the most paths of a headword; else 1000" };
 const MOST_PATHS: usize = 1000;
-/// Entries looked at for each path that may be tried: a lexicon that leads nowhere has an end too.
+/// Entries looked at for each path that may be tried, so that lexicons that lead to no end do not keep it for ever.
 const STEPS: usize = 100;
 const MOST_WRITTEN: usize = 64;
 
@@ -27,7 +28,8 @@ pub const COMMAND: Command = Command {
 A headword is the gloss, or the form, of an entry that words begin with. Every path of at most 16 entries from there to the end
 of a word is tried, and a line a written form is printed: the word, its headword, the entries with their glosses, the pairing;
 and an empty line after each headword. One without a form gets HEADWORD<TAB>+?. Where the paths are more than --most, the first
-of them are tried, and that is told. A headword that is not there is told, and gives status 1.
+of them are tried, and that is told; of a path with over 64 written forms the first are printed, and that is told too. A headword
+that is not there is told, and gives status 1.
 ",
     run,
 };
@@ -49,6 +51,7 @@ fn run(given: &Given) -> Result<(), Failure> {
             out: Vec::new(),
             is_written: false,
             is_cut: false,
+            short: 0,
         };
         for &entry in &first {
             walk.follow(&mut vec![entry])?;
@@ -57,10 +60,7 @@ fn run(given: &Given) -> Result<(), Failure> {
             tell_missing(&names, &links, &headword);
             is_well = false;
         }
-        if walk.is_cut {
-            failed(&format!("{headword}: stopped after {most} paths, and there are more; --most N tries N"));
-        }
-        walk.end(&headword)?;
+        walk.end(&headword, most)?;
     }
     if is_well {
         Ok(())
@@ -95,6 +95,8 @@ struct Walk<'a> {
     out: Vec<u8>,
     is_written: bool,
     is_cut: bool,
+    /// Paths with more written forms than are printed.
+    short: usize,
 }
 
 /// Lines are handed over when there are as many bytes.
@@ -111,7 +113,9 @@ impl Walk<'_> {
         self.steps_left -= 1;
         if ends {
             self.paths_left -= 1;
-            self.is_written |= self.writer.put(path, &mut self.out).rows() > 0;
+            let reply = self.writer.put(path, &mut self.out);
+            self.is_written |= reply.rows() > 0;
+            self.short += usize::from(matches!(reply, Reply::More(_)));
             return if self.out.len() > FULL { put_out(&mut self.out) } else { Ok(()) };
         }
         if path.len() < MOST_ENTRIES {
@@ -124,7 +128,20 @@ impl Walk<'_> {
         Ok(())
     }
 
-    fn end(&mut self, headword: &str) -> Result<(), Failure> {
+    fn end(&mut self, headword: &str, most: usize) -> Result<(), Failure> {
+        let tried = paths(most - self.paths_left);
+        if self.is_cut && self.paths_left == 0 {
+            failed(&format!("{headword}: stopped after {tried}, and there are more; --most N tries N"));
+        } else if self.is_cut {
+            let entries = most.saturating_mul(STEPS);
+            failed(&format!("{headword}: stopped after {entries} entries and {tried}; --most N tries {STEPS} N and N"));
+        }
+        if self.short > 0 {
+            let paths = paths(self.short);
+            failed(&format!(
+                "{headword}: {paths} with over {MOST_WRITTEN} written forms, of which the first are printed"
+            ));
+        }
         if !self.is_written {
             put_field(headword.as_bytes(), &mut self.out);
             self.out.extend_from_slice(b"\t+?\n");
@@ -132,4 +149,9 @@ impl Walk<'_> {
         self.out.push(b'\n');
         put_out(&mut self.out)
     }
+}
+
+/// `1 path`, `2 paths`
+fn paths(count: usize) -> String {
+    format!("{count} path{}", if count == 1 { "" } else { "s" })
 }

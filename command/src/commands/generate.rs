@@ -3,19 +3,24 @@
 use crate::arguments::{Choice, Given};
 use crate::commands::read::{put_out, NUMBERS};
 use crate::commands::Command;
-use crate::failure::{tell, Failure};
+use crate::failure::{failed, tell, Failure};
 use crate::layout::{outcome, put_field};
 use crate::library::Reply;
 use crate::loaded::load;
 use crate::paths::{Entries, Links, Writer};
 use crate::readings::Names;
+use crate::refusals;
 use crate::words::{self, Line, Outcome, Pieces, Source, SourceName};
 use std::ffi::OsString;
 use std::path::Path;
 
 pub const FILE: Choice =
     Choice { name: "--file", value: Some("FILE"), what: "paths from a file, a line each; - is standard input" };
-pub const MOST: Choice = Choice { name: "--most", value: Some("N"), what: "the most forms of a path; else 64" };
+pub const MOST: Choice = Choice {
+    name: "--most",
+    value: Some("N"),
+    what: "the most forms of a path, and ways to link its entries; else 64",
+};
 const MOST_FORMS: usize = 64;
 
 pub const COMMAND: Command = Command {
@@ -77,7 +82,7 @@ impl Generator<'_> {
     fn all(&mut self, sources: Vec<Source>) -> Result<(), Failure> {
         let names: Vec<SourceName> = sources.iter().map(|source| source.name.clone()).collect();
         let mut pieces = Pieces::new(sources);
-        while let Some(piece) = pieces.next().map_err(|what| crate::failure::failed(&what))? {
+        while let Some(piece) = pieces.next().map_err(|what| failed(&what))? {
             for line in piece.lines() {
                 self.line(&line, &names[piece.source]);
                 put_out(&mut self.out)?;
@@ -116,8 +121,12 @@ impl Generator<'_> {
 
     /// The forms of every way to link the entries. Where there is none, the library says what it refuses.
     fn path(&mut self, text: &str, places: &[Vec<usize>], place: &str) -> Reply {
-        let paths = self.entries.linked(places, self.most);
-        if paths.len() > 1 {
+        let mut paths = self.entries.linked(places, self.most.saturating_add(1));
+        let is_cut = paths.len() > self.most;
+        paths.truncate(self.most);
+        if is_cut {
+            tell(&format!("{place}: {text}: the entries can be linked in over {} ways; --most N tries N\n", self.most));
+        } else if paths.len() > 1 {
             tell(&format!("{place}: {text}: the entries can be linked in {} ways\n", paths.len()));
         }
         if paths.is_empty() {
@@ -126,13 +135,13 @@ impl Generator<'_> {
             if reply == Reply::Refused(12) {
                 tell(&format!("{place}: refused 12: {}\n", self.entries.not_linked(places)));
             } else if let Reply::Refused(number) = reply {
-                tell(&format!("{place}: {}\n", crate::refusals::told(number)));
+                tell(&format!("{place}: {}\n", refusals::told(number)));
             }
             return reply;
         }
         let replies: Vec<Reply> = paths.iter().map(|path| self.writer.put(path, &mut self.out)).collect();
         let count = replies.iter().map(|reply| reply.rows()).sum();
-        match replies.iter().any(|reply| matches!(reply, Reply::More(_))) {
+        match is_cut || replies.iter().any(|reply| matches!(reply, Reply::More(_))) {
             true => Reply::More(count),
             false if count > 0 => Reply::All(count),
             false => Reply::None,

@@ -2,12 +2,11 @@
 
 use crate::arguments::{Choice, Given};
 use crate::commands::Command;
-use crate::failure::{output_failed, print, Failure};
+use crate::failure::{print, put, Failure};
 use crate::layout::{Json, Layout, Plain, Tsv};
 use crate::loaded::load;
 use crate::readings::Names;
 use crate::words::{self, work_through, Asker, Letters, Piece, Portion, Settings};
-use std::io::{self, Write};
 use std::path::Path;
 
 const TSV: Choice = Choice { name: "--tsv", value: None, what: "columns divided by tabs, the same for every word" };
@@ -44,7 +43,7 @@ first entry's gloss; where that is not in words, its form. A word without a read
   WORD<TAB>+...<TAB>more 64   after 64 readings, where there are more (--most)
 
 Capitals that are no letters themselves are folded, accents that stand by themselves are joined with their letters, a byte
-order mark is dropped; the summary on standard error says in how many words.
+order mark is dropped; in how many words is told on standard error.
 The columns of --tsv are word, outcome, headword, forms, glosses (divided by |), pairing; and entry numbers, pair numbers.
 The status is 0, though words have no reading; 1 where something cannot be read or written or the grammar is refused.
 ",
@@ -94,10 +93,9 @@ fn layout(given: &Given, names: &Names) -> Result<Box<dyn Layout>, Failure> {
     Ok(Box::new(tsv))
 }
 
-/// Writes what was made of a batch at once, so that nobody waits for an answer that is there.
+/// Writes what was made of a batch, which is then to be made anew.
 pub fn put_out(made: &mut Vec<u8>) -> Result<(), Failure> {
-    let mut output = io::stdout().lock();
-    output.write_all(made).and_then(|()| output.flush()).map_err(output_failed)?;
+    put(made)?;
     made.clear();
     Ok(())
 }

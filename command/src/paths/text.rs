@@ -1,8 +1,10 @@
 //! A path as text: its entries, each by its form, by form and gloss as readings show it, or by number.
 
 use super::links::Links;
+use super::MOST_ENTRIES;
 use crate::nearest::{is_meant, nearest};
 use crate::readings::Names;
+use crate::text::lines::BLANKS;
 use std::collections::HashMap;
 
 pub struct Entries<'a> {
@@ -10,8 +12,6 @@ pub struct Entries<'a> {
     links: &'a Links<'a>,
     by_form: HashMap<&'a str, Vec<usize>>,
 }
-
-const BLANKS: [char; 2] = [' ', '\t'];
 
 impl<'a> Entries<'a> {
     pub fn new(names: &'a Names, links: &'a Links<'a>) -> Entries<'a> {
@@ -67,19 +67,35 @@ impl<'a> Entries<'a> {
         (after.is_empty() || after.starts_with(BLANKS)).then_some(text.len() - after.len())
     }
 
-    /// Every way to take an entry at each place so that each is linked with the next, at most `most` of them.
+    /// Every way to take an entry at each place so that each is linked with the next and the last ends the word, at most
+    /// `most` of them; none where the places are more than a path can have.
     pub fn linked(&self, places: &[Vec<usize>], most: usize) -> Vec<Vec<usize>> {
         let mut found = Vec::new();
-        let mut path = Vec::new();
-        self.link(places, most, &mut path, &mut found);
+        if places.len() <= MOST_ENTRIES {
+            self.link(&self.with_an_end(places), most, &mut Vec::new(), &mut found);
+        }
         found
+    }
+
+    /// At each place the entries from which the places after it come to the end of a word. By these alone a way is found in
+    /// each turn, however many entries are alike.
+    fn with_an_end(&self, places: &[Vec<usize>]) -> Vec<Vec<usize>> {
+        let mut kept: Vec<Vec<usize>> = Vec::new();
+        for place in places.iter().rev() {
+            let goes_on = |entry: usize| match kept.last() {
+                None => self.links.is_last(entry),
+                Some(next) => next.iter().any(|next| self.links.after(Some(entry)).contains(next)),
+            };
+            let ending: Vec<usize> = place.iter().copied().filter(|&entry| goes_on(entry)).collect();
+            kept.push(ending);
+        }
+        kept.reverse();
+        kept
     }
 
     fn link(&self, places: &[Vec<usize>], most: usize, path: &mut Vec<usize>, found: &mut Vec<Vec<usize>>) {
         let Some((place, rest)) = places.split_first() else {
-            if path.last().is_some_and(|&last| self.links.is_last(last)) {
-                found.push(path.clone());
-            }
+            found.extend((!path.is_empty()).then(|| path.clone()));
             return;
         };
         let next = self.links.after(path.last().copied());

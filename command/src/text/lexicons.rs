@@ -213,6 +213,8 @@ fn read_gloss(gloss: Word<'_>, entry: u16) -> Result<(u16, &str), String> {
     match gloss {
         Word::Quoted(text) => Ok((entry, text)),
         Word::Bare(word) => match number(word).and_then(|gloss| u16::try_from(gloss).ok()) {
+            // Kept in words too, since the own number alone is what an entry without a gloss has.
+            Some(gloss) if gloss == entry => Ok((gloss, word)),
             Some(gloss) => Ok((gloss, "")),
             None => {
                 let hint = quote_meant(&[gloss]).unwrap_or_default();

@@ -32,7 +32,7 @@ pub struct Line<'a> {
     pub words: Vec<Word<'a>>,
 }
 
-const BLANKS: [char; 2] = [' ', '\t'];
+pub const BLANKS: [char; 2] = [' ', '\t'];
 const COMMENT: char = ';';
 const QUOTE: char = '"';
 /// Some editors put this mark before a text in UTF-8; it is no part of it.

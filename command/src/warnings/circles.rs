@@ -2,7 +2,7 @@
 
 use crate::text::lexicons::{Continuation, Entry, Lexicon};
 use crate::text::{Fault, Grammar};
-use crate::warnings::warning;
+use crate::warnings::{reached, warning};
 
 pub fn warnings(grammar: &Grammar) -> Vec<Fault> {
     let found = circles(&grammar.lexicons).into_iter();
@@ -17,7 +17,8 @@ pub fn warnings(grammar: &Grammar) -> Vec<Fault> {
 /// For each circle its first entry in the text, with the lexicon that it stands in. Circles that have a
 /// lexicon in common count as one.
 fn circles(lexicons: &[Lexicon]) -> Vec<(&Lexicon, &Entry)> {
-    let reached: Vec<Vec<bool>> = (0..lexicons.len()).map(|from| reached(lexicons, from)).collect();
+    let next_of = |lexicon: usize| next(&lexicons[lexicon]);
+    let reached: Vec<Vec<bool>> = lexicons.iter().map(|from| reached(lexicons.len(), next(from), next_of)).collect();
     let mut told = vec![false; lexicons.len()];
     let mut found = Vec::new();
     for (from, lexicon) in lexicons.iter().enumerate() {
@@ -33,19 +34,9 @@ fn circles(lexicons: &[Lexicon]) -> Vec<(&Lexicon, &Entry)> {
     found
 }
 
-/// Which lexicons empty entries lead to, one or more of them, from the lexicon with number `from`.
-fn reached(lexicons: &[Lexicon], from: usize) -> Vec<bool> {
-    let mut reached = vec![false; lexicons.len()];
-    let mut open = vec![from];
-    while let Some(lexicon) = open.pop() {
-        for to in lexicons[lexicon].entries.iter().filter_map(onward) {
-            if !reached[to] {
-                reached[to] = true;
-                open.push(to);
-            }
-        }
-    }
-    reached
+/// The lexicons that a lexicon's empty entries lead to.
+fn next(lexicon: &Lexicon) -> Vec<usize> {
+    lexicon.entries.iter().filter_map(onward).collect()
 }
 
 /// The lexicon that an entry with an empty form leads to.

@@ -6,11 +6,11 @@ use crate::warnings::{reached, warning};
 
 pub fn warnings(grammar: &Grammar) -> Vec<Fault> {
     let lexicons = &grammar.lexicons;
-    let come_to = reached(lexicons.len(), 0, |lexicon| onward(&lexicons[lexicon]));
+    let come_to = reached(lexicons.len(), vec![0], |lexicon| onward(&lexicons[lexicon]));
     let mut told = Vec::new();
     for (number, lexicon) in lexicons.iter().enumerate() {
         let name = &lexicon.name;
-        let ends = || reached(lexicons.len(), number, |lexicon| onward(&lexicons[lexicon]));
+        let ends = || reached(lexicons.len(), vec![number], |lexicon| onward(&lexicons[lexicon]));
         if !come_to[number] {
             let what = format!("lexicon {name} is never reached: no entry leads to it from the first lexicon");
             told.push(warning(lexicon.line, what));

@@ -20,17 +20,13 @@ fn warning(line: usize, what: String) -> Fault {
     Fault::new(line, format!("warning: {what}"))
 }
 
-/// Which numbers below `count` can be come to from `from`, itself among them.
-fn reached(count: usize, from: usize, onward: impl Fn(usize) -> Vec<usize>) -> Vec<bool> {
+/// Which numbers below `count` can be come to from those of `open`, themselves among them.
+fn reached(count: usize, mut open: Vec<usize>, onward: impl Fn(usize) -> Vec<usize>) -> Vec<bool> {
     let mut reached = vec![false; count];
-    reached[from] = true;
-    let mut open = vec![from];
     while let Some(here) = open.pop() {
-        for to in onward(here) {
-            if !reached[to] {
-                reached[to] = true;
-                open.push(to);
-            }
+        if !reached[here] {
+            reached[here] = true;
+            open.extend(onward(here));
         }
     }
     reached

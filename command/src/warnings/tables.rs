@@ -34,8 +34,14 @@ fn dead_ends(rule: &Rule, grammar: &Grammar) -> Vec<Fault> {
         return vec![warning(rule.states[0].line, what)];
     }
     let inside = states_inside(rule);
+    let after_a_pair: Vec<usize> =
+        inside.iter().flat_map(|&state| after(rule, state)).filter(|&next| next > 0).collect();
+    if after_a_pair.is_empty() {
+        let what = format!("rule \"{}\" refuses every pair: no word has a reading", rule.name);
+        return vec![warning(rule.line, what)];
+    }
     let is_final = |state: usize| state > 0 && rule.states[state - 1].is_final;
-    let ends = || inside.iter().map(|&state| rule.next(state, rule.boundary()));
+    let ends = || after_a_pair.iter().map(|&state| rule.next(state, rule.boundary()));
     if !ends().any(is_final) {
         let what =
             format!("rule \"{}\" comes to no final state at the end of a word: no word has a reading", rule.name);
@@ -52,12 +58,17 @@ fn dead_ends(rule: &Rule, grammar: &Grammar) -> Vec<Fault> {
 
 /// The states that a rule may be in between the two boundary pairs.
 fn states_inside(rule: &Rule) -> Vec<usize> {
-    let picked = &rule.taken[..rule.taken.len() - 1];
     let onward = |state: usize| match state {
         0 => Vec::new(),
-        _ => picked.iter().map(|&column| rule.next(state, column)).collect(),
+        _ => after(rule, state),
     };
     let front = rule.next(1, rule.boundary());
-    let reached = reached(rule.states.len() + 1, front, onward);
+    let reached = reached(rule.states.len() + 1, vec![front], onward);
     (1..=rule.states.len()).filter(|&state| reached[state]).collect()
+}
+
+/// The states that pairs lead to from a state.
+fn after(rule: &Rule, state: usize) -> Vec<usize> {
+    let picked = &rule.taken[..rule.taken.len() - 1];
+    picked.iter().map(|&column| rule.next(state, column)).collect()
 }

@@ -69,9 +69,10 @@ impl<'a> Explainer<'a> {
         let mut record = [0; RECORD];
         let unread = |reason| Outcome::Unread(hints::unread(reason, &self.loaded.grammar.alphabet));
         spell(word, &self.letters, &mut record).map_err(unread)?;
-        // A word of over 32 letters has a length that no record has places for.
-        let letters = record[1..].get(..usize::from(record[0])).filter(|letters| !letters.is_empty());
-        letters.map(<[u8]>::to_vec).ok_or(Outcome::Refused(9))
+        // A word of over 32 letters has one more than a record has places for; the library refuses it, as it does an empty one.
+        let mut letters = record[1..].to_vec();
+        letters.resize(usize::from(record[0]), record[RECORD - 1]);
+        Ok(letters)
     }
 
     /// The characters of letters.

@@ -4,7 +4,7 @@ use super::explain::{LeftOut, Nothing, Outcome};
 use super::groups::{groups, last_entry, Group};
 use super::search::{opened, Dead, Furthest, Step, Stop};
 use super::tables::Refusal;
-use super::told::{barred_pair, Teller};
+use super::told::{barred_pair, late_without, Teller, LATE};
 use super::without::Readings;
 use crate::layout;
 use crate::library::Reply;
@@ -33,7 +33,7 @@ impl Teller<'_> {
         let Fields { outcome, reason, furthest, without, readings } = match self.explainer.explain(typed) {
             Outcome::Unread(why) => Fields { reason: string(&why), ..Fields::of("unread") },
             Outcome::Refused(number) => Fields { reason: string(&refusals::told(number)), ..Fields::of("refused") },
-            Outcome::Late => Fields::of("late"),
+            Outcome::Late => Fields { reason: string(LATE), ..Fields::of("late") },
             Outcome::Read(readings) => {
                 let outcome = if matches!(readings.reply, Reply::More(_)) { "more" } else { "all" };
                 Fields { readings: self.json_readings(&readings), ..Fields::of(outcome) }
@@ -51,10 +51,12 @@ impl Teller<'_> {
             let more = matches!(one.readings.reply, Reply::More(_));
             format!("{{\"rules\":{rules},\"more\":{more},\"readings\":{}}}", self.json_readings(&one.readings))
         };
+        let nowhere = Fields::of("none");
         Fields {
+            reason: if nothing.late { string(&late_without()) } else { nowhere.reason },
             furthest: self.json_furthest(&nothing.furthest),
             without: array(nothing.left_out.iter().map(without)),
-            ..Fields::of("none")
+            ..nowhere
         }
     }
 

@@ -1,6 +1,7 @@
 //! The furthest pairings of a word: a search through entries and pairs that explains, and decides nothing.
 
 use super::tables::{Refusal, States, Tables};
+use crate::paths::MOST_ENTRIES;
 use crate::text::alphabet::NULL;
 use crate::text::lexicons::Continuation;
 use std::collections::HashSet;
@@ -9,8 +10,7 @@ use std::collections::HashSet;
 pub const MOST_STEPS: usize = 200_000;
 /// Ways that are kept of those that stop at the furthest letter.
 const MOST_DEAD: usize = 4_000;
-/// What a reading may have.
-const MOST_ENTRIES: u8 = 16;
+/// The pairs with a null on one side that a reading may have.
 const MOST_NULLS: u8 = 8;
 
 /// What can follow where a way has come to: an entry is opened, or a pair is taken.
@@ -152,7 +152,7 @@ impl<'a> Search<'a> {
         let entry = self.tables.entries[spot.entry].0;
         let lexical = entry.form.get(spot.place).copied();
         if let (None, Continuation::Lexicon(lexicon)) = (lexical, entry.continuation) {
-            if spot.entries == MOST_ENTRIES {
+            if usize::from(spot.entries) == MOST_ENTRIES {
                 return self.stop(at, Stop::Entries);
             }
             return self.open_lexicon(Some(at), &spot, usize::from(lexicon));

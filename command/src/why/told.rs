@@ -12,9 +12,9 @@ use crate::text::alphabet::NULL;
 
 /// Reasons that are told of one place, entries of one lexicon, and readings.
 const MOST_GROUPS: usize = 3;
-const MOST_ENTRIES: usize = 6;
+const MOST_TRIED: usize = 6;
 const MOST_READINGS: usize = 3;
-const LATE: &str = "the library has not answered within 10 seconds";
+pub(super) const LATE: &str = "the library has not answered within 10 seconds";
 /// Characters of a gloss that are shown.
 const MOST_GLOSS: usize = 40;
 
@@ -76,7 +76,7 @@ impl<'a> Teller<'a> {
             told += &self.furthest("furthest without rules", word, furthest, &[]);
         }
         if nothing.late {
-            told += &format!("{LATE}, so that not every rule was left out in turn\n");
+            told += &format!("{}\n", late_without());
         } else if nothing.left_out.is_empty() && nothing.rules > 0 {
             told += "without any rule it has no reading either: entries and pairs do not make this word\n";
         }
@@ -198,13 +198,13 @@ impl<'a> Teller<'a> {
             Some(next) if nothing_fits => format!("  {of} begins with {next}\n"),
             Some(next) => format!("  {of} goes on with {next}\n"),
         };
-        if nothing_fits && all.len() > MOST_ENTRIES {
+        if nothing_fits && all.len() > MOST_TRIED {
             return told;
         }
         let mut rows: Vec<(String, String)> = all.iter().map(|dead| self.tried(dead, left)).collect();
         rows.dedup();
-        let more = rows.len().saturating_sub(MOST_ENTRIES);
-        rows.truncate(MOST_ENTRIES);
+        let more = rows.len().saturating_sub(MOST_TRIED);
+        rows.truncate(MOST_TRIED);
         let width = rows.iter().map(|(entry, _)| entry.chars().count()).max().unwrap_or(0);
         told.extend(rows.iter().map(|(entry, why)| format!("    {entry:width$}  {why}\n")));
         if more > 0 {
@@ -265,6 +265,11 @@ impl<'a> Teller<'a> {
         }
         told
     }
+}
+
+/// What is told where not every rule was left out in turn.
+pub(super) fn late_without() -> String {
+    format!("{LATE}, so that not every rule was left out in turn")
 }
 
 /// A form with the gloss of its entry, of a long one only the beginning.

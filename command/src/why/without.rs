@@ -1,11 +1,11 @@
 //! What the library answers where rules are left out of an image.
 
 use crate::library::{self, Reply, ROW};
+use crate::text::image::BLOCK;
 use std::sync::mpsc;
 use std::thread;
 use std::time::Duration;
 
-const BLOCK: usize = 512;
 /// Where a block's kind stands, and the kind of a rule's block.
 const KIND: usize = 2;
 const RULE: u8 = 4;
@@ -47,14 +47,21 @@ impl Readings {
 /// The readings of a word; none where the library has not answered in time. A call cannot be interrupted, so that one that is
 /// too long ends with the program.
 pub fn ask(image: &[u8], word: &[u8], most: usize, time: Duration) -> Option<Readings> {
-    let (image, word, mut rows) = (image.to_vec(), word.to_vec(), vec![0; most * ROW]);
+    let call = move |image: &[u8], word: &[u8]| {
+        let mut rows = vec![0; most * ROW];
+        Readings { reply: library::analyse(image, word, &mut rows), rows }
+    };
+    let (image_copy, word_copy) = (image.to_vec(), word.to_vec());
     let (sender, receiver) = mpsc::channel();
-    thread::spawn(move || {
-        let reply = library::analyse(&image, &word, &mut rows);
+    let begun = thread::Builder::new().spawn(move || {
         // Nobody waits for an answer that comes too late.
-        let _ = sender.send(Readings { reply, rows });
+        let _ = sender.send(call(&image_copy, &word_copy));
     });
-    receiver.recv_timeout(time).ok()
+    match begun {
+        Ok(_) => receiver.recv_timeout(time).ok(),
+        // Where no thread can be had it is waited for, however long it takes.
+        Err(_) => Some(call(image, word)),
+    }
 }
 
 #[cfg(test)]

@@ -2,10 +2,11 @@
 
 use super::pieces::{Piece, Pieces};
 use std::collections::BTreeMap;
-use std::sync::atomic::{AtomicBool, Ordering};
+use std::io;
+use std::sync::atomic::{AtomicBool, AtomicU64, Ordering};
 use std::sync::mpsc::{channel, sync_channel, Receiver, RecvTimeoutError, Sender, SyncSender};
 use std::sync::{Mutex, MutexGuard, PoisonError};
-use std::thread;
+use std::thread::{self, Scope};
 use std::time::Duration;
 
 /// Bytes of input that fill a batch. A job that is free takes fewer where no more have come.
@@ -30,6 +31,16 @@ struct Input {
     ended: bool,
 }
 
+/// What all jobs have in common.
+struct Shared<T> {
+    input: Mutex<Input>,
+    tickets: Mutex<Receiver<T>>,
+    /// Nothing more is wanted.
+    stopped: AtomicBool,
+    /// How many batches were taken.
+    taken: AtomicU64,
+}
+
 type Batch = Result<Vec<Piece>, String>;
 type Made<T> = (u64, Result<T, String>);
 
@@ -38,8 +49,10 @@ pub enum Event<'a, T> {
     Made(&'a mut T),
     /// The input could not be read any further.
     Failed(String),
-    /// Nothing was made for a while.
-    Tick,
+    /// Nothing was made for a while; whether a job is at work, and not only waits for input.
+    Tick {
+        at_work: bool,
+    },
 }
 
 /// Gives the batches of the input to the jobs, each of which calls a worker of its own, and what they make to `take`, in the
@@ -58,29 +71,54 @@ where
     let (sender, messages) = sync_channel(WAITING);
     let stopper = sender.clone();
     // Nobody waits for this thread: a read that has nothing to give cannot be ended.
-    thread::spawn(move || read_all(pieces, &sender));
-    let input = Mutex::new(Input { messages, next: 0, failed: None, ended: false });
-    let stopped = AtomicBool::new(false);
+    if let Err(error) = thread::Builder::new().spawn(move || read_all(pieces, &sender)) {
+        return take(Event::Failed(no_thread(&error)));
+    }
     let (ticket_sender, tickets) = channel();
     for _ in 0..4 * jobs {
         let _ = ticket_sender.send(T::default());
     }
-    let tickets = Mutex::new(tickets);
+    let shared = Shared {
+        input: Mutex::new(Input { messages, next: 0, failed: None, ended: false }),
+        tickets: Mutex::new(tickets),
+        stopped: AtomicBool::new(false),
+        taken: AtomicU64::new(0),
+    };
     let (made_sender, made) = channel();
     thread::scope(|scope| {
-        for _ in 0..jobs {
-            let (made, input, tickets, stopped, new_worker) =
-                (made_sender.clone(), &input, &tickets, &stopped, &new_worker);
-            scope.spawn(move || work(new_worker(), input, tickets, stopped, &made));
+        if let Err(error) = begin_jobs(scope, jobs, &shared, &new_worker, made_sender) {
+            return take(Event::Failed(no_thread(&error)));
         }
-        drop(made_sender);
-        let ended = take_all(&made, &ticket_sender, &mut take);
-        stopped.store(true, Ordering::Relaxed);
+        let ended = take_all(&made, &ticket_sender, &shared.taken, &mut take);
+        shared.stopped.store(true, Ordering::Relaxed);
         // A job that waits for input is woken; where there is no room for this, none waits.
         let _ = stopper.try_send(Message::End);
         drop(ticket_sender);
         ended
     })
+}
+
+/// Begins as many jobs as there are threads for: with fewer the list takes longer, and with none it cannot be read.
+fn begin_jobs<'scope, T: Send, W: FnMut(&[Piece], &mut T)>(
+    scope: &'scope Scope<'scope, '_>,
+    jobs: usize,
+    shared: &'scope Shared<T>,
+    new_worker: &'scope (impl Fn() -> W + Sync),
+    made: Sender<Made<T>>,
+) -> io::Result<()> {
+    for job in 0..jobs {
+        let made = made.clone();
+        match thread::Builder::new().spawn_scoped(scope, move || work(new_worker(), shared, &made)) {
+            Err(error) if job == 0 => return Err(error),
+            Err(_) => break,
+            Ok(_) => {}
+        }
+    }
+    Ok(())
+}
+
+fn no_thread(error: &io::Error) -> String {
+    format!("no thread can be had: {error}")
 }
 
 fn read_all(mut pieces: Pieces, to: &SyncSender<Message>) {
@@ -97,20 +135,15 @@ fn read_all(mut pieces: Pieces, to: &SyncSender<Message>) {
     }
 }
 
-fn work<T, W: FnMut(&[Piece], &mut T)>(
-    mut worker: W,
-    input: &Mutex<Input>,
-    tickets: &Mutex<Receiver<T>>,
-    stopped: &AtomicBool,
-    made: &Sender<Made<T>>,
-) {
+fn work<T, W: FnMut(&[Piece], &mut T)>(mut worker: W, shared: &Shared<T>, made: &Sender<Made<T>>) {
     loop {
-        let Ok(mut output) = locked(tickets).recv() else {
+        let Ok(mut output) = locked(&shared.tickets).recv() else {
             return;
         };
-        let Some((number, batch)) = locked(input).next_batch(stopped) else {
+        let Some((number, batch)) = locked(&shared.input).next_batch(&shared.stopped) else {
             return;
         };
+        shared.taken.fetch_add(1, Ordering::Relaxed);
         let output = batch.map(|pieces| {
             worker(&pieces, &mut output);
             output
@@ -158,6 +191,7 @@ impl Input {
 fn take_all<T: Default, E>(
     made: &Receiver<Made<T>>,
     tickets: &Sender<T>,
+    taken: &AtomicU64,
     take: &mut impl FnMut(Event<T>) -> Result<(), E>,
 ) -> Result<(), E> {
     let mut early = BTreeMap::new();
@@ -166,7 +200,7 @@ fn take_all<T: Default, E>(
         match made.recv_timeout(TICK) {
             Ok((number, output)) => early.insert(number, output),
             Err(RecvTimeoutError::Timeout) => {
-                take(Event::Tick)?;
+                take(Event::Tick { at_work: taken.load(Ordering::Relaxed) > next + early.len() as u64 })?;
                 continue;
             }
             Err(RecvTimeoutError::Disconnected) => return Ok(()),
@@ -193,7 +227,7 @@ fn locked<T>(mutex: &Mutex<T>) -> MutexGuard<'_, T> {
 mod tests {
     use super::*;
     use crate::words::{Source, SourceName};
-    use std::io::{self, Cursor, Read};
+    use std::io::{Cursor, Read};
     use std::time::Instant;
 
     fn pieces(bytes: impl Read + Send + 'static) -> Pieces {
@@ -263,6 +297,24 @@ mod tests {
         assert!(begun.elapsed() < Duration::from_secs(30));
     }
 
+    #[test]
+    fn a_tick_tells_work_from_waiting() {
+        let slow = || |_: &[Piece], _: &mut Vec<usize>| thread::sleep(20 * TICK);
+        let (mut is_made, mut was_at_work) = (false, false);
+        let ended = in_order(pieces(Silent(false)), 2, slow, |event| match event {
+            Event::Tick { at_work } if is_made => Err(at_work),
+            Event::Tick { at_work } => {
+                was_at_work |= at_work;
+                Ok(())
+            }
+            _ => {
+                is_made = true;
+                Ok(())
+            }
+        });
+        assert_eq!((was_at_work, ended), (true, Err(false)));
+    }
+
     /// Gives what it has, and then fails.
     struct Failing(Cursor<Vec<u8>>);
 
@@ -285,7 +337,7 @@ mod tests {
                 Ok(())
             }
             Event::Failed(what) => Err(what),
-            Event::Tick => Ok(()),
+            Event::Tick { .. } => Ok(()),
         });
         assert_eq!((ended, told), (Err("here: no more".to_string()), vec![1, 2]));
     }

@@ -9,6 +9,7 @@ use super::sources::{Source, SourceName};
 use super::spelling::Reason;
 use super::tally::{words, Tally};
 use crate::failure::{failed, tell, Failure};
+use std::time::{Duration, Instant};
 
 /// Words that are unread and told of one by one.
 const MOST_TOLD: u64 = 20;
@@ -74,7 +75,7 @@ where
                 teller.progress.clear();
                 return Err(failed(&what));
             }
-            Event::Tick => {}
+            Event::Tick { at_work } => teller.wait(at_work),
         }
         teller.progress.show(teller.tally.words, teller.bytes);
         Ok(())
@@ -85,11 +86,36 @@ where
     Ok(teller.tally)
 }
 
+/// How long an answer is waited for without a word.
+const LONG: Duration = Duration::from_secs(10);
+
+/// The time since the last answer in which jobs were at work.
+#[derive(Default)]
+struct Wait {
+    since: Option<Instant>,
+    told: bool,
+}
+
+impl Wait {
+    /// Whether it has become long just now.
+    fn is_long(&mut self, at_work: bool, now: Instant) -> bool {
+        if !at_work {
+            self.since = None;
+            return false;
+        }
+        let is_long = now.duration_since(*self.since.get_or_insert(now)) >= LONG;
+        let is_news = is_long && !self.told;
+        self.told |= is_long;
+        is_news
+    }
+}
+
 /// What is told on standard error.
 struct Teller<'a> {
     settings: &'a Settings,
     names: Vec<SourceName>,
     progress: Progress,
+    wait: Wait,
     tally: Tally,
     bytes: u64,
 }
@@ -101,8 +127,21 @@ impl<'a> Teller<'a> {
             settings,
             names: sources.iter().map(|source| source.name.clone()).collect(),
             progress: Progress::new(!settings.quiet && !typed, sources.iter().map(|source| source.size).sum()),
+            wait: Wait::default(),
             tally: Tally::default(),
             bytes: 0,
+        }
+    }
+
+    /// The library cannot be interrupted, and by some grammars does not end.
+    fn wait(&mut self, at_work: bool) {
+        if self.wait.is_long(at_work, Instant::now()) && !self.settings.quiet {
+            self.progress.clear();
+            let words = words(self.tally.words);
+            tell(&format!(
+                "headwords: after {words}, no answer of the library within {} seconds; it is waited for\n",
+                LONG.as_secs()
+            ));
         }
     }
 
@@ -112,6 +151,7 @@ impl<'a> Teller<'a> {
             self.progress.clear();
             tell(&format!("{}: unread: {reason}\n", self.names[source].place(line)));
         }
+        self.wait = Wait::default();
         self.tally.add(&portion.tally);
         self.bytes += portion.bytes;
     }
@@ -124,13 +164,31 @@ impl<'a> Teller<'a> {
         if tally.unread > MOST_TOLD {
             tell(&format!("{} more are unread\n", words(tally.unread - MOST_TOLD)));
         }
-        let wanted = match self.settings.summary {
-            Summary::Every => true,
-            Summary::Long => tally.words > SHORT,
-            Summary::Never => false,
-        };
-        if wanted {
-            tell(&tally.summary(self.progress.took()));
+        let is_short = tally.words <= SHORT;
+        match self.settings.summary {
+            Summary::Never => {}
+            // What was done to words is told of a single word too.
+            Summary::Long if is_short => tally.handled().iter().for_each(|handled| tell(&format!("{handled}\n"))),
+            Summary::Long | Summary::Every => tell(&tally.summary(self.progress.took())),
         }
+    }
+}
+
+#[cfg(test)]
+mod tests {
+    use super::*;
+
+    #[test]
+    fn a_wait_is_long_once_and_only_where_there_is_work() {
+        let begun = Instant::now();
+        let after = |seconds| begun + Duration::from_secs(seconds);
+        let mut wait = Wait::default();
+        let told =
+            [(0, true), (9, true), (10, true), (11, true), (30, true)].map(|(at, work)| wait.is_long(work, after(at)));
+        assert_eq!(told, [false, false, true, false, false]);
+        let mut wait = Wait::default();
+        let told = [(0, false), (30, false), (31, true), (40, true), (41, true)]
+            .map(|(at, work)| wait.is_long(work, after(at)));
+        assert_eq!(told, [false, false, false, false, true]);
     }
 }

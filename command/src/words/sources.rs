@@ -46,10 +46,10 @@ pub fn open(words: &[OsString], files: &[&OsStr]) -> Result<Vec<Source>, Failure
         sources.push(arguments(words));
     }
     for file in files {
-        sources.push(if *file == "-" { input() } else { open_file(file)? });
+        sources.push(if *file == "-" { input()? } else { open_file(file)? });
     }
     if sources.is_empty() {
-        sources.push(input());
+        sources.push(input()?);
     }
     Ok(sources)
 }
@@ -60,10 +60,15 @@ fn arguments(words: &[OsString]) -> Source {
     Source { name: SourceName::Arguments, bytes: Box::new(Cursor::new(lines)), size, is_typed: false }
 }
 
-fn input() -> Source {
-    let is_typed = io::stdin().is_terminal();
-    let size = io::stdin().as_fd().try_clone_to_owned().ok().and_then(|file| size(&File::from(file)));
-    Source { name: SourceName::File("standard input".to_string()), bytes: Box::new(io::stdin()), size, is_typed }
+fn input() -> Result<Source, Failure> {
+    let name = "standard input".to_string();
+    let input = io::stdin();
+    // A read of nothing fails where standard input may only be written, which Rust's own reads take for its end.
+    let opened = input.as_fd().try_clone_to_owned().map(File::from);
+    let file = opened.and_then(|mut file| file.read(&mut []).map(|_| file));
+    let file = file.map_err(|error| failed(&format!("{name}: {error}")))?;
+    let is_typed = input.is_terminal();
+    Ok(Source { name: SourceName::File(name), bytes: Box::new(input), size: size(&file), is_typed })
 }
 
 fn open_file(path: &OsStr) -> Result<Source, Failure> {
