@@ -172,7 +172,8 @@ grep -qx '30 words: 0 with a reading, 0 none, 30 unread, 0 refused, 0 more' told
 yes k | head -n 30 | ends 0 "$headwords" read -q "$luz"
 [ ! -s told ]
 : | ends 0 "$headwords" read "$luz"
-[ ! -s printed ] && [ ! -s told ]
+[ ! -s printed ]
+[ ! -s told ]
 echo "words as they are typed: read, and told"
 
 # each sample's list, by the command and by the line program: the same rows
@@ -338,11 +339,19 @@ awk '/^  luZ/ { luz = $0; next } /^  luc/ { print "  seZ  Number  \"sez\""; prin
 ends 0 "$headwords" compare "$luz" moved.txt - <words
 [ ! -s printed ]
 ends 0 "$headwords" compare -q spanish.img "$root/grammars/spanish.txt" spanish.txt
-[ ! -s printed ] && [ ! -s told ]
+[ ! -s printed ]
+[ ! -s told ]
+# of two readings that say the same, one is gone
+sed 's/^  luZ .*/&\n&/' "$luz" >twice.txt
+echo luz | ends 1 "$headwords" compare twice.txt "$luz" -
+prints <<'END'
+changed	-	luz	luz	luZ (luz) 0 (singular)	l:l u:u Z:z
+END
 # an image without its names, beside one that has them
 cp luz.img bare.img
 ends 0 "$headwords" compare bare.img luz.img words
-[ ! -s printed ] && grep -qx 'headwords: bare.img has no names beside it; compared is without names and glosses in words' told
+[ ! -s printed ]
+grep -qx 'headwords: bare.img has no names beside it; compared is without names and glosses in words' told
 ends 1 "$headwords" compare new.txt bare.img words
 diff printed - <<'END'
 changed	+	luces	luc	luc +es	l:l u:u c:c +:0 e:e s:s
@@ -453,26 +462,32 @@ grep -q '^headwords: standard input: Is a directory' told
 for usage in "read" "read $luz --tsv --json" "read $luz --header luz" "read $luz --jobs 0 luz" "read $luz --most x luz" "read $luz --jsn luz" "spell" "forms $luz" "sheet"; do
     # shellcheck disable=SC2086
     ends 2 "$headwords" $usage
-    [ ! -s printed ] && grep -q '^usage: headwords ' told
+    [ ! -s printed ]
+    grep -q '^usage: headwords ' told
 done
 for command in read spell; do
     status=0
     "$headwords" "$command" "$luz" <words >/dev/full 2>told || status=$?
-    [ "$status" -eq 1 ] && grep -q '^standard output: No space left on device' told
+    [ "$status" -eq 1 ]
+    grep -q '^standard output: No space left on device' told
     yes luces | { "$headwords" "$command" "$luz" 2>told || echo "ended with $?" >ended; } | head -n 1 >first || true
-    [ "$(cat ended)" = "ended with 1" ] && [ ! -s told ] && [ -s first ]
+    [ "$(cat ended)" = "ended with 1" ]
+    [ ! -s told ]
+    [ -s first ]
 done
 for arguments in "generate $luz luZ +es" "forms $luz luz" "sheet $luz words" "read --tsv --header $luz luz"; do
     status=0
     # shellcheck disable=SC2086
     "$headwords" $arguments >/dev/full 2>told || status=$?
-    [ "$status" -eq 1 ] && grep -q '^standard output: No space left on device' told
+    [ "$status" -eq 1 ]
+    grep -q '^standard output: No space left on device' told
 done
 for arguments in "read $luz luz" "check $luz"; do
     status=0
     # shellcheck disable=SC2086
     "$headwords" $arguments 1<words 2>told || status=$?
-    [ "$status" -eq 1 ] && grep -q '^standard output: Bad file descriptor' told
+    [ "$status" -eq 1 ]
+    grep -q '^standard output: Bad file descriptor' told
 done
 ends 1 "$headwords" read "$luz" 0>written
 grep -q '^headwords: standard input: Bad file descriptor' told
@@ -493,11 +508,14 @@ for variables in "READ_OF=- READ_SHORT=7" "READ_OF=- READ_INTERRUPTED=1" WRITE_S
     [ ! -s told ]
 done
 under 1 WRITE_FAILS_AFTER=1300
-[ "$(wc -c <printed)" -eq 1300 ] && grep -q '^standard output: No space left on device' told
+[ "$(wc -c <printed)" -eq 1300 ]
+grep -q '^standard output: No space left on device' told
 under 1 READ_OF=- READ_FAILS_AFTER=1000
-[ -s printed ] && grep -q '^headwords: standard input: Input/output error' told
+[ -s printed ]
+grep -q '^headwords: standard input: Input/output error' told
 under 1 READ_OF=spanish.img READ_FAILS_AFTER=1000
-[ ! -s printed ] && grep -q '^spanish.img:0: cannot be read: Input/output error' told
+[ ! -s printed ]
+grep -q '^spanish.img:0: cannot be read: Input/output error' told
 echo "reads and writes that stop short or are interrupted: all is printed; that fail: what came before, words, and status 1"
 
 wait "$terminal" || { cat terminal; exit 1; }

@@ -9,7 +9,6 @@ use crate::library::{Reply, ROW};
 use crate::loaded::{load, Loaded};
 use crate::readings::Names;
 use crate::words::{self, words, work_through, Answer, Asker, Letters, Outcome, Piece, Portion, Settings, Summary};
-use std::collections::BTreeSet;
 use std::path::Path;
 
 pub const COMMAND: Command = Command {
@@ -161,8 +160,7 @@ fn put_difference(old: (&[u8], bool), new: (&[u8], bool), out: &mut Vec<u8>, com
     if old.0 == new.0 {
         return;
     }
-    let lines = |text| BTreeSet::from_iter(<[u8]>::split_inclusive(text, |&byte| byte == b'\n'));
-    let (old, new): (BTreeSet<&[u8]>, BTreeSet<&[u8]>) = (lines(old.0), lines(new.0));
+    let (old, new) = (sorted_lines(old.0), sorted_lines(new.0));
     if old == new {
         return;
     }
@@ -173,6 +171,22 @@ fn put_difference(old: (&[u8], bool), new: (&[u8], bool), out: &mut Vec<u8>, com
     };
     *count += 1;
     let mut put = |sign: &[u8], line: &[u8]| out.extend_from_slice(&[change.as_bytes(), sign, line].concat());
-    old.difference(&new).for_each(|line| put(b"\t-\t", line));
-    new.difference(&old).for_each(|line| put(b"\t+\t", line));
+    left_over(&old, &new).for_each(|line| put(b"\t-\t", line));
+    left_over(&new, &old).for_each(|line| put(b"\t+\t", line));
+}
+
+fn sorted_lines(text: &[u8]) -> Vec<&[u8]> {
+    let mut lines: Vec<&[u8]> = text.split_inclusive(|&byte| byte == b'\n').collect();
+    lines.sort_unstable();
+    lines
+}
+
+/// The lines for each of which the others, sorted as they are, have no equal left. Two readings may say the same, and one of
+/// them may be gone.
+fn left_over<'a>(lines: &'a [&[u8]], others: &'a [&[u8]]) -> impl Iterator<Item = &'a [u8]> {
+    let mut others = others.iter().peekable();
+    lines.iter().copied().filter(move |line| {
+        while others.next_if(|other| *other < line).is_some() {}
+        others.next_if(|other| *other == line).is_none()
+    })
 }
