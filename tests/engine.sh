@@ -1,6 +1,6 @@
 #!/usr/bin/env bash
-# Another engine, written from the scope document and the change requests by another method: its own tests, and then every call of the C entry beside
-# it, reply and bytes.
+# Another engine, written by another method from the scope document, the change requests and what the header says of many words in one call: its own
+# tests, and then every call of the C entry beside it, reply and bytes.
 # Usage: engine.sh [SEED [CALLS]]
 set -eu
 cd "$(dirname "$0")/.."
