@@ -1,0 +1,4 @@
+pub mod Bytes
+pub mod Numbers
+mod Steps
+mod Reading

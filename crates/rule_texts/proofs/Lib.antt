@@ -1,0 +1,16 @@
+mod Found
+mod Signs
+mod Dividing
+mod Scan
+mod Passing
+pub mod Lines
+mod Split
+mod Digits
+mod Contexts
+pub mod LineGrammar
+mod LineEnds
+pub mod TextGrammar
+pub mod Obeyed
+pub mod Known
+pub mod Each
+mod Trials
