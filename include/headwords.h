@@ -36,10 +36,13 @@
  *   11  path of 0 or over 16 entries, or an odd count of bytes
  *   12  no such entry, or the path is not linked through the lexicon
  *   13  pairing length 0 or over 40, or no such pair
+ *   19  a text that is not of the grammar of written rules, has over 32 rules, or a context over 64 bytes or with brackets
+ *       nested deeper than 8
+ *   20  a written pair number that is neither below P nor 255, or 255 as a rule's own pair
  *   23  a code point with no letter, or with letter 1
  *   24  an output shorter than the word
  * A call makes those that its declaration below names, in the order in which it names them, each over the whole image, word,
- * path or pairing before the next; the first that fails is the one told. A refused call writes nothing.
+ * path, pairing or text before the next; the first that fails is the one told. A refused call writes nothing.
  *
  * What a call can cost at worst: every call ends, and all but the listings within a few milliseconds. A listing goes
  * through the ways in which entries and pairs may follow each other. Where that turns out long, it remembers the dead ends
@@ -57,9 +60,9 @@
 /* The version of this header and of the library that it is handed over with. A call that is left out or changed raises the
  * first number, a call more the second. */
 #define HEADWORDS_VERSION_MAJOR 1
-#define HEADWORDS_VERSION_MINOR 0
+#define HEADWORDS_VERSION_MINOR 1
 #define HEADWORDS_VERSION_PATCH 0
-#define HEADWORDS_VERSION "1.0.0"
+#define HEADWORDS_VERSION "1.1.0"
 
 #ifdef __cplusplus
 extern "C" {
@@ -142,6 +145,36 @@ uint64_t headwords_seal(uint8_t *image, size_t image_length);
 /* 1 where the path (as for headwords_generate) and the pairing (one byte a pair number) are a reading of the word that they
  * spell, 0 where they are not, 4k + 3 where they are refused (1 to 8, 14, 11 to 13). */
 uint64_t headwords_judge(const uint8_t *image, size_t image_length, const uint8_t *path, size_t path_length, const uint8_t *pairing, size_t pairing_length);
+
+/* Whether a pairing (one byte a pair number) obeys every rule of a text of written rules.
+ *   1       it obeys each; so it does where the text has no byte, and so no rule
+ *   0       it breaks one
+ *   4k + 3  refused (1 to 8, 14, 13, 19 or 20)
+ * Nothing is written. No path is asked for: the rules look at pairs alone, and the image gives their lexical letters; its
+ * own rule tables are checked, as by every call, and decide nothing.
+ *
+ * The text has 0 to 32 rules, a line each, byte 10 after each or none after the last. A line is an operator, a space, the
+ * rule's own pair, a space, the left context, an underscore, the right context, and no other byte. A pair is its number as
+ * three digits. The boundary pair, written 255, stands at both ends of the pairing, and may stand in a context. The left
+ * context holds where some run of pairs that ends just before the place matches it, the right one where some run that begins
+ * just after the place does:
+ *   003       pair 3                     .         any pair, the boundary pair too
+ *   XY        X and then Y               X|Y       X or Y
+ *   X*        none or more of X          (X)       X; brackets may be nested to depth 8
+ * A star binds tightest and may follow a star, then comes sequence, then the bar. An empty context holds everywhere; but a
+ * star, a side of a bar or brackets may not stand on nothing. A context has at most 64 bytes.
+ *   =>   the own pair stands only where both contexts hold
+ *   <=   where both hold, a pair with the own pair's lexical letter (the null counts as one) is the own pair
+ *   <=>  both of these
+ *   /<=  where both hold, the own pair does not stand
+ *
+ * By luz, Z:c <=> _ +:0 e:e is one line, its pairs being +:0 000, e:e 002, Z:c 006; luces obeys it:
+ *
+ *     static const char rule[] = "<=> 006 _000002";
+ *     const uint8_t luces[] = {3, 5, 6, 0, 2, 4}; // l:l u:u Z:c +:0 e:e s:s
+ *     headwords_judge_rules(image, image_length, luces, sizeof luces, (const uint8_t *)rule, sizeof rule - 1); // 1
+ */
+uint64_t headwords_judge_rules(const uint8_t *image, size_t image_length, const uint8_t *pairing, size_t pairing_length, const uint8_t *text, size_t text_length);
 
 /* The letters of an entry's form, at most 12.
  *   4n + 1  the form has n letters, and they are in letters[0] to letters[n - 1]; no byte past them changes

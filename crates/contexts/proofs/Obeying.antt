@@ -133,7 +133,7 @@ obeys-iff lexical r ps = (out, into)
     into : ((i : ℕ) → i < length ps → Kept lexical (r .own) (getD ps i 0) (r .operator) (There r (bounded ps) (suc i))) → T (obeys lexical r ps)
     into f = all-in (λ i. kept lexical (r .own) (getD ps i 0) (r .operator) (there r (bounded ps) (suc i))) (length ps) (λ i h. (at i h) .1 (f i h))
 
-all-same : (f g : ℕ → Bool) (n : ℕ) → ((i : ℕ) → i < n → f i ≡ g i) → all f n ≡ all g n
+pub all-same : (f g : ℕ → Bool) (n : ℕ) → ((i : ℕ) → i < n → f i ≡ g i) → all f n ≡ all g n
 all-same f g zero h = refl
 all-same f g (suc n) h = ap₂ (λ (a b : Bool). a && b) (all-same f g n (λ i k. h i (omega arith))) (h n (omega arith))
 

@@ -6,7 +6,9 @@ ghost use Rattle.model.specs.Refusals.{imageVerdict};
 ghost use Rattle.model.specs.Rows.{rowCount, replyNumber};
 ghost use Rattle.model.specs.Calls.{sealingReply, afterSealing, listingReply, afterListing};
 ghost use Rattle.model.specs.Beside.{judged, formReply, viewed, spellingReply, afterSpelling};
+ghost use Rattle.judge.specs.Answers.{judgementOf};
 ghost use Rattle.many.specs.Words.{manyReply, afterReplies, afterRows};
+ghost use Rattle.written_rules.specs.Judged.{rulesJudged};
 ghost use Rattle.headwords.specs.Numbers.{refusedNumber, verdictNumber, sealingNumber, judgementNumber, formNumber, afterForm, spellingNumber, manyNumber};
 use grammar::FormReply;
 use grammar::Verdict;
@@ -73,11 +75,14 @@ pub extern "C" fn headwords_seal(image: &mut [u8]) -> u64
 pub extern "C" fn headwords_judge(image: &[u8], path: &[u8], pairing: &[u8]) -> u64
     ensures { λ r. ⌜ r ≡ judgementNumber (judged (now (image .entry)) (now (path .entry)) (now (pairing .entry))) ⌝ }
 {
-    match judge::judge(image, path, pairing) {
-        Judgement::Holds => 1,
-        Judgement::Fails => 0,
-        Judgement::Refused(k) => refusal(k),
-    }
+    judgement_number(judge::judge(image, path, pairing))
+}
+
+#[no_mangle]
+pub extern "C" fn headwords_judge_rules(image: &[u8], pairing: &[u8], text: &[u8]) -> u64
+    ensures { λ r. ⌜ r ≡ judgementNumber (rulesJudged (now (image .entry)) (now (pairing .entry)) (now (text .entry))) ⌝ }
+{
+    judgement_number(written_rules::judge_rules(image, pairing, text))
 }
 
 #[no_mangle]
@@ -105,6 +110,16 @@ pub extern "C" fn headwords_spell(image: &[u8], points: &[u8], letters: &mut [u8
     match spelling::spell(image, points, letters) {
         Spelling::Letters(n) => 4 * (n as u64) + 1,
         Spelling::Refused(k) => refusal(k),
+    }
+}
+
+fn judgement_number(judgement: Judgement) -> u64
+    ensures { λ r. ⌜ r ≡ judgementNumber (judgementOf judgement) ⌝ }
+{
+    match judgement {
+        Judgement::Holds => 1,
+        Judgement::Fails => 0,
+        Judgement::Refused(k) => refusal(k),
     }
 }
 

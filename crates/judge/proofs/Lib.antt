@@ -1,3 +1,3 @@
 pub mod Judgements
-mod PairingLaws
+pub mod PairingLaws
 mod Judging

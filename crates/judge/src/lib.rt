@@ -1,5 +1,5 @@
 // The judge: whether a path and a pairing are a reading of the word that they spell, or the refusal.
-mod reading;
+pub mod reading;
 
 ghost use mathlib.Core.Path.{_≡_};
 ghost use mathlib.Core.List.{_++_};

@@ -1,24 +1,25 @@
 -- A line by its parts: what it is read as, from where its spaces and its underscore stand.
 use Prim.Native.Nat.{ℕ, _+_, _-_, _≤_, _<_}
 use native.Mathlib.Omega.{arith}
-use mathlib.Core.Bool.{Bool, true, false, true≢false, false≢true}
+use mathlib.Core.Bool.{Bool, true, false, _&&_, true≢false, false≢true}
 use mathlib.Core.Path.{_≡_, refl, sym, ap, ap₂, _∙_}
 use mathlib.Core.List.{List, _∷_, _++_}
-use lib.ListN.{length, take, drop, drop-of-length-le}
-use lib.Seq.{drop-drop}
-use lib.Dec.{ltb}
+use lib.ListN.{length, take, drop, length-drop, drop-of-length-le}
+use lib.Seq.{drop-drop, take-length}
+use lib.Dec.{T, ltb, ltb→lt}
 use borrow.Author.Tests.{lt-ltb, le-ltb}
 use Rattle.contexts.specs.Context.{pair}
-use Rattle.contexts.specs.Reader.{Read, failed, got, startsWith, readPair, readContext}
+use Rattle.contexts.specs.Reader.{Read, failed, got, startsWith, readPair, readContext, isRight}
 use Rattle.contexts.specs.Meaning.{pairNumber}
 use Rattle.contexts.specs.Operators as operators
 use Rattle.matching.specs.Steps.{Numbered}
 use Rattle.matching.proofs.Numbers.{Pair}
 use Rattle.matching.proofs.Bytes.{starts-inside}
 use Rattle.rule_texts.specs.Line.{upTo, after, has, Line, rule, no-rule, Sign, operator, no-operator, readSign, lineWith, afterOwn, afterSign, readRule}
-use Rattle.rule_texts.specs.Text.{isRule}
+use Rattle.rule_texts.specs.Text.{isRule, pairsOf, isKnown, knowsPairs}
 use Rattle.rule_texts.specs.Parts.{Found, operatorOf, Signs, dividedRule, Divides}
-use Rattle.model.proofs.Booleans.{of-true}
+use Rattle.model.specs.Lists.{every}
+use Rattle.model.proofs.Booleans.{and-out, of-true}
 use Rattle.rule_texts.proofs.Split.{whole-again}
 use Rattle.rule_texts.specs.declared.line.Signed.{Signed}
 use Rattle.rule_texts.specs.declared.line.Parts.{Parts}
@@ -98,6 +99,10 @@ module _ (line : List ℕ) (space : ℕ) (f : Found 32 line 0 space) where
             go : lineWith true o n (drop (space + 5) line) ≡ rule (dividedRule line r)
             go = rw (le, ue, sym oe, sym ne, g .passed, g .left) refl
 
+-- a part that goes on to the end
+pub rest-whole : (t : List ℕ) (k : ℕ) → take (length t - k) (drop k t) ≡ drop k t
+rest-whole t k = ap (λ (n : ℕ). take n (drop k t)) (sym (length-drop k t)) ∙ take-length (drop k t)
+
 -- what a divided line is
 pub record Divided (line : List ℕ) (l : Line) (p : Parts) : Type 0 where
   pub same : l ≡ rule (dividedRule line p)
@@ -117,3 +122,16 @@ is-divided line (rule r) p h e = record { same = ap rule (h .1); in-order = h .2
 pub rule-divided : (line : List ℕ) (l : Line) (p : Parts) → Divides line l p → isRule l ≡ true → Divided line l p
 rule-divided line no-rule p h e = absurd (false≢true e)
 rule-divided line (rule r) p h e = record { same = ap rule (h .1); in-order = h .2; inside = h .3; whole = h .4 }
+
+-- both contexts of a rule's line are of the grammar, and its own pair is known where all are
+module _ (line : List ℕ) (p : Parts) (d : Divided line (readRule line) p) where
+  pub contexts-right : isRule (readRule line) ≡ true → T (isRight (readContext (take (p .underscore - p .left) (drop (p .left) line)))) × T (isRight (readContext (drop (p .underscore + 1) line)))
+  contexts-right e =
+      let u = readContext (take (p .underscore - p .left) (drop (p .left) line)) in
+      let v = readContext (drop (p .underscore + 1) line) in
+      and-out (isRight u) (isRight v) (of-true (isRight u && isRight v) (sym (ap isRule (d .same)) ∙ e))
+
+  pub own-known : (pairs : ℕ) → knowsPairs pairs (readRule line) ≡ true → p .own < pairs
+  own-known pairs e =
+      let l = pairsOf (dividedRule line p .left) ++ pairsOf (dividedRule line p .right) in
+      ltb→lt (p .own) pairs (and-out (ltb (p .own) pairs) (every (isKnown pairs) l) (of-true (ltb (p .own) pairs && every (isKnown pairs) l) (sym (ap (knowsPairs pairs) (d .same)) ∙ e)) .0)

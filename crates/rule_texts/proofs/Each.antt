@@ -12,7 +12,7 @@ use Rattle.model.specs.Lines.{linesOf}
 use Rattle.model.proofs.Booleans.{left-true, left-false, right-false, and-out, of-true, true-of}
 use Rattle.model.proofs.Rest.{drop-step}
 use Rattle.rule_texts.specs.Line.{upTo, after, readRule}
-use Rattle.rule_texts.specs.Text.{isRule, isText}
+use Rattle.rule_texts.specs.Text.{isRule, isText, knowsPairs, pairsKnown}
 use Rattle.rule_texts.specs.Parts.{Found}
 use Rattle.rule_texts.proofs.Lines.{lines-none, lines-on}
 
@@ -62,6 +62,13 @@ module _ (ask : List ℕ → Bool) (t : List ℕ) where
 
 abbrev pub ruleLine : List ℕ → Bool
 ruleLine l = isRule (readRule l)
+
+abbrev pub knowsLine : ℕ → List ℕ → Bool
+knowsLine pairs l = knowsPairs pairs (readRule l)
+
+pub known-lines : (pairs : ℕ) (t : List ℕ) → pairsKnown pairs t ≡ true → every (knowsLine pairs) (linesOf t) ≡ true
+unfolding pairsKnown
+known-lines pairs t e = e
 
 -- a text by how many its lines are, and whether each is a rule's
 module _ (t : List ℕ) where

@@ -1,6 +1,6 @@
 mod Found
 mod Signs
-mod Dividing
+pub mod Dividing
 mod Scan
 mod Passing
 pub mod Lines

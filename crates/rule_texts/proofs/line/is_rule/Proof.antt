@@ -2,17 +2,16 @@
 use borrow.Author.Needs.{needs}
 use native.Mathlib.Omega.{arith}
 use borrow.Author.Tests.{not-true, not-false}
-use Prim.Native.Nat.{ℕ, _+_, _-_}
+use Prim.Native.Nat.{ℕ, _+_}
 use mathlib.Core.Bool.{Bool, _&&_}
 use mathlib.Core.Path.{_≡_, sym, ap, ap₂, _∙_}
 use mathlib.Core.List.{List}
-use lib.ListN.{length, take, drop, length-drop}
-use lib.Seq.{take-length}
+use lib.ListN.{drop}
 use Rattle.contexts.specs.Reader.{readContext, isRight}
 use Rattle.rule_texts.specs.Line.{Line, readRule}
 use Rattle.rule_texts.specs.Text.{isRule}
 use Rattle.rule_texts.specs.declared.line.Parts.{Parts}
-use Rattle.rule_texts.proofs.Dividing.{Divided, not-divided, is-divided}
+use Rattle.rule_texts.proofs.Dividing.{Divided, not-divided, is-divided, rest-whole}
 use Rattle.rule_texts.proofs.line.is_rule.Statement.{statement}
 use Rattle.rule_texts.proofs.line.is_rule.Tie as tie
 
@@ -26,9 +25,6 @@ module _ (c : tie.Else1) where
 
   divided : Divided line (readRule line) parts
   divided = is-divided line (readRule line) parts (c .before .before .divide .ensures) (not-false (parts .right) (c .if1 .left))
-
-rest-whole : (t : List ℕ) (k : ℕ) → take (length t - k) (drop k t) ≡ drop k t
-rest-whole t k = ap (λ (n : ℕ). take n (drop k t)) (sym (length-drop k t)) ∙ take-length (drop k t)
 
 divide-requires : tie.Need-divide-requires
 divide-requires c κs = search needs

@@ -17,7 +17,7 @@ use Rattle.rule_texts.specs.Scan.{numbersIn}
 use Rattle.rule_texts.specs.Text.{isRule, pairsOf, isKnown, knowsPairs}
 use Rattle.rule_texts.specs.declared.line.Parts.{Parts}
 use Rattle.rule_texts.proofs.Scan.{scanned-line}
-use Rattle.rule_texts.proofs.Dividing.{Divided, rule-divided}
+use Rattle.rule_texts.proofs.Dividing.{Divided, rule-divided, contexts-right}
 use Rattle.rule_texts.proofs.line.knows_pairs.Statement.{statement}
 use Rattle.rule_texts.proofs.line.knows_pairs.Tie as tie
 
@@ -29,11 +29,8 @@ module _ (line : List ℕ) (p : Parts) (d : Divided line (readRule line) p) (rig
   abbrev v : List ℕ
   v = drop (p .underscore + 1) line
 
-  both-right : T (isRight (readContext u)) × T (isRight (readContext v))
-  both-right = and-out (isRight (readContext u)) (isRight (readContext v)) (of-true (isRight (readContext u) && isRight (readContext v)) (sym (ap isRule (d .same)) ∙ right))
-
   all-numbers : numbersIn (drop (p .left) line) ≡ pairsOf (readContext u) ++ pairsOf (readContext v)
-  all-numbers = ap numbersIn (d .whole) ∙ scanned-line u v (both-right .0) (both-right .1)
+  all-numbers = let r = contexts-right line p d right in ap numbersIn (d .whole) ∙ scanned-line u v (r .0) (r .1)
 
 divide-requires : tie.Need-divide-requires
 divide-requires c κs = search needs

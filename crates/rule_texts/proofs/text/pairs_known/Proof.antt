@@ -2,27 +2,21 @@
 use borrow.Author.Needs.{needs}
 use native.Mathlib.Omega.{arith}
 use borrow.Author.Tests.{not-true, not-false}
-use Prim.Native.Nat.{ℕ, _+_, _-_}
-use mathlib.Core.Bool.{Bool}
+use Prim.Native.Nat.{_-_}
 use mathlib.Core.Path.{_≡_, sym, _∙_}
-use mathlib.Core.List.{List}
-use Rattle.rule_texts.specs.Line.{readRule}
-use Rattle.rule_texts.specs.Text.{knowsPairs, pairsKnown}
-use Rattle.rule_texts.proofs.Each.{Asked, asked-none, asked-all, asked-more, asked-fails, asked-here, ruleLine, rule-lines}
+use Rattle.rule_texts.specs.Text.{pairsKnown}
+use Rattle.rule_texts.proofs.Each.{Asked, asked-none, asked-all, asked-more, asked-fails, asked-here, ruleLine, knowsLine, rule-lines}
 use Rattle.rule_texts.proofs.text.pairs_known.Statement.{statement}
 use Rattle.rule_texts.proofs.text.pairs_known.Tie as tie
 
-abbrev knows : ℕ → List ℕ → Bool
-knows pairs l = knowsPairs pairs (readRule l)
-
 abbrev Inv-loop : tie.InvT-loop
-Inv-loop text pairs n at₀ at = Asked ruleLine text at × Asked (knows pairs) text at
+Inv-loop text pairs n at₀ at = Asked ruleLine text at × Asked (knowsLine pairs) text at
 
 abbrev μ-loop : tie.MeasureT-loop
 μ-loop text pairs n at₀ at = n - at
 
 loop-holds : tie.Need-loop-holds Inv-loop μ-loop
-loop-holds c = let a = c .before .args in (asked-none ruleLine (a .text .now), asked-none (knows (a .pairs)) (a .text .now))
+loop-holds c = let a = c .before .args in (asked-none ruleLine (a .text .now), asked-none (knowsLine (a .pairs)) (a .text .now))
 
 find-requires : tie.Need-find-requires Inv-loop μ-loop
 find-requires c κs = search needs
@@ -45,7 +39,7 @@ returns : tie.Need-returns Inv-loop μ-loop
 unfolding pairsKnown
 returns c =
     let a = c .before .before .before .before .before .before .before .args in
-    sym (asked-fails (knows (a .pairs)) (a .text .now) (c .before .before .before .before .before .loop .at) (c .before .before .before .before .before .loop .inv .1) (c .before .before .before .find .result) (c .before .before .before .before .loop-test .taken) (c .before .before .before .find .ensures) (sym (c .before .knows-pairs .ensures) ∙ not-true (c .before .knows-pairs .result) (c .if1 .taken)))
+    sym (asked-fails (knowsLine (a .pairs)) (a .text .now) (c .before .before .before .before .before .loop .at) (c .before .before .before .before .before .loop .inv .1) (c .before .before .before .find .result) (c .before .before .before .before .loop-test .taken) (c .before .before .before .find .ensures) (sym (c .before .knows-pairs .ensures) ∙ not-true (c .before .knows-pairs .result) (c .if1 .taken)))
 
 add-at : tie.Need-add-at Inv-loop μ-loop
 add-at c = omega (arith, c .before .before .before .find .ensures .inside, c .before .before .before .before .before .before .before .good)
@@ -61,13 +55,13 @@ loop-again c =
     let f = c .before .before .before .find .ensures in
     let e = c .before .before .before .find .result in
     let h = c .before .before .before .before .loop-test .taken in
-    (asked-more ruleLine t at (c .before .before .before .before .before .loop .inv .0) e h f (asked-here ruleLine t at (c .before .before .before .before .before .loop .inv .0) e h f (rule-lines t (c .before .before .before .before .before .before .before .pre))), asked-more (knows (a .pairs)) t at (c .before .before .before .before .before .loop .inv .1) e h f (sym (c .before .knows-pairs .ensures) ∙ not-false (c .before .knows-pairs .result) (c .if1 .left)))
+    (asked-more ruleLine t at (c .before .before .before .before .before .loop .inv .0) e h f (asked-here ruleLine t at (c .before .before .before .before .before .loop .inv .0) e h f (rule-lines t (c .before .before .before .before .before .before .before .pre))), asked-more (knowsLine (a .pairs)) t at (c .before .before .before .before .before .loop .inv .1) e h f (sym (c .before .knows-pairs .ensures) ∙ not-false (c .before .knows-pairs .result) (c .if1 .left)))
 
 returns-2 : tie.Need-returns-2 Inv-loop μ-loop
 unfolding pairsKnown
 returns-2 c =
     let a = c .before .before .before .args in
-    sym (asked-all (knows (a .pairs)) (a .text .now) (c .before .loop .at) (c .before .loop .inv .1) (c .loop-test .left))
+    sym (asked-all (knowsLine (a .pairs)) (a .text .now) (c .before .loop .at) (c .before .loop .inv .1) (c .loop-test .left))
 
 pub pairs-known-spec : {M : Type 1} → statement M
 pairs-known-spec =

@@ -1,0 +1,4 @@
+mod Framing
+mod Judging
+mod Lined
+pub mod Judgements
