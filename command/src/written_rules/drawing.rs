@@ -1,0 +1,169 @@
+//! Pairings to judge: all short ones, and longer ones that are drawn near to what rules and tables speak of.
+
+use super::contexts::{Context, BOUNDARY_NUMBER};
+use super::kinds::Kinds;
+use super::pairings::Pairing;
+use super::text::Group;
+use crate::text::Grammar;
+use crate::why::Tables;
+
+/// Pairs of a pairing at most.
+const MOST_PAIRS: usize = 40;
+/// Rounds of a star that are drawn, and pairs put before and after what is meant.
+const MOST_ROUNDS: usize = 2;
+const MOST_AROUND: usize = 2;
+/// Pairs of a walk through a table.
+const MOST_STEPS: usize = 12;
+
+/// Every pairing of one pair of each kind, the shortest first, up to the longest length of which all fit into `most`.
+pub fn all_short(kinds: &Kinds, most: usize) -> (usize, Vec<Pairing>) {
+    let mut all: Vec<Pairing> = Vec::new();
+    let (mut from, mut length) = (0, 0);
+    let mut last: usize = 1;
+    while length < MOST_PAIRS && all.len() + last * kinds.pairs.len() <= most {
+        let longer =
+            |before: &[u8]| -> Vec<Pairing> { kinds.pairs.iter().map(|&pair| [before, &[pair]].concat()).collect() };
+        let next: Vec<Pairing> = match length {
+            0 => longer(&[]),
+            _ => all[from..].iter().flat_map(|before| longer(before)).collect(),
+        };
+        from = all.len();
+        last = next.len();
+        all.extend(next);
+        length += 1;
+    }
+    (length, all)
+}
+
+/// Numbers by chance, the same ones for the same seed (SplitMix64).
+pub struct Chance(pub u64);
+
+impl Chance {
+    fn below(&mut self, bound: usize) -> usize {
+        self.0 = self.0.wrapping_add(0x9E37_79B9_7F4A_7C15);
+        let mut mixed = self.0;
+        mixed = (mixed ^ (mixed >> 30)).wrapping_mul(0xBF58_476D_1CE4_E5B9);
+        mixed = (mixed ^ (mixed >> 27)).wrapping_mul(0x94D0_49BB_1331_11EB);
+        ((mixed ^ (mixed >> 31)) % bound as u64) as usize
+    }
+
+    fn one<'a, T>(&mut self, of: &'a [T]) -> &'a T {
+        &of[self.below(of.len())]
+    }
+}
+
+/// Draws pairings for a group: a place with the contexts of a rule around it, or a walk that a table lets pass; half of them
+/// with one pair other than meant.
+pub struct Drawing<'a> {
+    pub group: &'a Group,
+    pub grammar: &'a Grammar,
+    pub tables: &'a Tables<'a>,
+    pub kinds: &'a Kinds,
+    pub chance: Chance,
+}
+
+impl Drawing<'_> {
+    pub fn draw(&mut self) -> Pairing {
+        let mut pairing = match self.group.tables.is_empty() || self.chance.below(3) > 0 {
+            true => self.around_a_place(),
+            false => self.walk(),
+        };
+        if self.chance.below(2) == 0 {
+            self.change(&mut pairing);
+        }
+        pairing.truncate(MOST_PAIRS);
+        if pairing.is_empty() {
+            pairing.push(self.some_pair());
+        }
+        pairing
+    }
+
+    fn some_pair(&mut self) -> u8 {
+        *self.chance.one(&self.kinds.pairs)
+    }
+
+    fn around_a_place(&mut self) -> Pairing {
+        let group = self.group;
+        let rule = self.chance.one(&group.rules);
+        let mut pairing = Vec::new();
+        let left = rule.left.as_ref().map_or(Vec::new(), |context| self.run(context));
+        if left.first() != Some(&BOUNDARY_NUMBER) {
+            self.put_some(&mut pairing);
+        }
+        put(&left, &mut pairing);
+        // The own pair, or another with its lexical letter.
+        let lexical = |pair: usize| self.grammar.pairs[pair].lexical;
+        let alike: Vec<usize> =
+            (0..self.grammar.pairs.len()).filter(|&pair| lexical(pair) == lexical(rule.own)).collect();
+        let place = if self.chance.below(2) == 0 { rule.own } else { *self.chance.one(&alike) };
+        put(&[place], &mut pairing);
+        let right = rule.right.as_ref().map_or(Vec::new(), |context| self.run(context));
+        put(&right, &mut pairing);
+        if right.last() != Some(&BOUNDARY_NUMBER) {
+            self.put_some(&mut pairing);
+        }
+        pairing
+    }
+
+    fn put_some(&mut self, pairing: &mut Pairing) {
+        for _ in 0..self.chance.below(MOST_AROUND + 1) {
+            let pair = self.some_pair();
+            pairing.push(pair);
+        }
+    }
+
+    /// A run of pairs that a context matches.
+    fn run(&mut self, context: &Context) -> Vec<usize> {
+        match context {
+            Context::Any => vec![usize::from(self.some_pair())],
+            Context::Pairs(numbers, _) => vec![*self.chance.one(numbers)],
+            Context::Sequence(parts) => parts.iter().flat_map(|part| self.run(part)).collect(),
+            Context::Either(sides) => {
+                let side = self.chance.below(sides.len());
+                self.run(&sides[side])
+            }
+            Context::Star(part) => {
+                let rounds = self.chance.below(MOST_ROUNDS + 1);
+                (0..rounds).flat_map(|_| self.run(part)).collect()
+            }
+        }
+    }
+
+    /// Pairs that a table lets pass, as far as it does.
+    fn walk(&mut self) -> Pairing {
+        let group = self.group;
+        let table = *self.chance.one(&group.tables);
+        let mut state = self.tables.next(table, 1, self.tables.boundary());
+        let mut pairing = Vec::new();
+        for _ in 0..1 + self.chance.below(MOST_STEPS) {
+            let next = |pair: u8| self.tables.next(table, state, usize::from(pair));
+            let passing: Vec<u8> = match state {
+                0 => Vec::new(),
+                _ => self.kinds.pairs.iter().copied().filter(|&pair| next(pair) != 0).collect(),
+            };
+            if passing.is_empty() {
+                break;
+            }
+            let pair = *self.chance.one(&passing);
+            state = self.tables.next(table, state, usize::from(pair));
+            pairing.push(pair);
+        }
+        pairing
+    }
+
+    /// One pair changed, put in or taken away.
+    fn change(&mut self, pairing: &mut Pairing) {
+        let at = self.chance.below(pairing.len() + 1);
+        let pair = self.some_pair();
+        match self.chance.below(3) {
+            0 if at < pairing.len() => pairing[at] = pair,
+            1 if at < pairing.len() => drop(pairing.remove(at)),
+            _ => pairing.insert(at, pair),
+        }
+    }
+}
+
+/// Puts pairs that may stand in a pairing; the boundary is at its ends without being there.
+fn put(pairs: &[usize], pairing: &mut Pairing) {
+    pairing.extend(pairs.iter().filter(|&&pair| pair != BOUNDARY_NUMBER).map(|&pair| pair as u8));
+}
