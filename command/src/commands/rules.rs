@@ -2,8 +2,9 @@
 
 use crate::arguments::{Choice, Given};
 use crate::commands::Command;
-use crate::failure::{failed, print, tell_fault, tell_faults, Failure};
+use crate::failure::{failed, print, tell, tell_fault, tell_faults, Failure};
 use crate::loaded::{load, Loaded};
+use crate::refusals;
 use crate::text::{limits, Fault, Faults};
 use crate::why::Tables;
 use crate::words::{self, Settings, Summary};
@@ -39,7 +40,7 @@ const SEED: Choice = Choice { name: "--seed", value: Some("N"), what: "draw othe
 const NUMBERS: Choice =
     Choice { name: "--numbers", value: None, what: "print the text that headwords_judge_rules takes" };
 const LETTERS: Choice = Choice { name: "--letters", value: None, what: "RULES is such a text; print it with letters" };
-const JSON: Choice = Choice { name: "--json", value: None, what: "a line of JSON for each line that begins a report" };
+const JSON: Choice = Choice { name: "--json", value: None, what: "a line of JSON for each table, or pairing" };
 
 pub const COMMAND: Command = Command {
     name: "rules",
@@ -71,16 +72,15 @@ for wrong usage
     run,
 };
 
-/// Pairings that a table is held on, where nobody says otherwise.
+/// Pairings that a table is held on, where nobody says otherwise; and the most, since they are remembered.
 const COUNT: usize = 10_000;
+const MOST_COUNT: usize = 10_000_000;
 
 fn run(given: &Given) -> Result<(), Failure> {
-    if given.has(NUMBERS.name) && given.has(LETTERS.name) {
-        return Err(Failure::Usage("--numbers and --letters are two ways; choose one".to_string()));
-    }
-    let (count, seed) = (given.number(DRAW.name)?.unwrap_or(COUNT), given.number(SEED.name)?.unwrap_or(1));
+    check_options(given)?;
     let loaded = load(Path::new(&given.operands[0]))?;
-    let judge = Judge::new(&loaded.image);
+    let refused = |number| tell_fault(&loaded.path, &Fault::new(0, refusals::told(number)));
+    let judge = Judge::new(&loaded.image).map_err(refused)?;
     if given.has(LETTERS.name) {
         return print_letters(given, &loaded, &judge);
     }
@@ -93,31 +93,14 @@ fn run(given: &Given) -> Result<(), Failure> {
     let teller = Teller { holder: &holder, as_json: given.has(JSON.name) };
     let single = pairings_given(given, &loaded, &judge)?;
     let listed = pairings_listed(given, &loaded, &judge)?;
-    let mut same = true;
-    for pairing in &single {
-        for group in &rules.0 {
-            print(&teller.verdicts(group, pairing))?;
-            let passes = holder.refused(group, pairing).is_none();
-            same &= group.tables.is_empty() || passes == holder.disobeyed(group, pairing).is_empty();
-        }
-    }
+    let mut same = tell_verdicts(&teller, &rules, &single)?;
     match listed {
         Some(pairings) => {
             for group in &rules.0 {
                 same &= tell_on(&teller, group, &pairings)?;
             }
         }
-        None if single.is_empty() => {
-            let named: Vec<&Group> = rules.0.iter().filter(|group| !group.tables.is_empty()).collect();
-            if named.is_empty() {
-                return Err(failed("no table is named to hold the rules against: write RULE \"name\" above them, or give --against NAME, or a --pairing"));
-            }
-            for group in named {
-                let held = holder.hold(group, &Asked::Drawn { count, seed: seed as u64 });
-                same &= held.different == 0;
-                print(&teller.held(group, &held))?;
-            }
-        }
+        None if single.is_empty() => same &= tell_drawn(&teller, &rules, &drawn(given)?)?,
         None => {}
     }
     if same {
@@ -125,6 +108,63 @@ fn run(given: &Given) -> Result<(), Failure> {
     } else {
         Err(Failure::Told)
     }
+}
+
+/// Options that say nothing beside others are hardly meant.
+fn check_options(given: &Given) -> Result<(), Failure> {
+    let pairings = [PAIRING, PAIRINGS, WORDS];
+    let draws = [DRAW, SEED];
+    let together = |one: &Choice, others: &[Choice]| {
+        let other = others.iter().find(|other| given.has(one.name) && given.has(other.name));
+        other.map_or(Ok(()), |other| Err(Failure::Usage(format!("{} and {} go not together", one.name, other.name))))
+    };
+    for one in [NUMBERS, LETTERS] {
+        together(&one, &[&pairings[..], &draws, &[JSON]].concat())?;
+    }
+    together(&LETTERS, &[NUMBERS, RULE, AGAINST])?;
+    together(&NUMBERS, &[AGAINST])?;
+    pairings.iter().try_for_each(|one| together(one, &draws))?;
+    drawn(given).map(drop)
+}
+
+fn drawn(given: &Given) -> Result<Asked<'static>, Failure> {
+    let (count, seed) = (given.number(DRAW.name)?.unwrap_or(COUNT), given.number(SEED.name)?.unwrap_or(1));
+    if count > MOST_COUNT {
+        return Err(Failure::Usage(format!("{} takes a number up to {MOST_COUNT}", DRAW.name)));
+    }
+    Ok(Asked::Drawn { count, seed: seed as u64 })
+}
+
+/// The verdicts on single pairings; whether tables and written rules say the same.
+fn tell_verdicts(teller: &Teller, rules: &Rules, pairings: &[Pairing]) -> Result<bool, Failure> {
+    let mut same = true;
+    for pairing in pairings {
+        for group in &rules.0 {
+            print(&teller.verdicts(group, pairing))?;
+            let held = teller.holder.hold(group, &Asked::Given(std::slice::from_ref(pairing)));
+            same &= group.tables.is_empty() || held.different == 0;
+        }
+    }
+    Ok(same)
+}
+
+/// Every table that is named, on drawn pairings.
+fn tell_drawn(teller: &Teller, rules: &Rules, drawn: &Asked) -> Result<bool, Failure> {
+    let (named, unnamed): (Vec<&Group>, Vec<&Group>) = rules.0.iter().partition(|group| !group.tables.is_empty());
+    let advice = "write RULE \"name\" above, or give --against NAME, or pairings";
+    if named.is_empty() {
+        return Err(failed(&format!("no table is named to hold the rules against: {advice}")));
+    }
+    if !unnamed.is_empty() {
+        tell(&format!("headwords: rules under no RULE are held against nothing: {advice}\n"));
+    }
+    let mut same = true;
+    for group in named {
+        let held = teller.holder.hold(group, drawn);
+        same &= held.different == 0;
+        print(&teller.held(group, &held))?;
+    }
+    Ok(same)
 }
 
 /// A group on pairings of a list; whether its tables say the same.

@@ -59,6 +59,8 @@ impl<'a> Pairs<'a> {
     }
 }
 
+const OPEN_ALONE: &str = "a bracket ( without its partner";
+const CLOSE_ALONE: &str = "a bracket ) without its partner";
 /// Pairs that are named beside one that is not there.
 const MOST_NEAR: usize = 6;
 
@@ -71,7 +73,7 @@ pub fn read(cuts: &[Cut], pairs: Pairs) -> Result<Option<Context>, String> {
     let context = reader.either()?;
     match reader.peek() {
         None => Ok(Some(context)),
-        Some(_) => Err("a bracket ) without its partner".to_string()),
+        Some(_) => Err(CLOSE_ALONE.to_string()),
     }
 }
 
@@ -102,12 +104,20 @@ impl Reader<'_> {
             parts.push(self.starred()?);
         }
         if parts.is_empty() {
-            return Err(match self.cuts.iter().any(|cut| matches!(cut.sign, Sign::Bar)) {
-                true => "a side of a bar is empty".to_string(),
-                false => "brackets with nothing in them".to_string(),
-            });
+            return Err(self.nothing().to_string());
         }
         Ok(one_or(parts, Context::Sequence))
+    }
+
+    /// What is told where something should stand and nothing does.
+    fn nothing(&self) -> &'static str {
+        let before = self.at.checked_sub(1).map(|at| self.cuts[at].sign);
+        match (before, self.peek()) {
+            (Some(Sign::Bar), _) | (_, Some(Sign::Bar)) => "a side of a bar is empty",
+            (Some(Sign::Open), Some(_)) => "brackets with nothing in them",
+            (Some(Sign::Open), None) => OPEN_ALONE,
+            _ => CLOSE_ALONE,
+        }
     }
 
     fn starred(&mut self) -> Result<Context, String> {
@@ -158,7 +168,7 @@ impl Reader<'_> {
                 self.at += 1;
                 Ok(context)
             }
-            _ => Err("a bracket ( without its partner".to_string()),
+            _ => Err(OPEN_ALONE.to_string()),
         }
     }
 }

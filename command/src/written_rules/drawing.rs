@@ -15,24 +15,30 @@ const MOST_AROUND: usize = 2;
 /// Pairs of a walk through a table.
 const MOST_STEPS: usize = 12;
 
-/// Every pairing of one pair of each kind, the shortest first, up to the longest length of which all fit into `most`.
-pub fn all_short(kinds: &Kinds, most: usize) -> (usize, Vec<Pairing>) {
-    let mut all: Vec<Pairing> = Vec::new();
-    let (mut from, mut length) = (0, 0);
-    let mut last: usize = 1;
-    while length < MOST_PAIRS && all.len() + last * kinds.pairs.len() <= most {
-        let longer =
-            |before: &[u8]| -> Vec<Pairing> { kinds.pairs.iter().map(|&pair| [before, &[pair]].concat()).collect() };
-        let next: Vec<Pairing> = match length {
-            0 => longer(&[]),
-            _ => all[from..].iter().flat_map(|before| longer(before)).collect(),
+/// The length up to which there are at most so many pairings of one pair of each kind.
+pub fn longest(kinds: &Kinds, most: usize) -> usize {
+    let (mut all, mut last) = (0, 1_usize);
+    let fits = |_: &usize| {
+        last = last.saturating_mul(kinds.pairs.len());
+        all = last.saturating_add(all);
+        all <= most
+    };
+    (1..=MOST_PAIRS).take_while(fits).count()
+}
+
+/// Every pairing of that many pairs, one pair of each kind; in order.
+pub fn for_each(kinds: &Kinds, length: usize, mut each: impl FnMut(&[u8])) {
+    let mut places = vec![0; length];
+    loop {
+        let pairing: Pairing = places.iter().map(|&place| kinds.pairs[place]).collect();
+        each(&pairing);
+        // The last place that can go on does, and those after it begin anew.
+        let Some(at) = places.iter().rposition(|&place| place + 1 < kinds.pairs.len()) else {
+            return;
         };
-        from = all.len();
-        last = next.len();
-        all.extend(next);
-        length += 1;
+        places[at] += 1;
+        places[at + 1..].fill(0);
     }
-    (length, all)
 }
 
 /// Numbers by chance, the same ones for the same seed (SplitMix64).

@@ -1,6 +1,6 @@
 //! Holds the tables of a group against its written rules: on pairings that are given, or on short and drawn ones.
 
-use super::drawing::{all_short, Chance, Drawing};
+use super::drawing::{for_each, longest, Chance, Drawing};
 use super::judge::Judge;
 use super::kinds::Kinds;
 use super::pairings::Pairing;
@@ -90,17 +90,17 @@ struct Holding<'a> {
 impl Holding<'_> {
     /// All short pairings, and as many longer ones as are left of the count.
     fn draw(&mut self, count: usize, seed: u64) {
-        let (longest, short) = all_short(self.kinds, count / 2);
-        short.iter().for_each(|pairing| self.judge(pairing));
-        self.held.longest = longest;
+        let kinds = self.kinds;
+        self.held.longest = longest(kinds, count / 2);
+        (1..=self.held.longest).for_each(|length| for_each(kinds, length, |pairing| self.judge(pairing)));
         let Holder { grammar, tables, .. } = *self.holder;
         let mut drawing = Drawing { group: self.group, grammar, tables, kinds: self.kinds, chance: Chance(seed) };
         let mut drawn = HashSet::new();
         // Where few pairings can be drawn, the same ones come again, and nothing new is found.
-        for _ in 0..count - short.len() {
+        for _ in self.held.count..count {
             let pairing = drawing.draw();
             let plain = self.kinds.plain(&pairing);
-            if plain.len() > longest && drawn.insert(plain) {
+            if plain.len() > self.held.longest && drawn.insert(plain) {
                 self.judge(&pairing);
             }
         }

@@ -65,8 +65,10 @@ impl Reader<'_> {
             return self.name_table(line);
         }
         self.count += 1;
-        if self.count > *limits::RULES.end() {
-            limits::within(&limits::RULES, self.count, "written rules", line.number).map_err(|fault| fault.what)?;
+        match self.count.checked_sub(*limits::RULES.end()) {
+            None | Some(0) => {}
+            Some(1) => return Err(format!("over {} written rules", limits::RULES.end())),
+            Some(_) => return Ok(()),
         }
         let rule = WrittenRule::read(&line.words, Pairs::of(self.grammar))?;
         self.judge.accepts(&rule.numbers).map_err(refusals::told)?;
