@@ -173,3 +173,42 @@ impl Drawing<'_> {
 fn put(pairs: &[usize], pairing: &mut Pairing) {
     pairing.extend(pairs.iter().filter(|&&pair| pair != BOUNDARY_NUMBER).map(|&pair| pair as u8));
 }
+
+#[cfg(test)]
+mod tests {
+    use super::*;
+    use crate::text::{read_grammar, sealed_image};
+    use crate::written_rules::{read_rules, Judge};
+
+    const LUZ: &str = include_str!("../../../grammars/luz.txt");
+
+    #[test]
+    fn all_short_pairings_are_made_and_long_ones_drawn_where_rules_apply() {
+        let grammar = read_grammar(LUZ.as_bytes()).unwrap();
+        let judge = Judge::new(&sealed_image(&grammar)).unwrap();
+        let rules = read_rules(b"RULE 0\nZ:c <=> # l u _ +:0 (e:e s*)* #", &grammar, &judge).unwrap();
+        let group = &rules.0[0];
+        let kinds = Kinds::of(group, &grammar);
+        // Each pair but c:c is named, so that each is a kind.
+        assert_eq!(kinds.pairs.len(), 8);
+        assert_eq!([0, 7, 8, 71, 72, 583, 584].map(|most| longest(&kinds, most)), [0, 0, 1, 1, 2, 2, 3]);
+        let mut all = Vec::new();
+        for_each(&kinds, 2, |pairing| all.push(pairing.to_vec()));
+        let right: Vec<Pairing> = (0..64).map(|number| vec![number / 8, number % 8]).collect();
+        assert_eq!(all, right);
+
+        let tables = Tables::new(&grammar);
+        let draw = |seed| {
+            let mut drawing =
+                Drawing { group, grammar: &grammar, tables: &tables, kinds: &kinds, chance: Chance(seed) };
+            (0..1000).map(|_| drawing.draw()).collect::<Vec<Pairing>>()
+        };
+        let drawn = draw(1);
+        assert_eq!(drawn, draw(1));
+        assert_ne!(drawn, draw(2));
+        assert!(drawn.iter().all(|pairing| (1..=MOST_PAIRS).contains(&pairing.len())));
+        // The place with its contexts, of which chance alone would draw one in 8 to the sixth.
+        let whole = drawn.iter().filter(|pairing| pairing[..] == [3, 5, 6, 0, 2, 4]).count();
+        assert!(whole > 5, "{whole}");
+    }
+}

@@ -42,3 +42,41 @@ impl Kinds {
         pairing.iter().map(|&pair| self.pairs[self.of[usize::from(pair)]]).collect()
     }
 }
+
+#[cfg(test)]
+mod tests {
+    use super::*;
+    use crate::text::{read_grammar, sealed_image};
+    use crate::why::Tables;
+    use crate::written_rules::{read_rules, Judge};
+
+    const LUZ: &str = include_str!("../../../grammars/luz.txt");
+
+    #[test]
+    fn no_verdict_depends_on_which_pair_of_a_kind_there_is() {
+        let grammar = read_grammar(LUZ.as_bytes()).unwrap();
+        let judge = Judge::new(&sealed_image(&grammar)).unwrap();
+        let tables = Tables::new(&grammar);
+        for (text, count) in [
+            ("Z:c <=> _ +:0 e:e", 5),
+            ("Z:c <= _ (e|s) .", 5),
+            ("e /<= l _ (u | s)* #", 5),
+            ("c:c => Z: _\nl => _ u c*", 5),
+            ("RULE 0\ne /<= l _", 6),
+        ] {
+            let rules = read_rules(text.as_bytes(), &grammar, &judge).unwrap();
+            let group = &rules.0[0];
+            let kinds = Kinds::of(group, &grammar);
+            assert_eq!(kinds.pairs.len(), count, "{text}");
+            let verdicts = |pairing: &[u8]| {
+                let numbers: Vec<usize> = pairing.iter().map(|&pair| usize::from(pair)).collect();
+                let refused = group.tables.iter().any(|&table| tables.refused_by(table, &numbers).is_some());
+                (refused, judge.obeys(pairing, &group.numbers()))
+            };
+            for number in 0..8 * 8 * 8 * 8 {
+                let pairing = [0, 1, 2, 3].map(|place| (number >> (3 * place) & 7) as u8);
+                assert_eq!(verdicts(&pairing), verdicts(&kinds.plain(&pairing)), "{text} {pairing:?}");
+            }
+        }
+    }
+}

@@ -1,0 +1,103 @@
+#!/usr/bin/env bash
+# headwords rules, as a linguist uses it: the written rules of the three samples held against their tables, by text and by image, as stored in tests/rules;
+# the tables of quichua mended where they differ, and then the same as their written rules; pairings that are given; every line of JSON read.
+set -eu
+cd "$(dirname "$0")/.."
+tools/need python3
+tools/command
+headwords=$PWD/target/cargo/release/headwords
+work=$(mktemp -d)
+trap 'rm -rf "$work"' EXIT
+
+# ends STATUS ARGUMENT...: whether headwords rules ends so; what it says and tells is left in $work
+ends() {
+    local status=0
+    "$headwords" rules "${@:2}" >"$work/said" 2>"$work/told" || status=$?
+    [ "$status" -eq "$1" ] || { cat "$work/said" "$work/told"; echo "${*:2}: status $status"; exit 1; }
+}
+for sample in luz:0 spanish:0 quichua:1; do
+    name=${sample%:*}
+    ends "${sample#*:}" "grammars/$name.txt" "grammars/$name.rules"
+    [ ! -s "$work/told" ]
+    diff "tests/rules/$name.held" "$work/said"
+    "$headwords" assemble "grammars/$name.txt" "$work/$name.img"
+    ends "${sample#*:}" "$work/$name.img" - <"grammars/$name.rules"
+    diff "tests/rules/$name.held" "$work/said"
+    ends "${sample#*:}" --seed 2 "grammars/$name.txt" "grammars/$name.rules"
+    diff <(sed 's/:.*//' "tests/rules/$name.held" | grep '^rule') <(sed 's/:.*//' "$work/said" | grep '^rule')
+done
+echo "written rules of the samples: held against their tables as stored"
+
+# without its names an image has rules of other names
+rm "$work/luz.img.names"
+ends 1 "$work/luz.img" grammars/luz.rules
+grep -qF 'grammars/luz.rules:3: no rule is called "Z becomes c before +e"' "$work/told"
+sed 's/^RULE.*/RULE 0/' grammars/luz.rules >"$work/luz.rules"
+ends 0 "$work/luz.img" "$work/luz.rules"
+
+# Each row that is not as the written rule has it, mended: then every table says the same.
+python3 - grammars/quichua.txt "$work/mended.txt" <<'END'
+import re, sys
+text = open(sys.argv[1], encoding="utf-8").read()
+# of each rule the state, the column from 1 on, and the next state
+mended = {
+    "i lowered before a postvelar": [(2, 2, 5)],
+    "i lowered after a postvelar": [(2, 1, 1)],
+    "u lowered before a postvelar": [(2, 2, 5)],
+    "u lowered after a postvelar": [(2, 1, 1)],
+    "W of the first person object": [(3, 1, 3), (4, 2, 1), (6, 1, 0)],
+    "U of -mU": [(2, 3, 1), (3, 2, 1), (3, 5, 1), (8, 4, 0), (9, 4, 0), (10, 4, 0), (11, 4, 0)],
+    "N of the third person": [(2, 1, 2), (7, 1, 2), (8, 2, 0), (8, 3, 1), (10, 2, 0), (10, 3, 1), (11, 2, 0), (12, 2, 0)],
+}
+for name, places in mended.items():
+    begins = text.index('RULE "%s"' % name)
+    ends = text.index("\n\n", begins)
+    rows = text[begins:ends].split("\n")
+    for state, column, following in places:
+        row = rows[2 + state].split()
+        assert row[0] in ("%d:" % state, "%d." % state) and row[column] != str(following), (name, row)
+        row[column] = str(following)
+        rows[2 + state] = " ".join(row)
+    text = text[:begins] + "\n".join(rows) + text[ends:]
+open(sys.argv[2], "w", encoding="utf-8").write(text)
+END
+ends 0 --draw 100000 "$work/mended.txt" grammars/quichua.rules
+[ "$(grep -c '^rule ".*": same on' "$work/said")" -eq 7 ]
+echo "the tables of quichua, mended: the same as their written rules"
+
+# one place that is wrong in a table of luz or spanish is found
+for wrong in '/Z becomes c/,/^$/s/^  4: 3 2 1 0 1/  4: 3 2 1 1 1/' '/Z becomes c/,/^$/s/^  5\. 0 0 0 1 0/  5: 0 0 0 1 1/' '/Q becomes qu/,/^$/s/^  6: 2 5 0 1 0 1/  6: 2 5 1 1 0 1/' \
+    '/Q becomes qu/,/^$/s/^  3\. 0 0 0 4 0 0/  3. 0 0 0 4 0 4/' '/Q becomes qu/,/^$/s/^  2\. 0 0 3/  2: 0 0 3/'; do
+    sed "$wrong" grammars/spanish.txt >"$work/wrong.txt"
+    if cmp -s grammars/spanish.txt "$work/wrong.txt"; then
+        echo "$wrong: changes nothing"
+        exit 1
+    fi
+    status=1
+    # not final, and yet no word ends there: the boundary leads to 0
+    [ "$wrong" != '/Q becomes qu/,/^$/s/^  2\. 0 0 3/  2: 0 0 3/' ] || status=0
+    ends "$status" "$work/wrong.txt" grammars/spanish.rules
+done
+echo "one wrong number in a table: found"
+
+"$headwords" rules --json grammars/quichua.txt grammars/quichua.rules >"$work/json" || true
+"$headwords" rules --json --against 0 --rule 'Z:c => _ +:0' --pairing 'Z:z +:0 e' --pairing 'Z:c' grammars/luz.txt >>"$work/json" || true
+printf 'luces\nluz\n' | "$headwords" rules --json --words - --rule 'Z:z => _ +:0' --rule 'u => l _' grammars/luz.txt >>"$work/json"
+python3 - "$work/json" <<'END'
+import json, sys
+lines = [json.loads(line) for line in open(sys.argv[1], encoding="utf-8")]
+held, pairings, words = lines[:7], lines[7:9], lines[9:]
+for line in held:
+    assert list(line) == ["tables", "written", "pairings", "longest", "different", "differences"], line
+    assert line["different"] > 0 and line["differences"] and line["longest"] >= 4, line
+    for one in line["differences"]:
+        assert list(one) == ["pairing", "tables", "refused", "written", "fails"], one
+        assert (one["refused"] is None) != (one["fails"] == []), one
+first = held[0]["differences"][0]
+assert first["pairing"] == ["i:e", "i:i"] and first["refused"] == {"rule": "i lowered before a postvelar", "state": 2, "pair": "i:i", "next": 0}, first
+assert [one["refused"] is None for one in pairings] == [False, False], pairings
+assert [one["fails"] for one in pairings] == [[], ["Z:c => _ +:0"]], pairings
+assert [(one["written"], one["pairings"], one["fails"]) for one in words] == [(["Z:z => _ +:0"], 3, 1), (["u => l _"], 3, 0)], words
+assert words[0]["failing"] == [["l:l", "u:u", "Z:z"]], words
+END
+echo "JSON: read"
