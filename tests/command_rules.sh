@@ -1,6 +1,6 @@
 #!/usr/bin/env bash
 # headwords rules, as a linguist uses it: the written rules of the three samples held against their tables, by text and by image, as stored in tests/rules;
-# the tables of quichua mended where they differ, and then the same as their written rules; pairings that are given; every line of JSON read.
+# the tables of quichua mended where they differ, and then the same as their written rules; what docs/GRAMMARS.md shows; every line of JSON read.
 set -eu
 cd "$(dirname "$0")/.."
 tools/need python3
@@ -79,6 +79,22 @@ for wrong in '/Z becomes c/,/^$/s/^  4: 3 2 1 0 1/  4: 3 2 1 1 1/' '/Z becomes c
     ends "$status" "$work/wrong.txt" grammars/spanish.rules
 done
 echo "one wrong number in a table: found"
+
+# every run that the page shows prints what it shows, or begins so
+printf 'bloc\nbloques\nluces\nluz\n' >"$work/words.txt"
+"$headwords" rules --numbers grammars/spanish.txt grammars/spanish.rules >"$work/numbers.txt"
+ln -s "$PWD/grammars" "$work/grammars"
+python3 - docs/GRAMMARS.md "$headwords" "$work" <<'END'
+import re, shlex, subprocess, sys
+page = open(sys.argv[1], encoding="utf-8").read()
+runs = re.findall(r"^    \$ headwords (rules .*)\n((?:    (?!\$).*\n)+)", page, re.M)
+assert len(runs) >= 7, len(runs)
+for command, shown in runs:
+    ran = subprocess.run([sys.argv[2]] + shlex.split(command), cwd=sys.argv[3], capture_output=True, text=True)
+    shown = re.sub("^    ", "", shown, flags=re.M)
+    assert ran.stdout.startswith(shown) and not ran.stderr, (command, ran)
+END
+echo "the page: as it shows"
 
 "$headwords" rules --json grammars/quichua.txt grammars/quichua.rules >"$work/json" || true
 "$headwords" rules --json --against 0 --rule 'Z:c => _ +:0' --pairing 'Z:z +:0 e' --pairing 'Z:c' grammars/luz.txt >>"$work/json" || true
