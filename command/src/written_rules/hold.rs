@@ -11,6 +11,8 @@ use std::collections::HashSet;
 
 /// Differences that are told of a group.
 pub const MOST_TOLD: usize = 5;
+/// Draws, on the average, after which a pairing that is new is given up.
+const DRAWS_FOR_ONE: usize = 8;
 
 /// What tables and written rules say of a pairing.
 #[derive(Debug)]
@@ -96,12 +98,15 @@ impl Holding<'_> {
         let Holder { grammar, tables, .. } = *self.holder;
         let mut drawing = Drawing { group: self.group, grammar, tables, kinds: self.kinds, chance: Chance(seed) };
         let mut drawn = HashSet::new();
-        // Where few pairings can be drawn, the same ones come again, and nothing new is found.
-        for _ in self.held.count..count {
+        // Some come again, and where few can be drawn no others do.
+        for _ in 0..DRAWS_FOR_ONE * (count - self.held.count) {
             let pairing = drawing.draw();
-            let plain = self.kinds.plain(&pairing);
+            let plain = kinds.plain(&pairing);
             if plain.len() > self.held.longest && drawn.insert(plain) {
                 self.judge(&pairing);
+            }
+            if self.held.count == count {
+                break;
             }
         }
     }

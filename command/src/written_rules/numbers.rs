@@ -3,7 +3,7 @@
 use super::contexts::{Pairs, BOUNDARY_NUMBER};
 use super::judge::Judge;
 use crate::refusals;
-use crate::text::{Fault, Faults, Grammar};
+use crate::text::{limits, Fault, Faults, Grammar};
 
 /// The rules of such a text, a line each. Whether it is one, the library says, of each line and of the whole.
 pub fn with_letters(bytes: &[u8], grammar: &Grammar, judge: &Judge) -> Result<String, Faults> {
@@ -11,7 +11,8 @@ pub fn with_letters(bytes: &[u8], grammar: &Grammar, judge: &Judge) -> Result<St
     let mut faults = Faults::default();
     let mut shown = String::new();
     let text = text.strip_suffix('\n').unwrap_or(&text);
-    let lines = text.split('\n').filter(|_| !bytes.is_empty());
+    // One over the limit is enough for the library to refuse the whole.
+    let lines = text.split('\n').filter(|_| !bytes.is_empty()).take(*limits::RULES.end() + 1);
     for (line, number) in lines.zip(1..) {
         // A line of no byte is a text of no rule, and within a text no rule.
         let accepted = if line.is_empty() { judge.accepts("\n") } else { judge.accepts(line) };
