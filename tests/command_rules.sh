@@ -61,7 +61,7 @@ for name, places in mended.items():
     text = text[:begins] + "\n".join(rows) + text[ends:]
 open(sys.argv[2], "w", encoding="utf-8").write(text)
 END
-ends 0 --draw 100000 "$work/mended.txt" grammars/quichua.rules
+ends 0 --draw 20000 "$work/mended.txt" grammars/quichua.rules
 [ "$(grep -c '^rule ".*": same on' "$work/said")" -eq 7 ]
 echo "the tables of quichua, mended: the same as their written rules"
 
