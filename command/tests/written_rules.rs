@@ -4,7 +4,7 @@ mod support;
 
 use std::fs;
 use std::path::Path;
-use support::{accepted, anywhere, run, sample_path, scratch, Ran, SAMPLES};
+use support::{anywhere, run, sample_path, scratch, Ran, SAMPLES};
 
 /// Runs `headwords rules` on a grammar with rules that are arguments.
 fn rules(grammar: &Path, rules: &[&str], others: &[&str]) -> Ran {
@@ -150,7 +150,7 @@ fn a_text_has_32_rules() {
 fn a_sign_that_is_a_letter_is_one_beside_a_colon() {
     let folder = scratch("signs_as_letters");
     let grammar = folder.join("signs.txt");
-    let text = "BOUNDARY #\nNULL 0\nANY @\nALPHABET ( ) | * . _ < = : / a\nSUBSET <=> ( )\nSUBSET a_b a *\nPAIRS (:( ):) |:| *:* .:. _:_ <:< =:= ::: /:/ a:a a:)\nLEXICON Root\na #\nEND\n";
+    let text = "BOUNDARY #\nNULL 0\nANY @\nALPHABET ( ) | * . _ < = : / a\nSUBSET <=> ( )\nSUBSET a_b a *\nSUBSET S a\nSUBSET S_S ( )\nPAIRS (:( ):) |:| *:* .:. _:_ <:< =:= ::: /:/ a:a a:)\nLEXICON Root\na #\nEND\n";
     fs::write(&grammar, text).unwrap();
     for (rule, numbers) in [
         ("(:( => (*:*|.:.)* _ _:_ .", "=> 000 (003|004)*_005."),
@@ -158,6 +158,7 @@ fn a_sign_that_is_a_letter_is_one_beside_a_colon() {
         ("<:< <=> =:= _ |:| <:<", "<=> 006 007_002006"),
         ("/:/ /<= <=>:@ _ a_b:", "/<= 009 000|001_003|010|011"),
         ("::: => :( _ (:", "=> 008 000_000"),
+        ("a => S_S _ S", "=> 010 000|001_010"),
     ] {
         assert_eq!(numbered(&grammar, rule), format!("{numbers}\n"), "{rule}");
     }
@@ -329,23 +330,6 @@ fn pairings_at_fault_are_told() {
     }
     let forty = "l ".repeat(40);
     assert_eq!(rules(&luz, &["Z:c => _"], &["--pairing", &forty]).code, Some(0));
-}
-
-#[test]
-fn an_image_that_calls_refuse_is_refused() {
-    let folder = scratch("refused_image");
-    let mut image = accepted(&support::sample("luz"));
-    // The first letter of the first entry becomes z, which is the lexical side of no pair.
-    let block = image.len() - 512;
-    image[block + 5] = 8;
-    let sum: u32 = (0..510).map(|i| (i as u32 + 1) * u32::from(image[block + i])).sum();
-    let check = ((1 + sum) % 65_521) as u16;
-    image[block + 510..].copy_from_slice(&check.to_le_bytes());
-    let path = folder.join("luz.img");
-    fs::write(&path, &image).unwrap();
-    let ran = rules(&path, &["Z:c => _"], &["--numbers"]);
-    let told = format!("{}:0: refused 14: ", path.display());
-    assert!(ran.code == Some(1) && ran.stderr.starts_with(&told), "{}", ran.stderr);
 }
 
 #[test]

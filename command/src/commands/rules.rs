@@ -4,7 +4,6 @@ use crate::arguments::{Choice, Given};
 use crate::commands::Command;
 use crate::failure::{failed, print, tell, tell_fault, tell_faults, Failure};
 use crate::loaded::{load, Loaded};
-use crate::refusals;
 use crate::text::{limits, Fault, Faults};
 use crate::why::Tables;
 use crate::words::{self, Settings, Summary};
@@ -79,8 +78,7 @@ const MOST_COUNT: usize = 10_000_000;
 fn run(given: &Given) -> Result<(), Failure> {
     check_options(given)?;
     let loaded = load(Path::new(&given.operands[0]))?;
-    let refused = |number| tell_fault(&loaded.path, &Fault::new(0, refusals::told(number)));
-    let judge = Judge::new(&loaded.image).map_err(refused)?;
+    let judge = Judge::new(&loaded.image);
     if given.has(LETTERS.name) {
         return print_letters(given, &loaded, &judge);
     }

@@ -185,7 +185,7 @@ mod tests {
     #[test]
     fn all_short_pairings_are_made_and_long_ones_drawn_where_rules_apply() {
         let grammar = read_grammar(LUZ.as_bytes()).unwrap();
-        let judge = Judge::new(&sealed_image(&grammar)).unwrap();
+        let judge = Judge::new(&sealed_image(&grammar));
         let rules = read_rules(b"RULE 0\nZ:c <=> # l u _ +:0 (e:e s*)* #", &grammar, &judge).unwrap();
         let group = &rules.0[0];
         let kinds = Kinds::of(group, &grammar);

@@ -14,11 +14,9 @@ pub struct Judge {
 }
 
 impl Judge {
-    /// The judge by an image; else the number of the refusal. A call checks its image whole, and a verdict depends on nothing of
-    /// it but the pairs: so the calls after the first get an image of the same letters and pairs, without sets and tables, and
-    /// with one empty entry.
-    pub fn new(image: &[u8]) -> Result<Judge, u32> {
-        library::judge_rules(image, &SOME_PAIRING, b"")?;
+    /// The judge by an accepted image. A call checks its image whole, and a verdict depends on nothing of it but the pairs: so
+    /// the calls get an image of the same letters and pairs, without sets and tables, and with one empty entry.
+    pub fn new(image: &[u8]) -> Judge {
         let mut grammar = decode(image);
         let entry =
             Entry { form: Vec::new(), continuation: Continuation::End, gloss: 0, gloss_text: String::new(), line: 0 };
@@ -26,7 +24,7 @@ impl Judge {
         grammar.rules.clear();
         grammar.lexicons.truncate(1);
         grammar.lexicons[0].entries = vec![entry];
-        Ok(Judge { image: sealed_image(&grammar) })
+        Judge { image: sealed_image(&grammar) }
     }
 
     /// Whether a pairing obeys a text of rules; else the number of the refusal.

@@ -55,7 +55,7 @@ mod tests {
     #[test]
     fn no_verdict_depends_on_which_pair_of_a_kind_there_is() {
         let grammar = read_grammar(LUZ.as_bytes()).unwrap();
-        let judge = Judge::new(&sealed_image(&grammar)).unwrap();
+        let judge = Judge::new(&sealed_image(&grammar));
         let tables = Tables::new(&grammar);
         for (text, count) in [
             ("Z:c <=> _ +:0 e:e", 5),
