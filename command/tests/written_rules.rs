@@ -280,6 +280,8 @@ fn lines_under_one_name_are_one_rule_and_tables_named_together_one_table() {
     assert_eq!(held(&more.replace("t:t /<= _\n", "")).0, Some(1));
     let unnamed = "headwords: rules under no RULE are held against nothing: write RULE \"name\" above, or give --against NAME, or pairings\n";
     assert_eq!(held(&format!("t:t => _\n{split}")).2, unnamed);
+    let at_fault = "RULE 0\nt:c => i\n";
+    assert_eq!(held(at_fault).2.lines().count(), 1);
     let faults = "RULE \"t becomes c before i\"\nt:c => _ i\nRULE 0\nt:c => _\nRULE 7\nRULE 1\n";
     let told = "two.rules:3: a second RULE \"t becomes c before i\"; the first is in line 1\ntwo.rules:5: there is no rule 7; the grammar has 3, from 0 on\ntwo.rules:6: no written rule follows\n";
     assert_eq!(held(faults), (Some(1), Vec::new(), told.to_string()));

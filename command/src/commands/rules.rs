@@ -48,8 +48,8 @@ pub const COMMAND: Command = Command {
     what: "written rules, and where the tables of a grammar say otherwise",
     options: &[RULE, AGAINST, PAIRING, PAIRINGS, WORDS, DRAW, SEED, NUMBERS, LETTERS, JSON],
     more: "\
-RULES is a text of written rules, one a line, - standard input; ; begins a comment. A rule is its own pair, an operator, and
-its contexts on both sides of an underscore:
+RULES is a text of written rules, one a line, with comments as in a grammar; - is standard input. A rule is its own pair, an
+operator, and its contexts on both sides of an underscore:
 
   Z:c <=> _ +:0 e:e
 

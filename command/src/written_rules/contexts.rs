@@ -52,7 +52,7 @@ impl<'a> Pairs<'a> {
         let near: Vec<String> = (0..self.listed.len())
             .filter(|&number| alike(&self.listed[number]))
             .map(|number| self.show(number))
-            .take(MOST_NEAR)
+            .take(MOST_NAMED)
             .collect();
         let hint = if near.is_empty() { String::new() } else { format!("; there are {}", near.join(" ")) };
         format!("{written}: the grammar has no such pair{hint}")
@@ -61,8 +61,8 @@ impl<'a> Pairs<'a> {
 
 const OPEN_ALONE: &str = "a bracket ( without its partner";
 const CLOSE_ALONE: &str = "a bracket ) without its partner";
-/// Pairs that are named beside one that is not there.
-const MOST_NEAR: usize = 6;
+/// Pairs that are named in a fault.
+pub const MOST_NAMED: usize = 6;
 
 /// Reads what stands on one side of the underscore; nothing holds everywhere.
 pub fn read(cuts: &[Cut], pairs: Pairs) -> Result<Option<Context>, String> {

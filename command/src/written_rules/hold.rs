@@ -11,7 +11,7 @@ use std::collections::HashSet;
 
 /// Differences that are told of a group.
 pub const MOST_TOLD: usize = 5;
-/// Draws, on the average, after which a pairing that is new is given up.
+/// Draws for each pairing that is wanted, after which those that came have to do.
 const DRAWS_FOR_ONE: usize = 8;
 
 /// What tables and written rules say of a pairing.

@@ -1,6 +1,6 @@
 //! One written rule: its own pair, its operator, and the contexts to the left and to the right of the underscore.
 
-use super::contexts::{read, Context, Pairs};
+use super::contexts::{read, Context, Pairs, MOST_NAMED};
 use super::signs::{cut, Cut, Operator, Sign};
 use crate::text::columns::Sides;
 use crate::text::lines::{one_character, Word};
@@ -63,8 +63,8 @@ fn read_own<'a>(cuts: &'a [Cut<'a>], pairs: Pairs) -> Result<(usize, &'a [Cut<'a
         ([], false) => Err(pairs.no_pair(first.text, column)),
         ([own], false) => Ok((*own, rest)),
         _ => {
-            let shown: Vec<String> = numbers.iter().take(6).map(|&number| pairs.show(number)).collect();
-            let rest = if numbers.len() > 6 { " .." } else { "" };
+            let shown: Vec<String> = numbers.iter().take(MOST_NAMED).map(|&number| pairs.show(number)).collect();
+            let rest = if numbers.len() > MOST_NAMED { " .." } else { "" };
             Err(format!(
                 "{}: a rule's own pair is one pair; write a line for each of {}{rest}",
                 first.text,

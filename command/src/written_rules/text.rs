@@ -37,7 +37,7 @@ impl Rules {
 /// Reads the bytes of a text. What is read is shown to the library, which has the last word.
 pub fn read_rules(bytes: &[u8], grammar: &Grammar, judge: &Judge) -> Result<Rules, Faults> {
     let lines = split(decode(bytes)?)?;
-    let mut reader = Reader { grammar, judge, groups: vec![Group::default()], named: Vec::new(), count: 0 };
+    let mut reader = Reader { grammar, judge, groups: vec![Group::default()], named: Vec::new(), count: 0, before: 0 };
     let mut faults = Faults::default();
     for line in &lines {
         faults.keep(reader.line(line).map_err(|what| Fault::new(line.number, what)));
@@ -55,8 +55,9 @@ struct Reader<'a> {
     groups: Vec<Group>,
     /// Each table that is named, and in which line.
     named: Vec<(usize, usize)>,
-    /// Lines that are rules, at fault or not.
+    /// Lines that are rules, at fault or not; and how many there were at the last RULE.
     count: usize,
+    before: usize,
 }
 
 impl Reader<'_> {
@@ -88,6 +89,7 @@ impl Reader<'_> {
             return Err(format!("a second RULE \"{}\"; the first is in line {first}", self.grammar.rules[table].name));
         }
         self.named.push((table, line.number));
+        self.before = self.count;
         match self.groups.last_mut() {
             Some(group) if group.rules.is_empty() && !group.tables.is_empty() => group.tables.push(table),
             _ => self.groups.push(Group { tables: vec![table], rules: Vec::new() }),
@@ -97,10 +99,8 @@ impl Reader<'_> {
 
     /// Nothing would be a rule that every pairing obeys, which is hardly meant.
     fn has_rules(&self) -> Result<(), Fault> {
-        match (self.groups.last(), self.named.last()) {
-            (Some(group), Some((_, line))) if group.rules.is_empty() => {
-                Err(Fault::new(*line, "no written rule follows"))
-            }
+        match self.named.last() {
+            Some((_, line)) if self.count == self.before => Err(Fault::new(*line, "no written rule follows")),
             _ => Ok(()),
         }
     }
