@@ -62,8 +62,9 @@ RULE \"name\" names the table that the lines after it, together, were to say; se
 tables that together were to.
 
 Each table that is named is held against its rules, on all short pairings and on longer ones that are drawn, or on those that
-are given: told is on how many both say the same, and else pairings that they judge differently. What a written rule says is
-the library's verdict, headwords_judge_rules.
+are given: told is on how many both say the same, and else pairings that they judge differently. For each --pairing a line is
+printed for each rule and each table: holds or fails, the pairing, the rule, divided by tabs. What a written rule says is the
+library's verdict, headwords_judge_rules.
 
 status: 0 where tables and written rules say the same; 1 where they do not, a text has faults, or something cannot be read; 2
 for wrong usage
