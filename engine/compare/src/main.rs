@@ -1,11 +1,13 @@
 //! Every call is made to the linked library and to the second engine, and the first reply or byte that differs ends the run.
 
+mod claims;
 mod lent;
 mod library;
 mod many;
 mod met;
 mod ruled;
 mod spelled;
+mod tables;
 mod tally;
 mod touched;
 
@@ -28,7 +30,7 @@ use std::ops::Range;
 use std::process::exit;
 use tally::{Kind, Tally};
 
-const USAGE: &str = "usage: compare [SEED [CALLS]]";
+const USAGE: &str = "usage: compare [SEED [CALLS]], or compare --tables IMAGE CLAIMS";
 
 /// The refusals that images are damaged for, with their weights; 0 is a change that does no harm, and none is several at once.
 const DAMAGES: [(usize, Option<u8>); 11] = [
@@ -46,7 +48,17 @@ const DAMAGES: [(usize, Option<u8>); 11] = [
 ];
 
 fn main() {
-    let mut arguments = std::env::args().skip(1);
+    let given: Vec<String> = std::env::args().skip(1).collect();
+    if let [mode, image, claims] = &given[..] {
+        let files = (std::fs::read(image), std::fs::read_to_string(claims));
+        let (true, (Ok(image), Ok(claims))) = (mode == "--tables", files) else {
+            eprintln!("{USAGE}");
+            exit(2);
+        };
+        tables::run(&image, &claims);
+        return;
+    }
+    let mut arguments = given.into_iter();
     let mut number = |otherwise: u64| match arguments.next() {
         None => otherwise,
         Some(text) => text.parse().unwrap_or_else(|_| {

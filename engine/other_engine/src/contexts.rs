@@ -41,8 +41,12 @@ struct Open {
 }
 
 /// The bits of a number, as places.
-fn places(bits: u64) -> impl Iterator<Item = usize> {
-    (0..64).filter(move |place| bits >> place & 1 == 1)
+fn places(mut bits: u64) -> impl Iterator<Item = usize> {
+    std::iter::from_fn(move || {
+        let place = bits.trailing_zeros();
+        bits &= bits.checked_sub(1)?;
+        Some(place as usize)
+    })
 }
 
 /// Three digits as their number.

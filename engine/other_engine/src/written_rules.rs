@@ -80,20 +80,26 @@ impl Rule {
         is_listed(self.own) && others.all(|number| is_listed(number) || number == BOUNDARY_PAIR)
     }
 
-    /// Whether a pairing of listed pairs keeps the rule at each of its places.
+    /// Whether a pairing of listed pairs keeps the rule at each of its places. Where another lexical letter stands no operator asks for anything.
     pub fn kept(&self, grammar: &Grammar, pairing: &[u8]) -> bool {
         let bounded = bounded(pairing);
+        let lexical = |pair: u16| grammar.pairs[usize::from(pair)].0;
+        let places: Vec<usize> = (1..=pairing.len())
+            .filter(|&place| lexical(bounded[place]) == lexical(self.own))
+            .collect();
+        if places.is_empty() {
+            return true;
+        }
         let from_each: Vec<Vec<bool>> = (0..bounded.len())
             .map(|start| self.left.matched(&bounded[start..]))
             .collect();
-        let lexical = |pair: u16| grammar.pairs[usize::from(pair)].0;
-        (1..=pairing.len()).all(|place| {
+        places.into_iter().all(|place| {
             let left = (0..=place).any(|start| from_each[start][place - start]);
             let right = self.right.matched(&bounded[place + 1..]).contains(&true);
             let there = left && right;
             let is_own = bounded[place] == self.own;
             let only = !is_own || there;
-            let always = !there || lexical(bounded[place]) != lexical(self.own) || is_own;
+            let always = !there || is_own;
             match self.operator {
                 Operator::OnlyThere => only,
                 Operator::AlwaysThere => always,
