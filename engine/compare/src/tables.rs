@@ -4,8 +4,7 @@ use crate::claims::{claims, written, Claim, Said, Verdicts};
 use crate::lent::Lent;
 use crate::library;
 use draw::prng::Prng;
-use other_engine::calls::judge_rules_reply;
-use other_engine::calls::Known;
+use other_engine::calls::{judge_rules_reply, Known};
 use other_engine::grammar::Grammar;
 use other_engine::image::read;
 use other_engine::written_rules::{self, Rule};
@@ -34,7 +33,8 @@ pub fn run(image: &[u8], file: &str) {
     let (mut alike, mut unlike) = (0, 0);
     for claim in &claims {
         let texts = [&claim.text, &claim.given].map(|text| written_rules::read(text));
-        let ([Some(rules), Some(given)], false) = (texts, claim.said.is_empty()) else {
+        let is_whole = !claim.text.is_empty() && !claim.said.is_empty();
+        let ([Some(rules), Some(given)], true) = (texts, is_whole) else {
             refuse(&format!(
                 "no rules, or nothing said of them: {:?}",
                 claim.spoken
