@@ -1,6 +1,7 @@
 //! Every call is made to the linked library and to the second engine, and the first reply or byte that differs ends the run.
 
 mod claims;
+mod decided;
 mod lent;
 mod library;
 mod many;

@@ -1,6 +1,7 @@
 //! Rule tables beside written rules: each claim of a file about a table and some rules is tried on pairings, by the second engine and by the library.
 
 use crate::claims::{claims, written, Claim, Said, Verdicts};
+use crate::decided::Beside;
 use crate::lent::Lent;
 use crate::library;
 use draw::prng::Prng;
@@ -11,10 +12,8 @@ use other_engine::written_rules::{self, Rule};
 use std::collections::BTreeMap;
 use std::process::exit;
 
-/// How many pairings a table and rules that are alike are tried on: all of the shortest lengths, by the engine and, of these, by the library too; and
-/// longer ones that are drawn.
-const BY_ENGINE: usize = 100_000;
-const BY_LIBRARY: usize = 3_000;
+/// How many pairings a table and rules that are alike are tried on by the library: all of the shortest lengths, and longer ones that are drawn.
+const SHORTEST: usize = 3_000;
 const DRAWN: usize = 2_000;
 
 /// Tries the claims of a file on an image's tables. Exits with 1 at the first that is wrong, and with 2 where there is nothing to try.
@@ -30,7 +29,7 @@ pub fn run(image: &[u8], file: &str) {
     let claims = claims(grammar, file).unwrap_or_else(|what| refuse(&what));
     let mut prng = Prng::new(1);
     let lent = Lent::new(&mut prng, image);
-    let (mut alike, mut unlike) = (0, 0);
+    let (mut remembered, mut alike, mut unlike) = (0, 0, 0);
     for claim in &claims {
         let texts = [&claim.text, &claim.given].map(|text| written_rules::read(text));
         let is_whole = !claim.text.is_empty() && !claim.said.is_empty();
@@ -51,7 +50,11 @@ pub fn run(image: &[u8], file: &str) {
         };
         for said in &claim.said {
             match said {
-                Said::Alike => alike += trial.alike(),
+                Said::Alike => {
+                    let (states, pairings) = trial.alike();
+                    remembered += states;
+                    alike += pairings;
+                }
                 Said::Unlike(verdicts, pairing) => {
                     trial.judged(pairing, |found| found == *verdicts);
                     unlike += 1;
@@ -61,7 +64,7 @@ pub fn run(image: &[u8], file: &str) {
     }
     let count = claims.len();
     println!(
-        "{count} claims: {alike} pairings judged alike, {unlike} unlike as they are said to be"
+        "{count} claims: alike in {remembered} states and by {alike} pairings tried, unlike by {unlike}"
     );
 }
 
@@ -84,19 +87,21 @@ impl Trial<'_> {
         (table.passes(pairing), self.rules.iter().all(kept))
     }
 
-    /// Tries a pairing by the engine and by the library, and ends the run where the verdicts are not as they should be.
-    fn judged(&mut self, pairing: &[u8], is_right: impl Fn(Verdicts) -> bool) {
+    /// Tries a pairing by the engine and by the library, ends the run where the verdicts are not as they should be, and says whether the table passes it.
+    fn judged(&mut self, pairing: &[u8], is_right: impl Fn(Verdicts) -> bool) -> bool {
         let text = &self.claim.text;
         let wanted = judge_rules_reply(self.known, pairing, text);
         let lent = [pairing, text].map(|bytes| Lent::new(self.prng, bytes));
         let reply = library::judge_rules(self.lent, &lent[0], &lent[1]);
         let found = self.by_engine(pairing);
         if reply != wanted || wanted != u64::from(found.1) || !is_right(found) {
-            self.tell(pairing, found, reply);
+            let how = format!("tried, and the library replies {reply} to the rules");
+            self.tell(pairing, found, &how);
         }
+        found.0
     }
 
-    fn tell(&self, pairing: &[u8], (by_table, by_rules): Verdicts, reply: u64) -> ! {
+    fn tell(&self, pairing: &[u8], (by_table, by_rules): Verdicts, how: &str) -> ! {
         let verdict = |passes| if passes { "passes" } else { "fails" };
         println!("table {}", self.claim.table + 1);
         for rule in &self.claim.spoken {
@@ -105,7 +110,7 @@ impl Trial<'_> {
         let (table, rules) = (verdict(by_table), verdict(by_rules));
         let pairing = written(self.grammar, pairing);
         println!("unlike {table} {rules} {pairing}");
-        println!("the library replies {reply} to the rules");
+        println!("as it was {how}");
         exit(1);
     }
 
@@ -138,35 +143,37 @@ impl Trial<'_> {
         self.given.iter().all(kept)
     }
 
-    /// Tries that table and rules judge alike, and counts the pairings.
-    fn alike(&mut self) -> usize {
+    /// Decides that table and rules judge alike, tries it, and counts what there was to remember and the pairings.
+    fn alike(&mut self) -> (usize, usize) {
         let pairs = self.unlike_pairs();
+        let beside = Beside {
+            grammar: self.grammar,
+            table: &self.grammar.tables[self.claim.table],
+            rules: &self.rules,
+            given: &self.given,
+        };
+        let remembered = match beside.decided(&pairs) {
+            Ok(remembered) => remembered,
+            Err(pairing) => self.tell(&pairing, self.by_engine(&pairing), "decided"),
+        };
         let mut shorter = vec![Vec::new()];
         let mut tried = [0; 2];
-        while tried[0] + tried[1] < BY_ENGINE {
-            let mut longer = Vec::new();
-            let left = BY_ENGINE - tried[0] - tried[1];
-            for pairing in one_longer(&shorter, &pairs).take(left) {
-                if self.is_given(&pairing) {
-                    let found = self.by_engine(&pairing);
-                    if tried[0] + tried[1] < BY_LIBRARY || found.0 != found.1 {
-                        self.judged(&pairing, |found| found.0 == found.1);
-                    }
-                    tried[usize::from(found.0)] += 1;
-                    longer.push(pairing);
-                }
+        while tried[0] + tried[1] < SHORTEST {
+            let left = SHORTEST - tried[0] - tried[1];
+            let longer = one_longer(&shorter, &pairs).take(left);
+            shorter = longer.filter(|pairing| self.is_given(pairing)).collect();
+            for pairing in &shorter {
+                tried[usize::from(self.judged(pairing, |found| found.0 == found.1))] += 1;
             }
-            shorter = longer;
         }
         for _ in 0..DRAWN {
             let pairing = self.drawn(&pairs);
-            self.judged(&pairing, |found| found.0 == found.1);
-            tried[usize::from(self.by_engine(&pairing).0)] += 1;
+            tried[usize::from(self.judged(&pairing, |found| found.0 == found.1))] += 1;
         }
         if tried.contains(&0) {
             self.nothing_to_tell();
         }
-        tried[0] + tried[1]
+        (remembered, tried[0] + tried[1])
     }
 
     /// Up to 40 pairs: pieces of the rules as they stand, some with a pair changed.

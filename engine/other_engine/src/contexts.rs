@@ -170,20 +170,38 @@ impl Context {
 
     /// Of the runs that begin with the first of these pairs, whether that of no pair matches, of one pair, of two, and so on.
     pub fn matched(&self, pairs: &[u16]) -> Vec<bool> {
-        let mut matched = vec![self.whole.empty];
-        let mut may_match = self.whole.first;
+        let mut matched = vec![self.matches_empty()];
+        let mut may_match = self.first();
         for &pair in pairs {
-            let mut now = 0;
-            for place in places(may_match) {
-                let matches = match self.atoms[place] {
-                    Atom::Pair(number) => number == pair,
-                    Atom::Any => true,
-                };
-                now |= u64::from(matches) << place;
-            }
-            matched.push(now & self.whole.last != 0);
-            may_match = places(now).fold(0, |bits, place| bits | self.next[place]);
+            let (matches, next) = self.after(may_match, pair);
+            matched.push(matches);
+            may_match = next;
         }
         matched
+    }
+
+    /// Whether the run of no pair matches.
+    pub fn matches_empty(&self) -> bool {
+        self.whole.empty
+    }
+
+    /// The atoms that may match the first pair of a run.
+    pub fn first(&self) -> u64 {
+        self.whole.first
+    }
+
+    /// After a pair that one of these atoms is to match: whether the run up to it matches, and the atoms that may match the next.
+    pub fn after(&self, may_match: u64, pair: u16) -> (bool, u64) {
+        let matches = |&place: &usize| match self.atoms[place] {
+            Atom::Pair(number) => number == pair,
+            Atom::Any => true,
+        };
+        let mut ends = false;
+        let mut next = 0;
+        for place in places(may_match).filter(matches) {
+            ends |= self.whole.last >> place & 1 == 1;
+            next |= self.next[place];
+        }
+        (ends, next)
     }
 }
