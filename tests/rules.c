@@ -152,20 +152,31 @@ static void on_luz(void)
     judged("=> 006 000_\n=> 006 _000", luz, BYTES(6), 0);
 }
 
-/* Texts that are refused, by a pairing that is not, and with 13 by pairings that are. */
-static void refused_text(const char *text, unsigned k)
+/* A text on one line, to be told; it stands until the next. */
+static const char *on_one_line(const char *text)
+{
+    static char told[4 * LINE];
+    size_t at = 0;
+    for (; *text != '\0'; text++)
+        at += (size_t)snprintf(told + at, sizeof told - at, *text == '\n' ? "\\n" : "%c", *text);
+    return told;
+}
+
+/* A text that is refused with 19, by a pairing that is not refused, and with 13 by pairings that are. */
+static void no_rules(const char *text)
 {
     static const uint8_t long_pairing[41];
-    judge_rules(text, luz, BYTES(3, 5, 6), TEXT(text), refused(k));
-    judge_rules(text, luz, nothing, TEXT(text), refused(13));
-    judge_rules(text, luz, BYTES(3, 5, 8), TEXT(text), refused(13));
-    judge_rules(text, luz, (struct bytes){long_pairing, 41}, TEXT(text), refused(13));
+    const char *what = on_one_line(text);
+    judge_rules(what, luz, BYTES(3, 5, 6), TEXT(text), refused(19));
+    judge_rules(what, luz, nothing, TEXT(text), refused(13));
+    judge_rules(what, luz, BYTES(3, 5, 8), TEXT(text), refused(13));
+    judge_rules(what, luz, (struct bytes){long_pairing, 41}, TEXT(text), refused(13));
     /* with a pair that is not listed before it, and after it */
     char with[4 * LINE];
     snprintf(with, sizeof with, "=> 999 _\n%s", text);
-    judge_rules(text, luz, BYTES(3, 5, 6), TEXT(with), refused(k));
+    judge_rules(what, luz, BYTES(3, 5, 6), TEXT(with), refused(19));
     snprintf(with, sizeof with, "%s\n=> 000 255_250", text);
-    judge_rules(text, luz, BYTES(3, 5, 6), TEXT(with), refused(k));
+    judge_rules(what, luz, BYTES(3, 5, 6), TEXT(with), refused(19));
 }
 
 static void refusals(void)
@@ -177,7 +188,7 @@ static void refusals(void)
         "=> 000 _(", "=> 000 _)", "=> 000 (_)", "=> 000 _(.", "=> 000 _.)", "=> 000 _(.))", "=> 000 _)(", "=> 000 _0", "=> 000 _00", "=> 000 _0000", "=> 000 _00000", "=> 000 _00.", "=> 000 _0*00", "=> 000 _. .", "=> 000 _+", "=> 000 _?", "=> 000 _[.]", "=> 000 _\x80", "=> 000 \t_",
     };
     for (size_t i = 0; i < sizeof none / sizeof *none; i++)
-        refused_text(none[i], 19);
+        no_rules(none[i]);
     judge_rules("a byte 0", luz, BYTES(3), BYTES('=', '>', ' ', '0', '0', '0', ' ', '_', 0), refused(19));
     judge_rules("a byte 0 after the line", luz, BYTES(3), BYTES('=', '>', ' ', '0', '0', '0', ' ', '_', 10, 0), refused(19));
 

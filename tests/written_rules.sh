@@ -1,7 +1,7 @@
 #!/usr/bin/env bash
 # Rule tables beside written rules: luz, the t:c of source document 001, and its Quichua tables beside the rules that it writes over them. Each claim of
-# tests/written_rules/NAME.claims, that a table and some rules judge every pairing alike or that they part by one that is named, is tried by the library and
-# by the other engine.
+# tests/written_rules/NAME.claims, that a table and some rules judge every pairing alike or that they part by one that is named, is decided by the other
+# engine and tried by the library.
 set -eu
 cd "$(dirname "$0")/.."
 export CARGO_TARGET_DIR=$PWD/target/cargo
