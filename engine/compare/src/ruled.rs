@@ -1,7 +1,7 @@
 //! Texts of written rules are of several sorts: by the fault that they were given, and those that are judged by what stands in them and what becomes of it.
 
 use crate::met::met;
-use draw::rule_texts::{Fault, FAULTS};
+use draw::rule_faults::{Fault, FAULTS};
 use other_engine::contexts::{MOST_BYTES, MOST_DEPTH};
 use other_engine::grammar::{Grammar, NULL};
 use other_engine::listing::refused;

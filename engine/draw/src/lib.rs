@@ -7,6 +7,7 @@ pub mod inputs;
 pub mod points;
 pub mod prng;
 pub mod records;
+pub mod rule_faults;
 pub mod rule_texts;
 mod set_damage;
 mod sets;

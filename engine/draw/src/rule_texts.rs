@@ -3,6 +3,7 @@
 
 use crate::context_texts::{digits, ContextText, Named};
 use crate::prng::Prng;
+use crate::rule_faults::{any_fault, Fault};
 use other_engine::calls::{judge_rules, Known};
 use other_engine::contexts::{MOST_BYTES, MOST_DEPTH};
 use other_engine::grammar::{Grammar, NULL};
@@ -14,80 +15,25 @@ pub struct RuleText {
     pub fault: Option<Fault>,
 }
 
-/// A fault by its name, and the refusal that it is to get.
-#[derive(Clone, Copy)]
-pub struct Fault {
-    pub name: &'static str,
-    pub refusal: u8,
-}
-
-/// The faults that texts are given: of test 19, of test 20, and of both.
-pub const FAULTS: [Fault; 31] = {
-    const fn fault(name: &'static str, refusal: u8) -> Fault {
-        Fault { name, refusal }
-    }
-    [
-        fault("33 rules", 19),
-        fault("a context of 65 bytes", 19),
-        fault("brackets to depth 9", 19),
-        fault("a lone line end", 19),
-        fault("two line ends at the end", 19),
-        fault("an empty line", 19),
-        fault("a carriage return", 19),
-        fault("no such operator", 19),
-        fault("no operator", 19),
-        fault("a space missing", 19),
-        fault("a space doubled", 19),
-        fault("an own pair of two digits", 19),
-        fault("an own pair of four digits", 19),
-        fault("no own pair", 19),
-        fault("no underscore", 19),
-        fault("two underscores", 19),
-        fault("two digits in a context", 19),
-        fault("a space in a context", 19),
-        fault("an empty side before a bar", 19),
-        fault("an empty side after a bar", 19),
-        fault("an empty side in brackets", 19),
-        fault("empty brackets", 19),
-        fault("a star on nothing", 19),
-        fault("a star after a bar", 19),
-        fault("a bracket left open", 19),
-        fault("a bracket that was not open", 19),
-        fault("another byte in a context", 19),
-        fault("the boundary as own pair", 20),
-        fault("an own pair that is not listed", 20),
-        fault("a pair in a context that is not listed", 20),
-        fault("a pair that is not listed, and a broken rule after it", 19),
-    ]
-};
-
 /// A rule as it is to be written.
-#[derive(Clone)]
-struct Line {
-    operator: &'static str,
-    own: Vec<u8>,
-    left: ContextText,
-    right: ContextText,
+pub(crate) struct Line {
+    pub(crate) operator: &'static str,
+    pub(crate) own: Vec<u8>,
+    pub(crate) left: ContextText,
+    pub(crate) right: ContextText,
 }
 
 impl Line {
-    fn text(&self) -> Vec<u8> {
+    /// The rule's line without its end.
+    pub(crate) fn text(&self) -> Vec<u8> {
         let own = &self.own[..];
         let operator = self.operator.as_bytes();
         let (left, right) = (&self.left.text[..], &self.right.text[..]);
         [operator, b" ", own, b" ", left, b"_", right].concat()
     }
-
-    fn context(&mut self, is_left: bool) -> &mut ContextText {
-        if is_left {
-            &mut self.left
-        } else {
-            &mut self.right
-        }
-    }
 }
 
-/// Text and fault for a pairing; of one that is refused, only as many pairs as there may be count.
+/// A text for a pairing; of one that is refused, only the pairs that it may have count.
 pub fn rules_given(prng: &mut Prng, known: &Known, grammar: &Grammar, pairing: &[u8]) -> RuleText {
     let mut lines = lines(prng, known, grammar, pairing);
     let last_ends = prng.percent(60);
@@ -101,9 +47,8 @@ pub fn rules_given(prng: &mut Prng, known: &Known, grammar: &Grammar, pairing: &
                 lines.push(any_line(prng, grammar));
             }
             let fault = any_fault(prng);
-            let pairs = grammar.pairs.len();
             RuleText {
-                text: faulty(prng, lines, last_ends, fault.name, pairs),
+                text: fault.put(prng, lines, last_ends, grammar.pairs.len()),
                 fault: Some(fault),
             }
         }
@@ -112,19 +57,6 @@ pub fn rules_given(prng: &mut Prng, known: &Known, grammar: &Grammar, pairing: &
             change(prng, &mut text);
             RuleText { text, fault: None }
         }
-    }
-}
-
-/// A fault, often one of test 20, which has few.
-fn any_fault(prng: &mut Prng) -> Fault {
-    let of_20: Vec<Fault> = FAULTS
-        .into_iter()
-        .filter(|fault| fault.refusal == 20)
-        .collect();
-    if prng.percent(35) {
-        prng.one_of(&of_20)
-    } else {
-        prng.one_of(&FAULTS)
     }
 }
 
@@ -286,114 +218,17 @@ fn side(prng: &mut Prng, named: &Named, run: &[u16], is_left: bool) -> ContextTe
     }
 }
 
-fn texts(lines: &[Line]) -> Vec<Vec<u8>> {
+pub(crate) fn texts(lines: &[Line]) -> Vec<Vec<u8>> {
     lines.iter().map(Line::text).collect()
 }
 
-fn joined(lines: &[Vec<u8>], last_ends: bool) -> Vec<u8> {
+/// Lines with their ends, the last at will.
+pub(crate) fn joined(lines: &[Vec<u8>], last_ends: bool) -> Vec<u8> {
     let mut text = lines.join(&b'\n');
     if last_ends && !lines.is_empty() {
         text.push(b'\n');
     }
     text
-}
-
-/// A number that no pair has, and the boundary pair neither.
-fn unlisted(prng: &mut Prng, pairs: usize) -> u16 {
-    let past = pairs as u16;
-    let low = prng.between(pairs, 254) as u16;
-    let high = prng.between(256, 999) as u16;
-    prng.one_of(&[past, low, 250, 254, 256, high, 999])
-}
-
-/// The text of rules, one at least, with this fault in one of them.
-fn faulty(
-    prng: &mut Prng,
-    mut lines: Vec<Line>,
-    last_ends: bool,
-    fault: &str,
-    pairs: usize,
-) -> Vec<u8> {
-    let number = prng.below(lines.len());
-    let is_left = prng.percent(50);
-    let victim = &mut lines[number];
-    let context = victim.context(is_left);
-    let mut put = |text: &[u8]| context.text = text.to_vec();
-    match fault {
-        "a context of 65 bytes" => *context = context.clone().stretched(MOST_BYTES + 1, is_left),
-        "brackets to depth 9" => *context = context.clone().deepened(MOST_DEPTH + 1),
-        "two digits in a context" => put(prng.one_of(&[&b"00"[..], b"00.", b"(00)", b"00000"])),
-        "a space in a context" => put(prng.one_of(&[&b" "[..], b". .", b"000 ", b" 000"])),
-        "an empty side before a bar" => put(prng.one_of(&[&b"|000"[..], b"|", b"|.", b"||."])),
-        "an empty side after a bar" => put(prng.one_of(&[&b"000|"[..], b".|", b".||.", b".*|"])),
-        "an empty side in brackets" => put(prng.one_of(&[&b"(|.)"[..], b"(.|)", b"((.)|)*"])),
-        "empty brackets" => put(prng.one_of(&[&b"()"[..], b".()", b"()*", b"(())", b".|()"])),
-        "a star on nothing" => put(prng.one_of(&[&b"*"[..], b"*.", b"(*)", b"(*.)", b"**"])),
-        "a star after a bar" => put(prng.one_of(&[&b".|*"[..], b"(.|*)", b"000|*000"])),
-        "a bracket left open" => put(prng.one_of(&[&b"("[..], b"(.", b"((.)", b".(", b"(.|."])),
-        "a bracket that was not open" => {
-            put(prng.one_of(&[&b")"[..], b".)", b"(.))", b")(", b").("]))
-        }
-        "another byte in a context" => {
-            let byte = prng.one_of(b"@+?#:=[]-,;\t\0\x7f\xff\xb1aO");
-            put(&prng.one_of(&[[byte, b'.'], [b'.', byte]]));
-        }
-        "no such operator" => {
-            let names = [
-                "=", "<", ">", "==>", "=>=", "<=/", "/=>", "/<=>", "<=>>", "=<", "\u{21d2}",
-            ];
-            victim.operator = prng.one_of(&names);
-        }
-        "no operator" => victim.operator = "",
-        "an own pair of two digits" => victim.own = b"00".to_vec(),
-        "an own pair of four digits" => victim.own = b"0000".to_vec(),
-        "no own pair" => victim.own = Vec::new(),
-        "the boundary as own pair" => victim.own = digits(BOUNDARY_PAIR),
-        "an own pair that is not listed" => victim.own = digits(unlisted(prng, pairs)),
-        "a pair in a context that is not listed"
-        | "a pair that is not listed, and a broken rule after it" => {
-            let bad = digits(unlisted(prng, pairs));
-            put(&bad);
-        }
-        _ => {}
-    }
-    let mut texts = texts(&lines);
-    let victim = &mut texts[number];
-    match fault {
-        "33 rules" => {
-            let rule = victim.clone();
-            texts.resize(MOST_RULES + 1, rule);
-        }
-        "a lone line end" => return b"\n".to_vec(),
-        "two line ends at the end" => texts.push(Vec::new()),
-        "an empty line" => texts.insert(number, Vec::new()),
-        "a carriage return" => victim.push(b'\r'),
-        "a space missing" => drop(victim.remove(space(prng, victim))),
-        "a space doubled" => victim.insert(space(prng, victim), b' '),
-        "no underscore" => victim.retain(|&byte| byte != b'_'),
-        "two underscores" => {
-            let end = victim.len();
-            let place = prng.one_of(&[end, underscore(victim)]);
-            victim.insert(place, b'_');
-        }
-        "a pair that is not listed, and a broken rule after it" => {
-            texts.truncate(MOST_RULES - 1);
-            texts.push(b"=> 000 _()".to_vec());
-        }
-        _ => {}
-    }
-    joined(&texts, last_ends || fault == "two line ends at the end")
-}
-
-/// The place of one of a rule's two spaces.
-fn space(prng: &mut Prng, rule: &[u8]) -> usize {
-    let places = (0..rule.len()).filter(|&place| rule[place] == b' ');
-    let places: Vec<usize> = places.collect();
-    prng.one_of(&places)
-}
-
-fn underscore(rule: &[u8]) -> usize {
-    rule.iter().take_while(|&&byte| byte != b'_').count()
 }
 
 /// One byte changed, dropped or added, often one that rules are written with.
