@@ -293,6 +293,24 @@ static void hostile(void)
     alarm(0);
 }
 
+/* A million bytes of one thing, as a text and as either context: too many to compare the pages around them. */
+static void long_texts(void)
+{
+    static const char *begun[] = {"", "=> 000 ", "=> 000 _", "=> 000 .", "=> 000 _(."}, *filled[] = {"(", ")", ".", "*", "|", ".|", "000", "_", " ", "\n", "=> 000 _\n"};
+    static uint8_t text[1000000];
+    alarm(SECONDS);
+    for (size_t i = 0; i < sizeof begun / sizeof *begun; i++)
+        for (size_t j = 0; j < sizeof filled / sizeof *filled; j++) {
+            size_t at = strlen(begun[i]);
+            memcpy(text, begun[i], at);
+            for (size_t k = 0; at + k < sizeof text; k++)
+                text[at + k] = (uint8_t)filled[j][k % strlen(filled[j])];
+            called = "a million bytes";
+            answered(headwords_judge_rules(luz.at, luz.length, (const uint8_t[]){3}, 1, text, sizeof text), refused(19));
+        }
+    alarm(0);
+}
+
 int main(int argc, char **argv)
 {
     static uint8_t image[65537];
@@ -312,5 +330,6 @@ int main(int argc, char **argv)
     refusals();
     limits();
     hostile();
+    long_texts();
     return failures > 0;
 }
