@@ -1,15 +1,15 @@
 -- The text of a canonical context is read back, whatever stands after it that doesn't go on with it.
-use Prim.Native.Nat.{ℕ, zero, suc, _+_, _-_, _≤_, _<_, max}
-use mathlib.Core.Bool.{Bool, true, false, _&&_, _||_, not, cond}
-use mathlib.Core.Path.{_≡_, refl, sym, ap, _∙_, subst}
-use mathlib.Core.List.{List, [], _∷_, _++_, append-assoc, append-nil}
-use lib.ListN.{length, drop, length-append}
+use Prim.Native.Nat.{ℕ, zero, suc, _+_, _-_, _≤_}
+use mathlib.Core.Bool.{true, false, _&&_}
+use mathlib.Core.Path.{_≡_, refl, ap, _∙_}
+use mathlib.Core.List.{List, [], _∷_, _++_, append-assoc}
+use lib.ListN.{length, length-append}
 use lib.Dec.{T, leb, eqb, leb→le, le→leb}
 use native.Mathlib.Omega.{arith}
 use Rattle.contexts.specs.Context.{Context, pair, any, star, sequence, either, bracket, Level, tight, side, whole, canonical, written, depth}
-use Rattle.contexts.specs.Reader.{isDigit, startsWith, beginsAtom, Read, failed, got, andThen, Reader, readStars, readPair, closed, readBracket, readAtomAs, readTight, moreOfSide, readSide, moreSides, readWhole, readAt, read}
-use Rattle.model.proofs.Booleans.{and-out, and-in, left-or, right-or, true-of, false-of}
-use borrow.Author.Tests.{ne-eqb, eq-eqb}
+use Rattle.contexts.specs.Reader.{isDigit, startsWith, beginsAtom, got, Reader, readStars, readTight, readSide, readWhole, readAt, read}
+use Rattle.model.proofs.Booleans.{and-out, and-in, true-of}
+use borrow.Author.Tests.{ne-eqb}
 
 -- what may stand after a context of a level
 abbrev pub Stops : Level → List ℕ → Type 0
@@ -17,7 +17,7 @@ Stops tight r = startsWith 42 r ≡ false
 Stops side r = (startsWith 42 r ≡ false) × (beginsAtom r ≡ false)
 Stops whole r = (startsWith 42 r ≡ false) × (beginsAtom r ≡ false) × (startsWith 124 r ≡ false)
 
-digit-yes : (a : ℕ) → T (leb a 9) → isDigit (48 + a) ≡ true
+pub digit-yes : (a : ℕ) → T (leb a 9) → isDigit (48 + a) ≡ true
 digit-yes a t =
     let h = leb→le a 9 t in
     true-of (isDigit (48 + a)) (and-in (leb 48 (48 + a)) (leb (48 + a) 57) (le→leb 48 (48 + a) (omega arith)) (le→leb (48 + a) 57 (omega arith)))

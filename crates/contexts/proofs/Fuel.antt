@@ -1,12 +1,11 @@
 -- More fuel than the text has bytes reads the same, so that the reader calls itself with no fuel to be seen.
-use Prim.Native.Nat.{ℕ, zero, suc, _+_, _-_, _≤_, _<_, min}
+use Prim.Native.Nat.{ℕ, zero, suc, _≤_, _<_, min}
 use mathlib.Core.Bool.{Bool, true, false}
 use mathlib.Core.Path.{_≡_, refl, sym, ap, _∙_}
-use mathlib.Core.List.{List, [], _∷_, _++_}
+use mathlib.Core.List.{List, [], _∷_}
 use lib.ListN.{length, drop, length-append, length-drop}
-use lib.Dec.{T}
 use native.Mathlib.Omega.{arith}
-use Rattle.contexts.specs.Context.{Context, sequence, either, Level, tight, side, whole, canonical, written}
+use Rattle.contexts.specs.Context.{Context, sequence, either, Level, tight, side, whole, written}
 use Rattle.contexts.specs.Reader.{startsWith, beginsAtom, Read, failed, got, andThen, Reader, readStars, closed, readBracket, readAtomAs, readTight, moreOfSide, readSide, moreSides, readWhole, readAt, read}
 use Rattle.contexts.specs.Fuel.{readText, readAtom}
 use Rattle.contexts.proofs.Completeness.{begins}

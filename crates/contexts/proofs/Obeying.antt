@@ -1,17 +1,15 @@
 -- A rule is obeyed exactly when its operator, in plain words, is kept at every place of the pairing.
-use Prim.Native.Nat.{ℕ, zero, suc, _+_, _-_, _≤_, _<_}
+use Prim.Native.Nat.{ℕ, zero, suc, _-_, _≤_, _<_}
 use mathlib.Core.Bool.{Bool, true, false, _&&_, _||_, not}
-use mathlib.Core.Path.{_≡_, refl, sym, ap, ap₂, _∙_, subst}
+use mathlib.Core.Path.{_≡_, refl, sym, ap, ap₂, subst}
 use mathlib.Core.Logic.{_↔_, _⊎_, inl, inr}
-use mathlib.Core.List.{List, [], _∷_, _++_}
+use mathlib.Core.List.{List, [], _∷_}
 use lib.ListN.{length, getD, length-append, List·getD-append}
-use lib.Seq.{slice}
-use lib.Dec.{T, leb, ltb, eqb, eqb→eq, leb→le, le→leb}
+use lib.Dec.{T, leb, eqb, eqb→eq, leb→le, le→leb}
 use native.Mathlib.Omega.{arith}
 use native.Mathlib.Decide.{ℕ-discrete}
-use Rattle.contexts.specs.Context.{Context}
 use Rattle.contexts.specs.Reader.{Written, everywhere, where-it-runs, wrong}
-use Rattle.contexts.specs.Meaning.{Runs, ends}
+use Rattle.contexts.specs.Meaning.{ends}
 use Rattle.contexts.specs.Operators.{Left, Right, Operator, only-there, always-there, both, never-there, Rule, bounded, There, Kept, KeptThroughout, kept, all, some, left, right, there, obeys}
 use Rattle.model.proofs.Booleans.{and-out, and-in, left-or, right-or, eq→eqb}
 use Rattle.contexts.proofs.Booleans.{or-out}
@@ -29,7 +27,7 @@ not-out : (a : Bool) → T (not a) → T a → ⊥
 not-out true h t = h
 not-out false h t = t
 
-not-in : (a : Bool) → (T a → ⊥) → T (not a)
+pub not-in : (a : Bool) → (T a → ⊥) → T (not a)
 not-in true h = h tt
 not-in false h = tt
 
@@ -64,14 +62,14 @@ some-in f (suc n) i h t = go (ℕ-discrete i n) (some-in f n i)
     go (yes e) r = right-or (some f n) (f n) (subst (λ (j : ℕ). T (f j)) e t)
     go (no e) r = left-or (some f n) (f n) (r (omega arith) t)
 
-pub left-iff : (w : Written) (s : List ℕ) (i : ℕ) → i ≤ length s → T (left w s i) ↔ Left w s i
+left-iff : (w : Written) (s : List ℕ) (i : ℕ) → i ≤ length s → T (left w s i) ↔ Left w s i
 left-iff everywhere s i h = (λ t. tt, λ t. tt)
 left-iff (where-it-runs c) s i h =
     let e = places-iff s c (λ j. leb j (length s)) (λ j t. leb→le j (length s) t) i in
     ((λ t. let r = e .0 t in (r .0, r .2, r .4)), λ r. e .1 (r .0, le→leb (r .0) (length s) (omega (arith, r .1)), r .1, h, r .2))
 left-iff wrong s i h = (λ t. t, λ t. t)
 
-pub right-iff : (w : Written) (s : List ℕ) (i : ℕ) → suc i ≤ length s → T (right w s i) ↔ Right w s i
+right-iff : (w : Written) (s : List ℕ) (i : ℕ) → suc i ≤ length s → T (right w s i) ↔ Right w s i
 right-iff everywhere s i h = (λ t. tt, λ t. tt)
 right-iff (where-it-runs c) s i h = (out, into)
   where
@@ -85,7 +83,7 @@ right-iff (where-it-runs c) s i h = (out, into)
     into r = some-in (ends s c (λ j. eqb j (suc i))) (suc (length s)) (r .0) (omega (arith, r .2)) ((ends-iff s c (suc i) (r .0) h) .1 (r .1, r .2, r .3))
 right-iff wrong s i h = (λ t. t, λ t. t)
 
-pub there-iff : (r : Rule) (s : List ℕ) (i : ℕ) → suc i ≤ length s → T (there r s i) ↔ There r s i
+there-iff : (r : Rule) (s : List ℕ) (i : ℕ) → suc i ≤ length s → T (there r s i) ↔ There r s i
 there-iff r s i h =
     let a = left-iff (r .left) s i (omega arith) in
     let b = right-iff (r .right) s i h in
@@ -106,7 +104,7 @@ module _ (lexical : ℕ → ℕ) (own p : ℕ) (b : Bool) (B : Type 0) (e : T b 
   always-in h = implies-in b (not (eqb (lexical p) (lexical own)) || eqb p own) λ t.
       implies-in (eqb (lexical p) (lexical own)) (eqb p own) λ u. eq→eqb p own (h (e .0 t) (eqb→eq (lexical p) (lexical own) u))
 
-  pub kept-iff : (o : Operator) → T (kept lexical own p o b) ↔ Kept lexical own p o B
+  kept-iff : (o : Operator) → T (kept lexical own p o b) ↔ Kept lexical own p o B
   kept-iff only-there = (only-out, only-in)
   kept-iff always-there = (always-out, always-in)
   kept-iff both = (

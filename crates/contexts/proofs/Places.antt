@@ -1,21 +1,21 @@
 -- The places computed for a context are those where a run that it matches may end.
-use Prim.Native.Nat.{ℕ, zero, suc, _+_, _-_, _≤_, _<_}
-use mathlib.Core.Bool.{Bool, true, false, _&&_, _||_}
-use mathlib.Core.Path.{_≡_, refl, sym, ap, _∙_, subst, fun-ext}
+use Prim.Native.Nat.{ℕ, zero, suc, _+_, _≤_, _<_}
+use mathlib.Core.Bool.{Bool, true, _&&_, _||_}
+use mathlib.Core.Path.{_≡_, refl, sym, ap, _∙_, subst}
 use mathlib.Core.Logic.{_↔_, _⊎_, inl, inr}
 use mathlib.Core.List.{List, [], _∷_, _++_}
 use lib.ListN.{length, getD, length-append}
 use lib.Seq.{slice, slice-empty, length-slice}
-use lib.Dec.{T, leb, ltb, eqb, eqb→eq, ltb→lt, lt→ltb}
+use lib.Dec.{T, ltb, eqb, eqb→eq, ltb→lt, lt→ltb}
 use native.Mathlib.Omega.{arith}
 use Rattle.contexts.specs.Context.{Context, pair, any, star, sequence, either, bracket}
 use Rattle.contexts.specs.Meaning.{Times, pairNumber, Runs, Places, rounds, onward, ends}
-use Rattle.model.proofs.Booleans.{and-out, and-in, left-or, right-or, eq→eqb, true-of, false-of}
+use Rattle.model.proofs.Booleans.{and-out, and-in, left-or, right-or, eq→eqb}
 use Rattle.contexts.proofs.Booleans.{or-out}
 use Rattle.contexts.proofs.Parts.{slice-split, slice-one, slice-cut}
 
 -- runs without the empty ones: at most as many as there are pairs
-pub shorten : (P : List ℕ → Type 0) (n : ℕ) (l : List ℕ) → Times P n l → (m : ℕ) × (m ≤ length l) × Times P m l
+shorten : (P : List ℕ → Type 0) (n : ℕ) (l : List ℕ) → Times P n l → (m : ℕ) × (m ≤ length l) × Times P m l
 shorten P zero l t = (0, omega arith, t)
 shorten P (suc n) l (t) = go (t .0) (t .2) (t .3) (shorten P n (t .1) (t .4))
   where
@@ -87,11 +87,11 @@ module _ (s : List ℕ) where
         go r = by r (or-out (p (r .0)) (f p (r .0)) (r .1))
 
     -- places stay
-    pub stays : (m : ℕ) (p : Places) (k : ℕ) → T (p k) → T (rounds f m p k)
+    stays : (m : ℕ) (p : Places) (k : ℕ) → T (p k) → T (rounds f m p k)
     stays zero p k t = t
     stays (suc m) p k t = stays m (λ k. p k || f p k) k (left-or (p k) (f p k) t)
 
-    pub more-rounds : (n m : ℕ) (p : Places) (k : ℕ) → n ≤ m → T (rounds f n p k) → T (rounds f m p k)
+    more-rounds : (n m : ℕ) (p : Places) (k : ℕ) → n ≤ m → T (rounds f n p k) → T (rounds f m p k)
     more-rounds zero m p k h t = stays m p k t
     more-rounds (suc n) zero p k h t = absurd (omega arith)
     more-rounds (suc n) (suc m) p k h t = more-rounds n m (λ k. p k || f p k) k (omega arith) t
@@ -163,8 +163,3 @@ module _ (s : List ℕ) where
           let r = ends-out c (λ i. eqb i j) (λ i e. omega (arith, eqb→eq i j e)) k t in
           let e = eqb→eq (r .0) j (r .1) in
           (omega (arith, r .2), r .3, subst (λ (i : ℕ). Runs c (slice i k s)) e (r .4))
-
-  -- a star's rounds settle: more of them than there are pairs find no other place
-  pub settled : (c : Context) (m : ℕ) (p : Places) → Within p → length s ≤ m → (k : ℕ) → T (rounds (ends s c) m p k) ↔ T (ends s (star c) p k)
-  settled c m p w h k =
-      ((λ t. let r = rounds-out (ends s c) (Runs c) (ends-out c) m p w k t in ends-in (star c) p (r .0) k (r .1) (r .2) (r .3) (r .4)), more-rounds (ends s c) (Runs c) (length s) m p k h)

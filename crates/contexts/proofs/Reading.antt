@@ -1,24 +1,17 @@
 -- A text is read as a context exactly when it is that context's text, within the bounds; and no text is that of two.
-use Prim.Native.Nat.{ℕ, zero, suc, _+_, _-_, _≤_, _<_, max}
+use Prim.Native.Nat.{ℕ, _≤_, max}
 use mathlib.Core.Bool.{Bool, true, false, cond}
 use mathlib.Core.Path.{_≡_, refl, sym, ap, _∙_, subst}
 use mathlib.Core.Logic.{_↔_}
-use mathlib.Core.List.{List, [], _∷_, _++_, append-nil}
+use mathlib.Core.List.{List, [], _∷_, append-nil}
 use lib.ListN.{length}
 use lib.Dec.{T, leb, leb→le, le→leb}
 use native.Mathlib.Omega.{arith}
-use Rattle.contexts.specs.Context.{Context, Level, whole, canonical, written, depth}
-use Rattle.contexts.specs.Reader.{Read, failed, got, read, Written, everywhere, where-it-runs, wrong, toTheEnd, readContext}
+use Rattle.contexts.specs.Context.{Context, whole, canonical, written, depth}
+use Rattle.contexts.specs.Reader.{Read, failed, got, read, everywhere, where-it-runs, wrong, toTheEnd, readContext, IsTextOf}
 use Rattle.model.proofs.Booleans.{true-of}
 use Rattle.contexts.proofs.Completeness.{read-back, begins}
-use Rattle.contexts.proofs.Soundness.{Off, read-off}
-
--- a context and its text, within the bounds
-pub record IsText (t : List ℕ) (c : Context) : Type 0 where
-  pub shaped : T (canonical whole c)
-  pub stood : written c ≡ t
-  pub shallow : depth c ≤ 8
-  pub short : length t ≤ 64
+use Rattle.contexts.proofs.Soundness.{read-off}
 
 end-out : (x : Read) (c : Context) → toTheEnd x ≡ where-it-runs c → x ≡ got c []
 end-out failed c e = let z : _≡_ {A = ℕ} 0 1 = cc in absurd (omega arith)
@@ -30,12 +23,12 @@ never-empty failed e = let z : _≡_ {A = ℕ} 0 1 = cc in omega arith
 never-empty (got d []) e = let z : _≡_ {A = ℕ} 0 1 = cc in omega arith
 never-empty (got d (x ∷ xs)) e = let z : _≡_ {A = ℕ} 0 1 = cc in omega arith
 
-read-out : (t : List ℕ) (c : Context) → readContext t ≡ where-it-runs c → IsText t c
+read-out : (t : List ℕ) (c : Context) → readContext t ≡ where-it-runs c → IsTextOf c t
 unfolding readContext
 read-out [] c e = let z : _≡_ {A = ℕ} 0 1 = cc in absurd (omega arith)
 read-out (x ∷ xs) c e = go (leb (length (x ∷ xs)) 64) (λ h. leb→le (length (x ∷ xs)) 64 h) e
   where
-    go : (b : Bool) → (T b → length (x ∷ xs) ≤ 64) → cond b (toTheEnd (read (length (x ∷ xs)) whole 8 (x ∷ xs))) wrong ≡ where-it-runs c → IsText (x ∷ xs) c
+    go : (b : Bool) → (T b → length (x ∷ xs) ≤ 64) → cond b (toTheEnd (read (length (x ∷ xs)) whole 8 (x ∷ xs))) wrong ≡ where-it-runs c → IsTextOf c (x ∷ xs)
     go true h e =
         let o = read-off (length (x ∷ xs)) whole 8 (x ∷ xs) c [] (end-out (read (length (x ∷ xs)) whole 8 (x ∷ xs)) c e) in
         record { shaped = o .shaped; stood = sym (append-nil (written c)) ∙ o .stood; shallow = o .shallow; short = h tt }
@@ -45,7 +38,7 @@ read-out (x ∷ xs) c e = go (leb (length (x ∷ xs)) 64) (λ h. leb→le (lengt
 whole-text : (n b : ℕ) (c : Context) → T (canonical whole c) → depth c ≤ b → length (written c) ≤ n → read n whole b (written c) ≡ got c []
 whole-text n b c t h k = ap (read n whole b) (sym (append-nil (written c))) ∙ read-back n whole c b [] t h k (refl, refl, refl)
 
-read-in : (t : List ℕ) (c : Context) → IsText t c → readContext t ≡ where-it-runs c
+read-in : (t : List ℕ) (c : Context) → IsTextOf c t → readContext t ≡ where-it-runs c
 unfolding readContext
 read-in [] c i =
     let b = begins whole c (i .shaped) in
@@ -55,7 +48,7 @@ read-in (x ∷ xs) c i =
     subst (λ (t : List ℕ). read (length t) whole 8 t ≡ got c []) (i .stood) (whole-text (length (written c)) 8 c (i .shaped) (i .shallow) (omega arith)) in
     rw (true-of (leb (length (x ∷ xs)) 64) (le→leb (length (x ∷ xs)) 64 (i .short)), e) refl
 
-pub read-iff : (t : List ℕ) (c : Context) → (readContext t ≡ where-it-runs c) ↔ IsText t c
+pub read-iff : (t : List ℕ) (c : Context) → (readContext t ≡ where-it-runs c) ↔ IsTextOf c t
 read-iff t c = (read-out t c, read-in t c)
 
 pub empty-iff : (t : List ℕ) → (readContext t ≡ everywhere) ↔ (t ≡ [])

@@ -2,8 +2,8 @@
 use Prim.Native.Nat.{ℕ, zero, suc, _+_, _≤_, _<_}
 use native.Mathlib.Omega.{arith}
 use native.Mathlib.Decide.{decLt}
-use mathlib.Core.Bool.{Bool, true, false, _&&_, _||_}
-use mathlib.Core.Path.{_≡_, refl, sym, ap, _∙_, subst, fun-ext}
+use mathlib.Core.Bool.{_&&_, _||_}
+use mathlib.Core.Path.{_≡_, sym, ap, _∙_, subst, fun-ext}
 use mathlib.Core.Logic.{_⊎_, inl, inr}
 use mathlib.Core.List.{List, [], _∷_, _++_}
 use lib.ListN.{length}
@@ -11,7 +11,6 @@ use lib.Seq.{slice, slice-empty, length-slice}
 use lib.Dec.{T, eqb, eqb→eq}
 use Rattle.contexts.specs.Context.{Context, star}
 use Rattle.contexts.specs.Meaning.{Times, Runs, Places, ends}
-use Rattle.contexts.specs.Operators.{some}
 use Rattle.contexts.specs.Relation.{one, through}
 use Rattle.model.proofs.Booleans.{and-out, and-in, left-or, right-or, eq→eqb}
 use Rattle.contexts.proofs.Booleans.{or-out}

@@ -1,15 +1,14 @@
 -- What is read is a canonical context whose text stood there, with brackets no deeper than allowed.
-use Prim.Native.Nat.{ℕ, zero, suc, _+_, _-_, _≤_, _<_, max}
-use mathlib.Core.Bool.{Bool, true, false, _&&_, _||_, not, cond}
+use Prim.Native.Nat.{ℕ, zero, suc, _+_, _-_, _≤_}
+use mathlib.Core.Bool.{Bool, true, false, _&&_, cond}
 use mathlib.Core.Path.{_≡_, refl, sym, ap, _∙_, subst}
-use mathlib.Core.List.{List, [], _∷_, _++_, append-assoc, append-nil}
-use lib.ListN.{length, drop, length-append}
+use mathlib.Core.List.{List, [], _∷_, _++_, append-assoc}
+use lib.ListN.{drop}
 use lib.Dec.{T, leb, eqb, leb→le, le→leb, eqb→eq}
 use native.Mathlib.Omega.{arith}
 use Rattle.contexts.specs.Context.{Context, pair, any, star, sequence, either, bracket, Level, tight, side, whole, canonical, written, depth}
 use Rattle.contexts.specs.Reader.{isDigit, startsWith, beginsAtom, Read, failed, got, andThen, Reader, readStars, readPair, closed, readBracket, readAtomAs, readTight, moreOfSide, readSide, moreSides, readWhole, readAt, read}
-use Rattle.model.proofs.Booleans.{and-out, and-in, left-or, right-or, true-of, false-of, of-true}
-use borrow.Author.Tests.{ne-eqb, eq-eqb}
+use Rattle.model.proofs.Booleans.{and-out, and-in, of-true}
 
 -- what is known of a context and the text after it, where one was read
 abbrev pub Good : (Context → List ℕ → Type 0) → Read → Type 0
@@ -33,7 +32,7 @@ pub record Off (l : Level) (b : ℕ) (t : List ℕ) (c : Context) (r : List ℕ)
 abbrev pub Sound : Reader → Type 0
 Sound rec = (l : Level) (b : ℕ) (t : List ℕ) → Good (Off l b t) (rec l b t)
 
-starts-out : (x : ℕ) (t : List ℕ) → T (startsWith x t) → x ∷ drop 1 t ≡ t
+pub starts-out : (x : ℕ) (t : List ℕ) → T (startsWith x t) → x ∷ drop 1 t ≡ t
 starts-out x [] h = absurd h
 starts-out x (y ∷ ys) h = let e = eqb→eq y x h in cc
 
@@ -53,7 +52,7 @@ side-whole (bracket c) t = t
 side-whole (sequence c d) t = t
 side-whole (either c d) t = absurd t
 
-digit-out : (x : ℕ) → T (isDigit x) → T (leb (x - 48) 9) × (48 + (x - 48) ≡ x)
+pub digit-out : (x : ℕ) → T (isDigit x) → T (leb (x - 48) 9) × (48 + (x - 48) ≡ x)
 digit-out x t =
     let u = and-out (leb 48 x) (leb x 57) t in
     let h = leb→le 48 x (u .0) in

@@ -1,17 +1,13 @@
--- A star after a star adds nothing, and a round that adds no place ends a star.
-use Prim.Native.Nat.{ℕ, zero, suc, _+_, _≤_}
-use native.Mathlib.Nat.{suc-add, zero-add}
-use mathlib.Core.Bool.{Bool, true, false, _||_}
-use mathlib.Core.Path.{_≡_, refl, sym, ap, _∙_, subst, fun-ext}
-use mathlib.Core.Logic.{_↔_}
-use mathlib.Core.List.{List, [], _∷_, _++_, append-assoc, append-nil}
-use lib.ListN.{length}
+-- A star after a star adds nothing.
+use Prim.Native.Nat.{ℕ, zero, suc}
+use mathlib.Core.Bool.{Bool, true, false}
+use mathlib.Core.Path.{_≡_, refl, sym, ap, _∙_, fun-ext}
+use mathlib.Core.List.{List, [], _++_, append-assoc, append-nil}
 use lib.Dec.{T}
-use native.Mathlib.Omega.{arith}
 use Rattle.contexts.specs.Context.{Context, star}
-use Rattle.contexts.specs.Meaning.{Times, Runs, Places, rounds, ends}
+use Rattle.contexts.specs.Meaning.{Times, Runs, Places, ends}
 use Rattle.contexts.specs.Fuel.{starred}
-use Rattle.contexts.proofs.Places.{Reach, Within, places-iff}
+use Rattle.contexts.proofs.Places.{Within, places-iff}
 
 pub same-test : (a b : Bool) → (T a → T b) → (T b → T a) → a ≡ b
 same-test true true f g = refl
@@ -37,7 +33,7 @@ module _ (P : List ℕ → Type 0) where
   once l t = (1, (l, [], sym (append-nil l), t, refl))
 
 module _ (s : List ℕ) (c : Context) (p : Places) (w : Within s p) where
-  pub star-star : ends s (star (star c)) p ≡ ends s (star c) p
+  star-star : ends s (star (star c)) p ≡ ends s (star c) p
   star-star = fun-ext λ k.
       let a = places-iff s (star (star c)) p w k in
       let b = places-iff s (star c) p w k in
@@ -52,8 +48,3 @@ star-stars s (suc n) c p w = star-star s (starred n c) p w ∙ star-stars s n c 
 -- the places after are places
 pub ends-within : (s : List ℕ) (c : Context) (p : Places) → Within s p → Within s (ends s c p)
 ends-within s c p w k t = ((places-iff s c p w k) .0 t) .3
-
--- once a round adds no place, none does
-pub at-rest : (f : Places → Places) (m : ℕ) (p : Places) → (λ (k : ℕ). p k || f p k) ≡ p → rounds f m p ≡ p
-at-rest f zero p h = refl
-at-rest f (suc m) p h = ap (rounds f m) h ∙ at-rest f m p h

@@ -1,10 +1,11 @@
 -- The text of a context read: recursive descent, each call on a shorter text.
-use Prim.Native.Nat.{ℕ, zero, suc, _-_}
+use Prim.Native.Nat.{ℕ, zero, suc, _-_, _≤_}
 use mathlib.Core.Bool.{Bool, true, false, _&&_, _||_, cond}
+use mathlib.Core.Path.{_≡_}
 use mathlib.Core.List.{List, [], _∷_}
 use lib.ListN.{length, drop}
-use lib.Dec.{leb, eqb}
-use Rattle.contexts.specs.Context.{Context, pair, any, star, sequence, either, bracket, Level, tight, side, whole}
+use lib.Dec.{T, leb, eqb}
+use Rattle.contexts.specs.Context.{Context, pair, any, star, sequence, either, bracket, Level, tight, side, whole, canonical, written, depth}
 
 abbrev pub isDigit : ℕ → Bool
 isDigit x = leb 48 x && leb x 57
@@ -92,6 +93,7 @@ toTheEnd failed = wrong
 toTheEnd (got c []) = where-it-runs c
 toTheEnd (got c (x ∷ xs)) = wrong
 
+-- "A context is a text of at most 64 bytes", and "brackets .. may be nested to depth 8"
 unfoldable pub readContext : List ℕ → Written
 readContext [] = everywhere
 readContext (x ∷ xs) = cond (leb (length (x ∷ xs)) 64) (toTheEnd (read (length (x ∷ xs)) whole 8 (x ∷ xs))) wrong
@@ -101,3 +103,10 @@ abbrev pub isRight : Written → Bool
 isRight everywhere = true
 isRight (where-it-runs c) = true
 isRight wrong = false
+
+-- in words: a context, and a text that is its, within the bounds
+pub record IsTextOf (c : Context) (t : List ℕ) : Type 0 where
+  pub shaped : T (canonical whole c)
+  pub stood : written c ≡ t
+  pub shallow : depth c ≤ 8
+  pub short : length t ≤ 64

@@ -140,8 +140,8 @@ module _ (image pairing text : List ℕ) where
   of-grammar : firstFailing (rulesTests image pairing text) ≡ accepted → T (isText text)
   unfolding rulesTests textTests
   of-grammar e =
-      let t = tests-append (imageTests image) (pairingTests image pairing ++ textTests image pairing text) .0 e in
-      let u = tests-append (pairingTests image pairing) (textTests image pairing text) .0 (t .1) in
+      let t = tests-append (imageTests image) (pairingTests image pairing ++ textTests image text) .0 e in
+      let u = tests-append (pairingTests image pairing) (textTests image text) .0 (t .1) in
       of-true (isText text) (passed (isText text) 19 (firstFailing ((20, pairsKnown (header image .pairs) text) ∷ [])) (u .1) .0)
 
   pub rules-case : (reply : Judgement) → reply ≡ rulesJudged image pairing text → Case (λ k. reply ≡ Judgement.refused k) Unit (JudgedSo (KeepsRules image pairing text) reply) (firstFailing (rulesTests image pairing text))

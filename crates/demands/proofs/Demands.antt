@@ -294,7 +294,7 @@ unspelled-listing {image} {request} l u = refused-with-14 (refused-by-each image
 
 rules-refused : (image pairing text : List ℕ) → imageVerdict image ≡ Verdict.refused 14 → firstFailing (rulesTests image pairing text) ≡ Verdict.refused 14
 unfolding imageVerdict rulesTests
-rules-refused image pairing text v = tests-refused (imageTests image) (pairingTests image pairing ++ textTests image pairing text) 14 v
+rules-refused image pairing text v = tests-refused (imageTests image) (pairingTests image pairing ++ textTests image text) 14 v
 
 pub unspelled-refused :
     ((κs : _) (a : _) (r : _) (s : _) → check.Post κs a r s → Slipped (a .0 .now) → verdictOf r ≡ Verdict.refused 14)

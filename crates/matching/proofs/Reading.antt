@@ -1,11 +1,11 @@
 -- What is known of a text once it is read to its end, or is not.
-use Prim.Native.Nat.{ℕ, zero, suc, _+_, _-_, _≤_, _<_}
+use Prim.Native.Nat.{ℕ, suc, _-_, _≤_, _<_}
 use native.Mathlib.Omega.{arith}
 use native.Mathlib.Decide.{decLt}
-use mathlib.Core.Bool.{Bool, true, false, true≢false, false≢true}
-use mathlib.Core.Path.{_≡_, refl, sym, ap, _∙_, subst, fun-ext}
+use mathlib.Core.Bool.{true, false, false≢true}
+use mathlib.Core.Path.{_≡_, refl, sym, ap, _∙_, fun-ext}
 use mathlib.Core.List.{List, [], _∷_}
-use lib.ListN.{length, drop, length-drop}
+use lib.ListN.{length, length-drop}
 use lib.Dec.{leb, eqb, leb→le}
 use Rattle.contexts.specs.Meaning.{Places, ends}
 use Rattle.contexts.specs.Operators.{some, left, right}
@@ -15,7 +15,7 @@ use Rattle.relations.specs.Sets.{holds}
 use Rattle.relations.specs.Rows.{row, Relates}
 use borrow.Author.Tests.{le-leb, lt-leb, eq-eqb, ne-eqb}
 use Rattle.contexts.specs.Context.{Context, whole}
-use Rattle.contexts.specs.Reader.{Read, failed, got, read, Written, everywhere, where-it-runs, wrong, toTheEnd, readContext, isRight}
+use Rattle.contexts.specs.Reader.{Read, failed, got, everywhere, where-it-runs, wrong, toTheEnd, readContext, isRight}
 use Rattle.contexts.specs.Fuel.{readText}
 use Rattle.matching.specs.Steps.{Follows}
 use Rattle.matching.specs.declared.Step.{Step}

@@ -1,30 +1,25 @@
 -- Each level's step, from the steps that it is made of.
 use Prim.Native.Nat.{ℕ, zero, suc, _+_, _-_, _≤_, _<_}
 use native.Mathlib.Omega.{arith}
-use native.Mathlib.Decide.{decLt}
 use mathlib.Core.Bool.{Bool, true, false, _&&_, _||_, true≢false, false≢true}
-use mathlib.Core.Path.{_≡_, refl, sym, ap, ap₂, _∙_, subst, fun-ext}
-use mathlib.Core.List.{List, [], _∷_}
-use lib.ListN.{length, getD, drop, length-drop}
+use mathlib.Core.Path.{_≡_, refl, sym, ap, ap₂, _∙_, fun-ext}
+use mathlib.Core.List.{List}
+use lib.ListN.{length, drop, length-drop}
 use lib.Seq.{drop-drop}
-use lib.Dec.{T, eqb}
-use Rattle.contexts.specs.Context.{Context, pair, any, star, sequence, either, bracket, Level, tight, side, whole}
-use Rattle.contexts.specs.Reader.{startsWith, beginsAtom, Read, failed, got, andThen, readStars, readPair, closed, moreOfSide, moreSides}
+use lib.Dec.{eqb}
+use Rattle.contexts.specs.Context.{Context, any, star, sequence, either, bracket, Level, side, whole}
+use Rattle.contexts.specs.Reader.{startsWith, beginsAtom, Read, failed, got, andThen, readPair, closed, moreOfSide, moreSides}
 use Rattle.contexts.specs.Fuel.{readText, readAtom, starred}
-use Rattle.contexts.specs.Meaning.{Places, pairNumber, onward, ends}
-use Rattle.contexts.specs.Operators.{some}
+use Rattle.contexts.specs.Meaning.{Places, ends}
 use Rattle.contexts.specs.Relation.{one, through}
-use Rattle.model.proofs.Booleans.{eq→eqb}
 use Rattle.contexts.proofs.Fuel.{shorter}
 use Rattle.contexts.proofs.Soundness.{read-off}
 use Rattle.contexts.proofs.Places.{Within}
 use Rattle.contexts.proofs.Stars.{star-stars, ends-within}
 use Rattle.contexts.proofs.Relation.{additive, star-row}
-use Rattle.relations.specs.Sets.{holds}
 use Rattle.relations.specs.Rows.{row, RowsAre, Relates, Starred}
 use Rattle.matching.specs.Steps.{Follows}
 use Rattle.matching.specs.declared.Step.{Step}
-use Rattle.matching.proofs.Bytes.{at-end}
 use lib.Dec.{eqb→eq}
 
 -- tables of a context from those of its parts

@@ -3,8 +3,8 @@ pub mod context;
 
 ghost use mathlib.Core.Bool.{true, false, _||_};
 ghost use mathlib.Core.Path.{_≡_};
-ghost use Prim.Native.Nat.{ℕ, _+_, _-_, _≤_, _<_};
-ghost use lib.ListN.{length, getD, drop};
+ghost use Prim.Native.Nat.{_+_, _-_, _≤_, _<_};
+ghost use lib.ListN.{length, drop};
 ghost use lib.Dec.{eqb};
 ghost use Rattle.contexts.specs.Context.{Context, tight, side, whole};
 ghost use Rattle.contexts.specs.Reader.{isDigit, startsWith, beginsAtom, readStars, readPair, got};
@@ -209,7 +209,7 @@ fn match_atom(text: &[u8], from: usize, depth: usize, s: &[u8]) -> Step
     match_pair(text, from, s)
 }
 
-// One of these with its stars.
+// A pair, a full stop or brackets, with the stars after it.
 fn match_tight(text: &[u8], from: usize, depth: usize, s: &[u8]) -> Step
     requires { ⌜ Placed (now text) from (now s) ⌝ }
     ensures { λ r. ⌜ Follows (now (text .entry)) (now (s .entry)) (readText tight depth (drop from (now (text .entry)))) r ⌝ }
@@ -232,7 +232,7 @@ fn match_tight(text: &[u8], from: usize, depth: usize, s: &[u8]) -> Step
     }
 }
 
-// One side of a bar: these, one after the other.
+// One side of a bar: pairs, full stops and brackets, starred or not, one after the other.
 fn match_side(text: &[u8], from: usize, depth: usize, s: &[u8]) -> Step
     requires { ⌜ Placed (now text) from (now s) ⌝ }
     ensures { λ r. ⌜ Follows (now (text .entry)) (now (s .entry)) (readText side depth (drop from (now (text .entry)))) r ⌝ }

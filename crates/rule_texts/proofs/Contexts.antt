@@ -13,6 +13,7 @@ use Rattle.model.proofs.Lists.{every-append, every-map}
 use Rattle.contexts.specs.Context.{Context, pair, any, star, sequence, either, bracket, Level, tight, side, whole, canonical, written, depth}
 use Rattle.contexts.specs.Reader.{Written, everywhere, where-it-runs, wrong, readContext, isRight}
 use Rattle.contexts.proofs.Reading.{read-iff, empty-iff}
+use Rattle.contexts.proofs.Obeying.{not-in}
 use Rattle.rule_texts.specs.Line.{writtenContext, mayStand}
 use Rattle.rule_texts.proofs.Split.{lacks}
 
@@ -35,7 +36,7 @@ pub context-iff : (t : List ℕ) (w : Written) → ((readContext t ≡ w) × T (
 context-iff t w = (λ h. context-out t w (h .0) (h .1), λ h. context-in t w (h .0) (h .1))
 
 -- from the opening bracket to the last digit, and the bar
-abbrev pub isByte : ℕ → Bool
+abbrev isByte : ℕ → Bool
 isByte x = within 40 57 x || eqb x 124
 
 digit-byte : (a : ℕ) → T (leb a 9) → T (isByte (48 + a))
@@ -65,10 +66,6 @@ context-bytes side (either c d) t = absurd t
 context-bytes whole (either c d) t =
     let u = and-out (canonical side c) (canonical whole d) t in
     both-parts (written c) (124 ∷ written d) (context-bytes side c (u .0)) (context-bytes whole d (u .1))
-
-not-in : (s : Bool) → (T s → ⊥) → T (not s)
-not-in true f = f tt
-not-in false f = tt
 
 -- so neither an underscore nor a line end
 pub context-lacks : (b : ℕ) → isByte b ≡ false → (w : Written) → T (mayStand w) → T (lacks b (writtenContext w))

@@ -3,31 +3,22 @@ use Prim.Native.Nat.{ℕ, _+_, _-_, _*_, _/_, _%_, _≤_}
 use mathlib.Core.Bool.{Bool, true, false, _&&_, cond}
 use mathlib.Core.Path.{_≡_, refl, sym, ap}
 use mathlib.Core.List.{List, [], _∷_, _++_}
-use lib.Dec.{T, leb, leb→le}
+use lib.Dec.{T, leb→le, le→leb}
 use native.Mathlib.Omega.{arith}
-use borrow.Author.Tests.{le-leb}
-use Rattle.model.proofs.Booleans.{and-out, out3}
+use Rattle.model.proofs.Booleans.{out3}
 use Rattle.contexts.specs.Context.{pair}
 use Rattle.contexts.specs.Meaning.{pairNumber}
 use Rattle.contexts.specs.Reader.{isDigit, failed, got, readPair}
+use Rattle.contexts.proofs.Soundness.{digit-out}
+use Rattle.contexts.proofs.Completeness.{digit-yes}
 use Rattle.rule_texts.specs.Line.{threeDigits}
 
-pub digits-out : (a b d : ℕ) → a ≤ 9 → b ≤ 9 → d ≤ 9 → threeDigits (pairNumber a b d) ≡ (48 + a) ∷ (48 + b) ∷ (48 + d) ∷ []
+digits-out : (a b d : ℕ) → a ≤ 9 → b ≤ 9 → d ≤ 9 → threeDigits (pairNumber a b d) ≡ (48 + a) ∷ (48 + b) ∷ (48 + d) ∷ []
 digits-out a b d h k l =
     let e : (100 * a + 10 * b + d) / 100 ≡ a = omega arith in
     let f : (100 * a + 10 * b + d) / 10 % 10 ≡ b = omega arith in
     let g : (100 * a + 10 * b + d) % 10 ≡ d = omega arith in
     rw (e, f, g) refl
-
-pub digit-out : (x : ℕ) → T (isDigit x) → (x - 48 ≤ 9) × (48 + (x - 48) ≡ x)
-digit-out x t =
-    let u = and-out (leb 48 x) (leb x 57) t in
-    let h = leb→le 48 x (u .0) in
-    let k = leb→le x 57 (u .1) in
-    (omega arith, omega arith)
-
-pub digit-in : (a : ℕ) → a ≤ 9 → isDigit (48 + a) ≡ true
-digit-in a h = rw (le-leb 48 (48 + a) (omega arith), le-leb (48 + a) 57 (omega arith)) refl
 
 -- a pair read off a text
 pub record OwnPair (t : List ℕ) (a b d : ℕ) (u : List ℕ) : Type 0 where
@@ -45,6 +36,9 @@ pair-out (x ∷ y ∷ z ∷ t) a b d u e = go (isDigit x && isDigit y && isDigit
         let i = digit-out x (k tt .0) in
         let j = digit-out y (k tt .1) in
         let l = digit-out z (k tt .2) in
+        let small-x = leb→le (x - 48) 9 (i .0) in
+        let small-y = leb→le (y - 48) 9 (j .0) in
+        let small-z = leb→le (z - 48) 9 (l .0) in
         let p : x - 48 ≡ a = cc in
         let q : y - 48 ≡ b = cc in
         let r : z - 48 ≡ d = cc in
@@ -62,4 +56,4 @@ own-in n t h =
     let a : 48 + n / 100 - 48 ≡ n / 100 = omega arith in
     let b : 48 + n / 10 % 10 - 48 ≡ n / 10 % 10 = omega arith in
     let d : 48 + n % 10 - 48 ≡ n % 10 = omega arith in
-    rw (digit-in (n / 100) (omega arith), digit-in (n / 10 % 10) (omega arith), digit-in (n % 10) (omega arith), a, b, d) refl
+    rw (digit-yes (n / 100) (le→leb (n / 100) 9 (omega arith)), digit-yes (n / 10 % 10) (le→leb (n / 10 % 10) 9 (omega arith)), digit-yes (n % 10) (le→leb (n % 10) 9 (omega arith)), a, b, d) refl

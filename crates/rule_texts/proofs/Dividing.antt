@@ -8,14 +8,12 @@ use lib.ListN.{length, take, drop, length-drop, drop-of-length-le}
 use lib.Seq.{drop-drop, take-length}
 use lib.Dec.{T, ltb, ltb→lt}
 use borrow.Author.Tests.{lt-ltb, le-ltb}
-use Rattle.contexts.specs.Context.{pair}
-use Rattle.contexts.specs.Reader.{Read, failed, got, startsWith, readPair, readContext, isRight}
+use Rattle.contexts.specs.Reader.{Read, failed, startsWith, readPair, readContext, isRight}
 use Rattle.contexts.specs.Meaning.{pairNumber}
 use Rattle.contexts.specs.Operators as operators
-use Rattle.matching.specs.Steps.{Numbered}
 use Rattle.matching.proofs.Numbers.{Pair}
 use Rattle.matching.proofs.Bytes.{starts-inside}
-use Rattle.rule_texts.specs.Line.{upTo, after, has, Line, rule, no-rule, Sign, operator, no-operator, readSign, lineWith, afterOwn, afterSign, readRule}
+use Rattle.rule_texts.specs.Line.{has, Line, rule, no-rule, Sign, operator, no-operator, readSign, lineWith, afterOwn, afterSign, readRule}
 use Rattle.rule_texts.specs.Text.{isRule, pairsOf, isKnown, knowsPairs}
 use Rattle.rule_texts.specs.Parts.{Found, operatorOf, Signs, dividedRule, Divides}
 use Rattle.model.specs.Lists.{every}
@@ -24,14 +22,14 @@ use Rattle.rule_texts.proofs.Split.{whole-again}
 use Rattle.rule_texts.specs.declared.line.Signed.{Signed}
 use Rattle.rule_texts.specs.declared.line.Parts.{Parts}
 
-pub divides-none : (line : List ℕ) (l : Line) (p : Parts) → l ≡ no-rule → p .right ≡ false → Divides line l p
+pub divides-none : (line : List ℕ) (l : Line) (p : Parts) → l ≡ no-rule → p .divided ≡ false → Divides line l p
 divides-none line l p e f = rw e f
 
-pub sign-missed : (s : Sign) (r : Signed) → Signs s r → r .right ≡ false → s ≡ no-operator
+pub sign-missed : (s : Sign) (r : Signed) → Signs s r → r .found ≡ false → s ≡ no-operator
 sign-missed no-operator r h e = refl
 sign-missed (operator o) r h e = absurd (true≢false (sym (h .0) ∙ e))
 
-pub sign-known : (s : Sign) (r : Signed) → Signs s r → r .right ≡ true → s ≡ operator (operatorOf (r .operator))
+pub sign-known : (s : Sign) (r : Signed) → Signs s r → r .found ≡ true → s ≡ operator (operatorOf (r .operator))
 sign-known no-operator r h e = absurd (false≢true (sym h ∙ e))
 sign-known (operator o) r h e = ap operator (sym (h .1))
 
@@ -86,7 +84,7 @@ module _ (line : List ℕ) (space : ℕ) (f : Found 32 line 0 space) where
         pub no-underscore : u ≡ length line → readRule line ≡ no-rule
         no-underscore d = with-contexts ∙ ap (λ (b : Bool). lineWith b o n (drop (space + 5) line)) (le-ltb u (length line) (omega arith))
 
-        pub divided : (r : Parts) → (u ≡ length line → ⊥) → o ≡ operatorOf (r .operator) → n ≡ r .own → r .left ≡ space + 5 → r .underscore ≡ u → r .right ≡ true → Divides line (readRule line) r
+        pub divided : (r : Parts) → (u ≡ length line → ⊥) → o ≡ operatorOf (r .operator) → n ≡ r .own → r .left ≡ space + 5 → r .underscore ≡ u → r .divided ≡ true → Divides line (readRule line) r
         divided r d oe ne le ue re =
             let h : u < length line = omega (arith, g .inside) in
             let same : readRule line ≡ rule (dividedRule line r) =
@@ -110,11 +108,11 @@ pub record Divided (line : List ℕ) (l : Line) (p : Parts) : Type 0 where
   pub inside : p .underscore < length line
   pub whole : drop (p .left) line ≡ take (p .underscore - p .left) (drop (p .left) line) ++ (95 ∷ drop (p .underscore + 1) line)
 
-pub not-divided : (line : List ℕ) (l : Line) (p : Parts) → Divides line l p → p .right ≡ false → l ≡ no-rule
+pub not-divided : (line : List ℕ) (l : Line) (p : Parts) → Divides line l p → p .divided ≡ false → l ≡ no-rule
 not-divided line no-rule p h e = refl
 not-divided line (rule r) p h e = absurd (true≢false (sym (h .0) ∙ e))
 
-pub is-divided : (line : List ℕ) (l : Line) (p : Parts) → Divides line l p → p .right ≡ true → Divided line l p
+pub is-divided : (line : List ℕ) (l : Line) (p : Parts) → Divides line l p → p .divided ≡ true → Divided line l p
 is-divided line no-rule p h e = absurd (false≢true (sym h ∙ e))
 is-divided line (rule r) p h e = record { same = ap rule (h .1); in-order = h .2; inside = h .3; whole = h .4 }
 

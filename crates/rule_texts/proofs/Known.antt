@@ -10,29 +10,22 @@ use Rattle.model.proofs.Booleans.{and-out, and-in, left-or, right-or, eq→eqb}
 use Rattle.model.proofs.Lists.{every-at, every-in}
 use Rattle.contexts.specs.Operators.{Rule}
 use Rattle.rule_texts.specs.Line.{rule}
-use Rattle.rule_texts.specs.Text.{RuleOf, isText, pairsOf, isKnown, knowsPairs, pairsKnown}
+use Rattle.rule_texts.specs.Text.{RuleOf, isText, pairsOf, isKnown, Known, KnowsPairs, knowsPairs, pairsKnown}
 use Rattle.rule_texts.proofs.TextGrammar.{over-text, rules-of}
 
 module _ (pairs : ℕ) where
-  -- "a pair number that is neither below P nor 255" is unknown
-  abbrev pub Known : ℕ → Type 0
-  Known p = (p < pairs) ⊎ (p ≡ 255)
-
-  abbrev pub KnowsPairs : Rule → Type 0
-  KnowsPairs r = (r .own < pairs) × ((p : ℕ) → List·Memᴰ p (pairsOf (r .left) ++ pairsOf (r .right)) → Known p)
-
-  known-out : (p : ℕ) → T (isKnown pairs p) → Known p
+  known-out : (p : ℕ) → T (isKnown pairs p) → Known pairs p
   known-out p h = go (ltb p pairs) (λ k. ltb→lt p pairs k) h
     where
-      go : (b : Bool) → (T b → p < pairs) → T (b || eqb p 255) → Known p
+      go : (b : Bool) → (T b → p < pairs) → T (b || eqb p 255) → Known pairs p
       go true f h = inl (f tt)
       go false f h = inr (eqb→eq p 255 h)
 
-  known-in : (p : ℕ) → Known p → T (isKnown pairs p)
+  known-in : (p : ℕ) → Known pairs p → T (isKnown pairs p)
   known-in p (inl h) = left-or (ltb p pairs) (eqb p 255) (lt→ltb p pairs h)
   known-in p (inr e) = right-or (ltb p pairs) (eqb p 255) (eq→eqb p 255 e)
 
-  knows-iff : (r : Rule) → T (knowsPairs pairs (rule r)) ↔ KnowsPairs r
+  knows-iff : (r : Rule) → T (knowsPairs pairs (rule r)) ↔ KnowsPairs pairs r
   knows-iff r =
       let ps = pairsOf (r .left) ++ pairsOf (r .right) in (
         λ h.
@@ -41,7 +34,7 @@ module _ (pairs : ℕ) where
         λ h. and-in (ltb (r .own) pairs) (every (isKnown pairs) ps) (lt→ltb (r .own) pairs (h .0)) (every-in (isKnown pairs) ps (λ p m. known-in p (h .1 p m))),
       )
 
-  pub known-iff : (t : List ℕ) → T (isText t) → T (pairsKnown pairs t) ↔ ((r : Rule) → RuleOf t r → KnowsPairs r)
+  pub known-iff : (t : List ℕ) → T (isText t) → T (pairsKnown pairs t) ↔ ((r : Rule) → RuleOf t r → KnowsPairs pairs r)
   unfolding pairsKnown
   known-iff t h = (
     λ o r m. (knows-iff r) .0 (every-at (λ r. knowsPairs pairs (rule r)) (m .0) (m .3) (subst T (over-text (knowsPairs pairs) t (m .0) (m .1) (m .2)) o)),

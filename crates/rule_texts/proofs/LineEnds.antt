@@ -10,16 +10,8 @@ use Rattle.model.specs.Tree.{isNil}
 use Rattle.model.specs.Lines.{linesFrom, linesOf}
 use Rattle.model.proofs.Booleans.{and-out, not-out}
 use Rattle.model.proofs.Lists.{every-append}
+use Rattle.rule_texts.specs.Text.{ended, Ended}
 use Rattle.rule_texts.proofs.Split.{lacks}
-
--- lines, byte 10 after each
-abbrev pub ended : List (List ℕ) → List ℕ
-ended [] = []
-ended (l ∷ ls) = l ++ (10 ∷ ended ls)
-
--- "byte 10 after each, or none after the last"
-abbrev pub Ended : List (List ℕ) → List ℕ → Type 0
-Ended ls t = (t ≡ ended ls) ⊎ (t ++ (10 ∷ []) ≡ ended ls)
 
 -- a line that holds a byte, and no line end
 abbrev pub isLine : List ℕ → Bool

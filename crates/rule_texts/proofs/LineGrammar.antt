@@ -13,6 +13,7 @@ use Rattle.contexts.specs.Context.{pair, any, star, sequence, either, bracket}
 use Rattle.contexts.specs.Meaning.{pairNumber}
 use Rattle.contexts.specs.Reader.{startsWith, Read, failed, got, readPair, Written, readContext, isRight}
 use Rattle.contexts.specs.Operators.{Operator, only-there, always-there, both, never-there, Rule}
+use Rattle.contexts.proofs.Soundness.{starts-out}
 use Rattle.rule_texts.specs.Line.{sign, threeDigits, writtenContext, writtenRule, mayStand, writable, upTo, after, has, rule, no-rule, Sign, operator, no-operator, signed, readSign, lineWith, afterOwn, afterSign, readRule}
 use Rattle.rule_texts.specs.Text.{isRule}
 use Rattle.rule_texts.proofs.Split.{whole-again, byte-there, first-part, second-part, is-there}
@@ -32,10 +33,6 @@ sign-out t o e = first only-there (first always-there (first both (first never-t
         go : (b : Bool) → (T b → t ≡ sign p) → cond b (operator p) s ≡ operator o → t ≡ sign o
         go true k e = let q : p ≡ o = cc in k tt ∙ ap sign q
         go false k e = r e
-
-starts-out : (x : ℕ) (t : List ℕ) → T (startsWith x t) → t ≡ x ∷ drop 1 t
-starts-out x [] h = absurd h
-starts-out x (y ∷ t) h = let e = eqb→eq y x h in cc
 
 -- what stands after the own pair
 record Rest (o : Operator) (own : ℕ) (t : List ℕ) (r : Rule) : Type 0 where
@@ -76,7 +73,7 @@ line-out l r e h = go (readSign (upTo 32 l)) refl (readPair (after 32 l)) refl e
     go (operator o) f failed g e = none e
     go (operator o) f (got (pair a b d) t) g e =
         let p = pair-out (after 32 l) a b d t g in
-        let q = rest-out o (pairNumber a b d) t r (startsWith 32 t) (λ k. starts-out 32 t k) e h in
+        let q = rest-out o (pairNumber a b d) t r (startsWith 32 t) (λ k. sym (starts-out 32 t k)) e h in
         let own : r .own ≤ 999 = omega (arith, p .small, q .of) in (
           rw (q .by, q .of, ← q .stood, ← p .stood, ← sign-out (upTo 32 l) o f) (whole-again 32 l (byte-there 32 l _ _ (p .stood))),
           in3 (leb (r .own) 999) (mayStand (r .left)) (mayStand (r .right)) (le→leb (r .own) 999 own) (q .stands-left) (q .stands-right),

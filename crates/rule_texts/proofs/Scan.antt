@@ -11,7 +11,7 @@ use Rattle.contexts.specs.Reader.{isDigit, Written, everywhere, where-it-runs, 
 use Rattle.contexts.proofs.Reading.{read-iff, empty-iff}
 use Rattle.rule_texts.specs.Text.{pairsIn, pairsOf}
 use Rattle.rule_texts.specs.Scan.{numbersIn}
-use Rattle.rule_texts.proofs.Digits.{digit-in}
+use Rattle.contexts.proofs.Completeness.{digit-yes}
 
 -- a byte that is no digit is passed over
 pub passed : (x : ℕ) (t : List ℕ) → isDigit x ≡ false → numbersIn (x ∷ t) ≡ numbersIn t
@@ -19,7 +19,7 @@ passed x [] e = refl
 passed x (y ∷ []) e = refl
 passed x (y ∷ z ∷ t) e = rw e refl
 
-pub between : (t : List ℕ) → numbersIn (95 ∷ t) ≡ numbersIn t
+between : (t : List ℕ) → numbersIn (95 ∷ t) ≡ numbersIn t
 between t = passed 95 t refl
 
 -- two texts side by side
@@ -34,7 +34,7 @@ numbers l (pair a b d) t r =
     let e : 48 + a - 48 ≡ a = omega arith in
     let f : 48 + b - 48 ≡ b = omega arith in
     let g : 48 + d - 48 ≡ d = omega arith in
-    rw (digit-in a (leb→le a 9 ((and-out (leb a 9) (leb b 9) (u .0)) .0)), e, f, g) refl
+    rw (digit-yes a ((and-out (leb a 9) (leb b 9) (u .0)) .0), e, f, g) refl
 numbers l any t r = passed 46 r refl
 numbers l (star c) t r =
     ap numbersIn (append-assoc (written c) (42 ∷ []) r) ∙ numbers tight c t (42 ∷ r) ∙ ap (λ (l : List ℕ). pairsIn c ++ l) (passed 42 r refl)
@@ -54,7 +54,7 @@ numbers whole (either c d) t r =
     joined (pairsIn c) (pairsIn d) (written c) (124 ∷ written d) (numbers side c (u .0)) (λ q. passed 124 (written d ++ q) refl ∙ numbers whole d (u .1) q) r
 
 -- so of a text that is read as a context
-pub scanned : (t : List ℕ) → T (isRight (readContext t)) → (r : List ℕ) → numbersIn (t ++ r) ≡ pairsOf (readContext t) ++ numbersIn r
+scanned : (t : List ℕ) → T (isRight (readContext t)) → (r : List ℕ) → numbersIn (t ++ r) ≡ pairsOf (readContext t) ++ numbersIn r
 scanned t h r = go (readContext t) refl h
   where
     go : (w : Written) → readContext t ≡ w → T (isRight w) → numbersIn (t ++ r) ≡ pairsOf w ++ numbersIn r

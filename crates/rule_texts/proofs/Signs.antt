@@ -1,7 +1,7 @@
 -- Which bytes are an operator's.
 use Prim.Native.Nat.{ℕ, _≤_}
 use native.Mathlib.Omega.{arith}
-use mathlib.Core.Bool.{Bool, true, false}
+use mathlib.Core.Bool.{false}
 use mathlib.Core.Path.{_≡_, refl, ap}
 use mathlib.Core.List.{List, [], _∷_}
 use lib.ListN.{length, getD, take}
@@ -19,7 +19,7 @@ no-sign u f = rw (off only-there, off always-there, off both, off never-there) r
     off : (o : Operator) → sameList u (sign o) ≡ false
     off o = false-of (sameList u (sign o)) (λ t. f o (same-out u (sign o) t))
 
-pub signs-none : (u : List ℕ) (r : Signed) → ((o : Operator) → u ≡ sign o → ⊥) → r .right ≡ false → Signs (readSign u) r
+pub signs-none : (u : List ℕ) (r : Signed) → ((o : Operator) → u ≡ sign o → ⊥) → r .found ≡ false → Signs (readSign u) r
 signs-none u r f e = rw (no-sign u f) e
 
 pub other-length : (u : List ℕ) → (length u ≡ 2 → ⊥) → (length u ≡ 3 → ⊥) → (o : Operator) → u ≡ sign o → ⊥

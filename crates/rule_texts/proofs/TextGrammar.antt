@@ -14,11 +14,11 @@ use Rattle.model.proofs.Booleans.{and-out, and-in, out3}
 use Rattle.model.proofs.Lists.{every-append}
 use Rattle.contexts.specs.Operators.{Operator, only-there, always-there, both, never-there, Rule}
 use Rattle.rule_texts.specs.Line.{sign, threeDigits, writtenContext, writtenRule, mayStand, writable, Line, rule, no-rule, readRule}
-use Rattle.rule_texts.specs.Text.{writtenRules, TextOf, isRule, isText}
+use Rattle.rule_texts.specs.Text.{Ended, TextOf, isRule, isText}
 use Rattle.rule_texts.proofs.Split.{lacks}
 use Rattle.rule_texts.proofs.Contexts.{context-lacks}
 use Rattle.rule_texts.proofs.LineGrammar.{line-iff, one-line}
-use Rattle.rule_texts.proofs.LineEnds.{ended, isLine, of-lines, the-lines}
+use Rattle.rule_texts.proofs.LineEnds.{isLine, of-lines, the-lines}
 
 -- a rule's line holds a byte and no line end
 lacks-both : (u v : List ℕ) → T (lacks 10 u) → T (lacks 10 v) → T (lacks 10 (u ++ v))
@@ -46,14 +46,9 @@ rule-lines (r ∷ rs) h =
     let k = and-out (writable r) (every writable rs) h in
     and-in (isLine (writtenRule r)) (every isLine (map writtenRule rs)) (rule-line r (k .0)) (rule-lines rs (k .1))
 
--- the text of rules is that of their lines
-written-ended : (rs : List Rule) → writtenRules rs ≡ ended (map writtenRule rs)
-written-ended [] = refl
-written-ended (r ∷ rs) = ap (λ (t : List ℕ). writtenRule r ++ (10 ∷ t)) (written-ended rs)
-
 -- the lines of a text of rules
 pub text-lines : (t : List ℕ) (rs : List Rule) → TextOf rs t → T (every writable rs) → linesOf t ≡ map writtenRule rs
-text-lines t rs e h = the-lines (map writtenRule rs) t (rule-lines rs h) (subst (λ (u : List ℕ). (t ≡ u) ⊎ (t ++ (10 ∷ []) ≡ u)) (written-ended rs) e)
+text-lines t rs e h = the-lines (map writtenRule rs) t (rule-lines rs h) e
 
 -- a list of lines and the rules that they are read as
 abbrev Reads : List (List ℕ) → List Rule → Type 0
@@ -87,7 +82,7 @@ unfolding isText
 text-out t rs h e =
     let k = and-out (leb (length (linesOf t)) 32) (every (λ l. isRule (readRule l)) (linesOf t)) h in
     let i = lines-out (linesOf t) rs e (k .1) in (
-      subst (λ (u : List ℕ). (t ≡ u) ⊎ (t ++ (10 ∷ []) ≡ u)) (ap ended (i .0) ∙ sym (written-ended rs)) (of-lines t),
+      subst (λ (ls : List (List ℕ)). Ended ls t) (i .0) (of-lines t),
       and-in (leb (length rs) 32) (every writable rs) (subst (λ (n : ℕ). T (leb n 32)) (i .2) (k .0)) (i .1),
     )
 

@@ -1,12 +1,12 @@
 -- Document 02, (h), a rule's line: "operator, space, own pair, space, left context, underscore, right context".
-use Prim.Native.Nat.{ℕ, _+_, _/_, _%_, _≤_}
+use Prim.Native.Nat.{ℕ, _+_, _/_, _%_}
 use mathlib.Core.Bool.{Bool, true, false, _&&_, cond}
 use mathlib.Core.List.{List, [], _∷_, _++_}
 use lib.ListN.{length, drop}
-use lib.Dec.{T, leb, eqb}
+use lib.Dec.{leb, eqb}
 use Rattle.model.specs.Lists.{sameList}
 use Rattle.model.specs.Lists as lists
-use Rattle.contexts.specs.Context.{Context, pair, any, star, sequence, either, bracket, whole, canonical, written, depth}
+use Rattle.contexts.specs.Context.{pair, any, star, sequence, either, bracket, whole, canonical, written, depth}
 use Rattle.contexts.specs.Meaning.{pairNumber}
 use Rattle.contexts.specs.Reader.{Read, failed, got, startsWith, readPair, Written, everywhere, where-it-runs, wrong, readContext}
 use Rattle.contexts.specs.Operators.{Operator, only-there, always-there, both, never-there, Rule}

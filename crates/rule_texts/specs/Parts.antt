@@ -28,8 +28,8 @@ operatorOf Both = operators.both
 operatorOf NeverThere = operators.never-there
 
 abbrev pub Signs : Sign → Signed → Type 0
-Signs no-operator r = r .right ≡ false
-Signs (operator o) r = (r .right ≡ true) × (operatorOf (r .operator) ≡ o)
+Signs no-operator r = r .found ≡ false
+Signs (operator o) r = (r .found ≡ true) × (operatorOf (r .operator) ≡ o)
 
 -- the rule that a divided line is
 abbrev pub dividedRule : List ℕ → Parts → operators.Rule
@@ -42,9 +42,9 @@ dividedRule line p = record {
 
 -- its two contexts are all that stands from the left one on, with an underscore between them
 abbrev pub Divides : List ℕ → Line → Parts → Type 0
-Divides line no-rule p = p .right ≡ false
+Divides line no-rule p = p .divided ≡ false
 Divides line (rule r) p =
-    (p .right ≡ true)
+    (p .divided ≡ true)
     × (r ≡ dividedRule line p)
     × (p .left ≤ p .underscore)
     × (p .underscore < length line)

@@ -1,10 +1,10 @@
 -- Document 02, (h), a text of rules: "0 to 32 rules, one a line (byte 10 after each, or none after the last)"; which texts are of the grammar (19), and
 -- which pairs they may name (20).
-use Prim.Native.Nat.{ℕ}
-use mathlib.Core.Bool.{Bool, true, false, _&&_, _||_}
+use Prim.Native.Nat.{ℕ, _<_}
+use mathlib.Core.Bool.{Bool, false, _&&_, _||_}
 use mathlib.Core.Path.{_≡_}
 use mathlib.Core.Logic.{_⊎_}
-use mathlib.Core.List.{List, [], _∷_, _++_, List·Memᴰ}
+use mathlib.Core.List.{List, [], _∷_, _++_, map, List·Memᴰ}
 use lib.ListN.{length}
 use lib.Dec.{T, leb, ltb, eqb}
 use Rattle.model.specs.Lists.{every}
@@ -15,14 +15,18 @@ use Rattle.contexts.specs.Reader.{Written, everywhere, where-it-runs, wrong, is
 use Rattle.contexts.specs.Operators.{Rule, obeys}
 use Rattle.rule_texts.specs.Line.{Line, rule, no-rule, writtenRule, writable, readRule}
 
--- the text that rules are written as, byte 10 after each
-abbrev pub writtenRules : List Rule → List ℕ
-writtenRules [] = []
-writtenRules (r ∷ rs) = writtenRule r ++ (10 ∷ writtenRules rs)
+-- lines, byte 10 after each
+abbrev pub ended : List (List ℕ) → List ℕ
+ended [] = []
+ended (l ∷ ls) = l ++ (10 ∷ ended ls)
 
 -- "byte 10 after each, or none after the last"
+abbrev pub Ended : List (List ℕ) → List ℕ → Type 0
+Ended ls t = (t ≡ ended ls) ⊎ (t ++ (10 ∷ []) ≡ ended ls)
+
+-- a text is that of these rules: "one a line"
 abbrev pub TextOf : List Rule → List ℕ → Type 0
-TextOf rs t = (t ≡ writtenRules rs) ⊎ (t ++ (10 ∷ []) ≡ writtenRules rs)
+TextOf rs t = Ended (map writtenRule rs) t
 
 -- a rule is one of those that a text is written for
 abbrev pub RuleOf : List ℕ → Rule → Type 0
@@ -54,6 +58,14 @@ pairsOf wrong = []
 -- 20, "a pair number that is neither below P nor 255, or 255 as the rule's own pair"
 abbrev pub isKnown : ℕ → ℕ → Bool
 isKnown pairs p = ltb p pairs || eqb p 255
+
+-- in words
+module _ (pairs : ℕ) where
+  abbrev pub Known : ℕ → Type 0
+  Known p = (p < pairs) ⊎ (p ≡ 255)
+
+  abbrev pub KnowsPairs : Rule → Type 0
+  KnowsPairs r = (r .own < pairs) × ((p : ℕ) → List·Memᴰ p (pairsOf (r .left) ++ pairsOf (r .right)) → Known p)
 
 abbrev pub knowsPairs : ℕ → Line → Bool
 knowsPairs pairs (rule r) = ltb (r .own) pairs && every (isKnown pairs) (pairsOf (r .left) ++ pairsOf (r .right))

@@ -20,24 +20,24 @@ pub enum Operator {
 
 // The operator that a line begins with, where it does.
 pub struct Signed {
-    pub right: bool,
+    pub found: bool,
     pub operator: Operator,
 }
 
 fn with_sign(operator: Operator) -> Signed
-    ensures { λ r. ⌜ (r .right ≡ true) × (r .operator ≡ operator) ⌝ }
+    ensures { λ r. ⌜ (r .found ≡ true) × (r .operator ≡ operator) ⌝ }
 {
     Signed {
-        right: true,
+        found: true,
         operator: operator,
     }
 }
 
 fn without_sign() -> Signed
-    ensures { λ r. ⌜ r .right ≡ false ⌝ }
+    ensures { λ r. ⌜ r .found ≡ false ⌝ }
 {
     Signed {
-        right: false,
+        found: false,
         operator: Operator::Both,
     }
 }
@@ -102,7 +102,7 @@ fn read_sign(line: &[u8], space: usize) -> Signed
 
 // A line divided: its operator and own pair, where the left context begins, and where the underscore stands; or a line that is no rule's.
 pub struct Parts {
-    pub right: bool,
+    pub divided: bool,
     pub operator: Operator,
     pub own: usize,
     pub left: usize,
@@ -110,10 +110,10 @@ pub struct Parts {
 }
 
 fn undivided() -> Parts
-    ensures { λ r. ⌜ r .right ≡ false ⌝ }
+    ensures { λ r. ⌜ r .divided ≡ false ⌝ }
 {
     Parts {
-        right: false,
+        divided: false,
         operator: Operator::Both,
         own: 0,
         left: 0,
@@ -130,7 +130,7 @@ pub fn divide(line: &[u8]) -> Parts
         return undivided();
     }
     let sign = read_sign(line, space);
-    if !sign.right {
+    if !sign.found {
         return undivided();
     }
     let own = matching::pair_number(line, space + 1);
@@ -146,7 +146,7 @@ pub fn divide(line: &[u8]) -> Parts
     }
     let operator = sign.operator;
     Parts {
-        right: true,
+        divided: true,
         operator: operator,
         own: own,
         left: space + 5,
@@ -159,7 +159,7 @@ pub fn is_rule(line: &[u8]) -> bool
     ensures { λ r. ⌜ r ≡ isRule (readRule (now (line .entry))) ⌝ }
 {
     let parts = divide(line);
-    if !parts.right {
+    if !parts.divided {
         return false;
     }
     let left = parts.left;

@@ -40,9 +40,9 @@ module _ (image pairing text : List ℕ) where
   pub image-refused : (k : ℕ) → imageVerdict image ≡ refused k → Judgement.refused k ≡ rulesJudged image pairing text
   unfolding rulesJudged rulesTests imageVerdict
   image-refused k e =
-      sym (ap (λ (v : Verdict). judgementAfter v (obeysText (grammarOf image .lexical) text pairing)) (tests-refused (imageTests image) (pairingTests image pairing ++ textTests image pairing text) k e))
+      sym (ap (λ (v : Verdict). judgementAfter v (obeysText (grammarOf image .lexical) text pairing)) (tests-refused (imageTests image) (pairingTests image pairing ++ textTests image text) k e))
 
   pub image-accepted : imageVerdict image ≡ accepted → judgedRules image pairing text ≡ rulesJudged image pairing text
   unfolding rulesJudged rulesTests imageVerdict judgedRules
   image-accepted e =
-      sym (ap (λ (v : Verdict). judgementAfter v (obeysText (grammarOf image .lexical) text pairing)) (tests-accepted (imageTests image) (pairingTests image pairing ++ textTests image pairing text) e))
+      sym (ap (λ (v : Verdict). judgementAfter v (obeysText (grammarOf image .lexical) text pairing)) (tests-accepted (imageTests image) (pairingTests image pairing ++ textTests image text) e))

@@ -1,12 +1,12 @@
 -- A rule obeyed by a pairing as it is laid out: the operator at each place, by the lexical letters beside it.
 use Prim.Native.Nat.{ℕ, suc, _-_, _<_}
 use native.Mathlib.Omega.{arith}
-use mathlib.Core.Bool.{Bool, _&&_}
-use mathlib.Core.Path.{_≡_, refl, sym, ap, ap₂, _∙_}
-use mathlib.Core.List.{List, [], _∷_, _++_}
+use mathlib.Core.Bool.{Bool}
+use mathlib.Core.Path.{_≡_, sym, ap, ap₂, _∙_}
+use mathlib.Core.List.{List, [], _∷_}
 use lib.ListN.{length, getD, length-append, List·getD-append}
 use lib.Dec.{eqb}
-use Rattle.contexts.specs.Operators.{Rule, bounded, keptBy, kept, all, there, obeys}
+use Rattle.contexts.specs.Operators.{Rule, keptBy, kept, all, there, obeys}
 use Rattle.contexts.proofs.Obeying.{all-same, obeys-bounded}
 use Rattle.written_rules.specs.Places.{keptAt, Laid-out}
 

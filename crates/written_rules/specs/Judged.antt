@@ -8,13 +8,14 @@ use Rattle.model.specs.Refusals.{firstFailing, imageTests, pairingTests}
 use Rattle.model.specs.Beside.{Judgement, judgementAfter}
 use Rattle.rule_texts.specs.Text.{isText, pairsKnown, obeysText}
 
-module _ (image pairing text : List ℕ) where
-  -- 19 and 20 "come after 13", 19 over the whole text first
-  unfoldable pub textTests : List (ℕ × Bool)
-  textTests = (19, isText text) ∷ (20, pairsKnown (header image .pairs) text) ∷ []
+-- 19 and 20, 19 over the whole text first
+unfoldable pub textTests : List ℕ → List ℕ → List (ℕ × Bool)
+textTests image text = (19, isText text) ∷ (20, pairsKnown (header image .pairs) text) ∷ []
 
+module _ (image pairing text : List ℕ) where
+  -- they "come after 13"
   unfoldable pub rulesTests : List (ℕ × Bool)
-  rulesTests = imageTests image ++ (pairingTests image pairing ++ textTests)
+  rulesTests = imageTests image ++ (pairingTests image pairing ++ textTests image text)
 
   -- "It replies holds exactly when each rule's operator, in the meaning above, is kept at every place of the pairing."
   unfoldable pub rulesJudged : Judgement
@@ -22,4 +23,4 @@ module _ (image pairing text : List ℕ) where
 
   -- the same once the image is accepted
   unfoldable pub judgedRules : Judgement
-  judgedRules = judgementAfter (firstFailing (pairingTests image pairing ++ textTests)) (obeysText (grammarOf image .lexical) text pairing)
+  judgedRules = judgementAfter (firstFailing (pairingTests image pairing ++ textTests image text)) (obeysText (grammarOf image .lexical) text pairing)

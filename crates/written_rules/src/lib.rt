@@ -8,7 +8,6 @@ ghost use mathlib.Core.List.{List};
 ghost use Prim.Native.Nat.{ℕ, _≤_, _<_};
 ghost use lib.ListN.{length};
 ghost use lib.Dec.{T};
-ghost use Rattle.model.specs.Blocks.{header};
 ghost use Rattle.model.specs.GrammarOf.{grammarOf};
 ghost use Rattle.model.specs.Readings.{pairingLength};
 ghost use Rattle.image.specs.Header.{headerOf};

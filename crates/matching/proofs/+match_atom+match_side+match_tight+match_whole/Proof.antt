@@ -3,16 +3,14 @@
 use borrow.Author.Needs.{needs}
 use borrow.Author.Tests.{not-true, not-false}
 use native.Mathlib.Omega.{arith}
-use Prim.Native.Nat.{ℕ, _+_, _-_, _*_, _≤_, _<_}
-use mathlib.Core.Bool.{Bool, true, false}
-use mathlib.Core.Path.{_≡_, refl, sym, ap, _∙_, subst}
+use Prim.Native.Nat.{ℕ, _+_, _-_, _*_, _<_}
+use mathlib.Core.Path.{sym, _∙_, subst}
 use lib.ListN.{length, drop}
 use Rattle.contexts.specs.Context.{any, star, sequence, either, bracket, tight, side, whole}
-use Rattle.contexts.specs.Reader.{startsWith, beginsAtom, got, readStars, readPair, closed, andThen, moreOfSide, moreSides}
-use Rattle.contexts.specs.Fuel.{readText, readAtom, starred}
+use Rattle.contexts.specs.Reader.{startsWith, beginsAtom, got, readStars, closed, moreOfSide, moreSides}
+use Rattle.contexts.specs.Fuel.{readText, readAtom}
 use Rattle.contexts.proofs.Fuel.{unfold-tight, unfold-side, unfold-whole}
-use Rattle.matching.specs.Steps.{Follows, Placed}
-use Rattle.matching.specs.declared.Step.{Step}
+use Rattle.matching.specs.Steps.{Follows}
 use Rattle.matching.proofs.Bytes.{starts-inside}
 use Rattle.matching.proofs.Steps as steps
 use borrow.Fn.Kinds.{In}

@@ -1,6 +1,5 @@
 -- `digit` meets its contract.
 use borrow.Author.Needs.{needs}
-use native.Mathlib.Omega.{arith}
 use Rattle.matching.proofs.digit.Statement.{statement}
 use Rattle.matching.proofs.digit.Tie as tie
 

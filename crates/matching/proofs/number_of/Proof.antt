@@ -1,6 +1,5 @@
 -- `number_of` meets its contract.
 use borrow.Author.Needs.{needs}
-use native.Mathlib.Omega.{arith}
 use Rattle.matching.proofs.number_of.Statement.{statement}
 use Rattle.matching.proofs.number_of.Tie as tie
 

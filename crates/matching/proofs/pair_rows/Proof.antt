@@ -1,10 +1,10 @@
 -- `pair_rows` meets its contract.
 use borrow.Author.Needs.{needs}
 use native.Mathlib.Omega.{arith}
-use Prim.Native.Nat.{ℕ, _+_, _-_, _<_}
+use Prim.Native.Nat.{_+_, _-_}
 use mathlib.Core.Bool.{_||_}
 use mathlib.Core.Path.{refl}
-use lib.ListN.{length, length-replicate}
+use lib.ListN.{length}
 use lib.Dec.{eqb}
 use Rattle.contexts.specs.Meaning.{onward}
 use Rattle.contexts.specs.Relation.{one}

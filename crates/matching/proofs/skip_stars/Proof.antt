@@ -2,11 +2,11 @@
 use borrow.Author.Needs.{needs}
 use borrow.Author.Tests.{eq-eqb, ne-eqb}
 use native.Mathlib.Omega.{arith}
-use mathlib.Core.Path.{_≡_, refl, sym, ap, _∙_}
-use mathlib.Core.List.{List, []}
+use mathlib.Core.Path.{_≡_, refl, _∙_}
+use mathlib.Core.List.{List}
 use Prim.Native.Nat.{ℕ, suc, _+_, _-_, _≤_, _<_}
 use lib.ListN.{length, getD, drop}
-use Rattle.contexts.specs.Context.{Context, star}
+use Rattle.contexts.specs.Context.{Context}
 use Rattle.contexts.specs.Reader.{readStars, got}
 use Rattle.contexts.specs.Fuel.{starred}
 use Rattle.model.proofs.Rest.{drop-step}

@@ -1,6 +1,5 @@
 -- `starts` meets its contract.
 use borrow.Author.Needs.{needs}
-use native.Mathlib.Omega.{arith}
 use mathlib.Core.Path.{refl}
 use Rattle.model.proofs.Rest.{drop-step}
 use Rattle.matching.proofs.Bytes.{at-end}

@@ -1,6 +1,5 @@
 -- `judge_rules` meets its contract.
 use borrow.Author.Needs.{needs}
-use native.Mathlib.Omega.{arith}
 use mathlib.Core.Path.{_≡_, sym, ap, _∙_, subst}
 use Rattle.model.specs.Blocks.{Header, header}
 use Rattle.model.specs.Refusals.{accepted, imageVerdict}

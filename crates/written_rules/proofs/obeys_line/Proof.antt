@@ -2,13 +2,12 @@
 use borrow.Author.Needs.{needs}
 use native.Mathlib.Omega.{arith}
 use Prim.Native.Nat.{ℕ, _+_, _-_}
-use mathlib.Core.Bool.{Bool}
-use mathlib.Core.Path.{_≡_, refl, sym, ap, _∙_}
+use mathlib.Core.Path.{refl, sym, ap, _∙_}
 use mathlib.Core.List.{List}
 use lib.ListN.{length, take, drop}
 use Rattle.model.specs.GrammarOf.{grammarOf}
 use Rattle.model.proofs.Booleans.{true-of}
-use Rattle.contexts.specs.Reader.{readContext, isRight, Written}
+use Rattle.contexts.specs.Reader.{readContext, isRight}
 use Rattle.contexts.specs.Operators.{all}
 use Rattle.judge.proofs.PairingLaws.{lexical-is}
 use Rattle.rule_texts.specs.Line.{Line, readRule}

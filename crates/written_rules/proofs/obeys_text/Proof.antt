@@ -1,16 +1,13 @@
 -- `obeys_text` meets its contract.
-use borrow.Author.Needs.{needs}
 use native.Mathlib.Omega.{arith}
-use Prim.Native.Nat.{ℕ, suc, _+_, _≤_, _<_}
+use Prim.Native.Nat.{ℕ, suc, _+_, _≤_}
 use mathlib.Core.Path.{_≡_, sym, _∙_}
 use mathlib.Core.List.{List}
-use lib.ListN.{length, getD, take}
+use lib.ListN.{length, take}
 use lib.Dec.{T}
 use lib.Seq.{length-take-le, getD-take}
-use Rattle.model.specs.GrammarOf.{grammarOf}
 use Rattle.model.specs.Readings.{pairingLength}
 use Rattle.model.proofs.Booleans.{within-out}
-use Rattle.written_rules.specs.Places.{Laid-out}
 use Rattle.written_rules.proofs.obeys_text.Statement.{statement}
 use Rattle.written_rules.proofs.obeys_text.Tie as tie
 

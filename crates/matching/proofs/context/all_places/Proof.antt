@@ -5,18 +5,14 @@ use Prim.Native.Nat.{ℕ, suc, _+_, _-_, _≤_}
 use mathlib.Core.Bool.{Bool, true, false, _&&_}
 use mathlib.Core.Path.{_≡_, refl, ap, _∙_}
 use lib.Dec.{leb, ltb}
-use borrow.Author.Tests.{le-leb, lt-leb}
 use Rattle.relations.specs.Sets.{holds}
+use Rattle.relations.proofs.Bits.{and-on}
 use Rattle.relations.proofs.Counting.{Counted, count-begun, count-more}
 use Rattle.matching.proofs.context.all_places.Statement.{statement}
 use Rattle.matching.proofs.context.all_places.Tie as tie
 
-last : (b : Bool) → (b && true) ≡ b
-last true = refl
-last false = refl
-
 all-below : (n j out : ℕ) → j ≡ suc n → Counted (λ k. true) j out → (k : ℕ) → holds out k ≡ leb k n
-all-below n j out e c k = c k ∙ last (ltb k j) ∙ ap (ltb k) e ∙ lib.Dec.leb·suc-suc k n
+all-below n j out e c k = c k ∙ and-on (ltb k j) ∙ ap (ltb k) e ∙ lib.Dec.leb·suc-suc k n
 
 abbrev Inv-loop : tie.InvT-loop
 Inv-loop n out₀ j₀ out j = (j ≤ n + 1) × Counted (λ k. true) j out

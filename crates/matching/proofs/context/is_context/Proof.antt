@@ -1,9 +1,7 @@
 -- `is_context` meets its contract.
 use borrow.Author.Needs.{needs}
 use borrow.Author.Tests.{not-true, not-false}
-use native.Mathlib.Omega.{arith}
-use Prim.Native.Nat.{ℕ}
-use mathlib.Core.Path.{_≡_, refl, sym, ap, _∙_}
+use mathlib.Core.Path.{sym, ap}
 use lib.ListN.{take}
 use Rattle.contexts.specs.Context.{whole}
 use Rattle.contexts.specs.Fuel.{readText}

@@ -1,8 +1,7 @@
 -- `left_places` meets its contract.
 use borrow.Author.Needs.{needs}
 use borrow.Author.Tests.{le-leb}
-use native.Mathlib.Omega.{arith}
-use mathlib.Core.Path.{_≡_, refl, sym, ap, _∙_}
+use mathlib.Core.Path.{sym, _∙_}
 use lib.ListN.{length}
 use Rattle.matching.proofs.Reading.{right-read, left-empty, left-by}
 use Rattle.matching.proofs.context.left_places.Statement.{statement}

@@ -8,7 +8,6 @@ use mathlib.Core.Path.{_≡_, refl, sym, _∙_}
 use mathlib.Core.List.{List}
 use lib.ListN.{length, take, drop}
 use Rattle.contexts.specs.Reader.{startsWith, readPair}
-use Rattle.contexts.specs.Operators as operators
 use Rattle.matching.proofs.Numbers.{Pair, number-none, number-some}
 use Rattle.rule_texts.specs.Line.{readSign, operator, readRule}
 use Rattle.rule_texts.specs.Parts.{Found, operatorOf}
@@ -35,7 +34,7 @@ module _ (c : tie.Else3) where
   own = c .before .pair-number .result
 
   signed : readSign (take space line) ≡ operator (operatorOf (sign .operator))
-  signed = dividing.sign-known (readSign (take space line)) sign (c .before .before .before .before .read-sign .ensures) (not-false (sign .right) ((c .before .before) .if2 .left))
+  signed = dividing.sign-known (readSign (take space line)) sign (c .before .before .before .before .read-sign .ensures) (not-false (sign .found) ((c .before .before) .if2 .left))
 
   pair : Pair line (space + 1) own (readPair (drop (space + 1) line))
   pair = number-some line (space + 1) own (readPair (drop (space + 1) line)) (c .before .pair-number .ensures) (c .if3 .left)
@@ -73,7 +72,7 @@ returns-2 c =
     let a = c .before .before .before .before .before .before .before .args in
     let space = c .before .before .before .before .before .find .result in
     let sign = c .before .before .before .read-sign .result in
-    dividing.divides-none (a .line .now) (readRule (a .line .now)) (c .undivided2 .result) (dividing.no-sign (a .line .now) space (c .before .before .before .before .before .find .ensures) (dividing.sign-missed (readSign (take space (a .line .now))) sign (c .before .before .before .read-sign .ensures) (not-true (sign .right) (c .before .if2 .taken)))) (c .undivided2 .ensures)
+    dividing.divides-none (a .line .now) (readRule (a .line .now)) (c .undivided2 .result) (dividing.no-sign (a .line .now) space (c .before .before .before .before .before .find .ensures) (dividing.sign-missed (readSign (take space (a .line .now))) sign (c .before .before .before .read-sign .ensures) (not-true (sign .found) (c .before .if2 .taken)))) (c .undivided2 .ensures)
 
 add-pair-number : tie.Need-add-pair-number
 add-pair-number c = search needs

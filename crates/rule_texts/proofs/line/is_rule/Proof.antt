@@ -4,11 +4,11 @@ use native.Mathlib.Omega.{arith}
 use borrow.Author.Tests.{not-true, not-false}
 use Prim.Native.Nat.{ℕ, _+_}
 use mathlib.Core.Bool.{Bool, _&&_}
-use mathlib.Core.Path.{_≡_, sym, ap, ap₂, _∙_}
+use mathlib.Core.Path.{sym, ap, _∙_}
 use mathlib.Core.List.{List}
 use lib.ListN.{drop}
 use Rattle.contexts.specs.Reader.{readContext, isRight}
-use Rattle.rule_texts.specs.Line.{Line, readRule}
+use Rattle.rule_texts.specs.Line.{readRule}
 use Rattle.rule_texts.specs.Text.{isRule}
 use Rattle.rule_texts.specs.declared.line.Parts.{Parts}
 use Rattle.rule_texts.proofs.Dividing.{Divided, not-divided, is-divided, rest-whole}
@@ -24,7 +24,7 @@ module _ (c : tie.Else1) where
   parts = c .before .before .divide .result
 
   divided : Divided line (readRule line) parts
-  divided = is-divided line (readRule line) parts (c .before .before .divide .ensures) (not-false (parts .right) (c .if1 .left))
+  divided = is-divided line (readRule line) parts (c .before .before .divide .ensures) (not-false (parts .divided) (c .if1 .left))
 
 divide-requires : tie.Need-divide-requires
 divide-requires c κs = search needs
@@ -33,7 +33,7 @@ returns : tie.Need-returns
 returns c =
     let line = c .before .before .before .before .args .line .now in
     let p = c .before .before .divide .result in
-    sym (ap isRule (not-divided line (readRule line) p (c .before .before .divide .ensures) (not-true (p .right) (c .if1 .taken))))
+    sym (ap isRule (not-divided line (readRule line) p (c .before .before .divide .ensures) (not-true (p .divided) (c .if1 .taken))))
 
 sub-is-context : tie.Need-sub-is-context
 sub-is-context c = divided c .in-order

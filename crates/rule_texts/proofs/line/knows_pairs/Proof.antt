@@ -3,16 +3,13 @@ use borrow.Author.Needs.{needs}
 use native.Mathlib.Omega.{arith}
 use borrow.Author.Tests.{lt-ltb, le-ltb}
 use Prim.Native.Nat.{ℕ, _+_, _-_}
-use mathlib.Core.Bool.{Bool, true, false, _&&_, false≢true}
+use mathlib.Core.Bool.{Bool, true, _&&_}
 use mathlib.Core.Path.{_≡_, sym, ap, _∙_}
 use mathlib.Core.List.{List, _++_}
-use lib.ListN.{length, take, drop}
-use lib.Dec.{T}
+use lib.ListN.{take, drop}
 use Rattle.model.specs.Lists.{every}
-use Rattle.model.proofs.Booleans.{and-out, of-true}
-use Rattle.contexts.specs.Reader.{readContext, isRight}
-use Rattle.rule_texts.specs.Line.{Line, readRule}
-use Rattle.rule_texts.specs.Parts.{Divides}
+use Rattle.contexts.specs.Reader.{readContext}
+use Rattle.rule_texts.specs.Line.{readRule}
 use Rattle.rule_texts.specs.Scan.{numbersIn}
 use Rattle.rule_texts.specs.Text.{isRule, pairsOf, isKnown, knowsPairs}
 use Rattle.rule_texts.specs.declared.line.Parts.{Parts}

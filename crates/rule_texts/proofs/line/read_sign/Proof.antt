@@ -1,10 +1,10 @@
 -- `read_sign` meets its contract.
 use borrow.Author.Needs.{needs}
 use native.Mathlib.Omega.{arith}
-use Prim.Native.Nat.{ℕ, _≤_}
+use Prim.Native.Nat.{ℕ}
 use mathlib.Core.Path.{_≡_, sym, ap, _∙_, subst}
 use mathlib.Core.List.{List, [], _∷_}
-use lib.ListN.{length, getD, take}
+use lib.ListN.{getD, take}
 use lib.Seq.{length-take-le}
 use Rattle.rule_texts.specs.Line.{readSign}
 use Rattle.rule_texts.specs.Parts.{Signs}

@@ -13,10 +13,10 @@ use Rattle.rule_texts.proofs.Signs.{signs-none, not-three}
 use Rattle.rule_texts.proofs.line.three_bytes.Statement.{statement}
 use Rattle.rule_texts.proofs.line.three_bytes.Tie as tie
 
-both : (x y z : ℕ) (r : Signed) → x ≡ 60 → y ≡ 61 → z ≡ 62 → r .right ≡ true → r .operator ≡ Both → Signs (readSign (x ∷ y ∷ z ∷ [])) r
+both : (x y z : ℕ) (r : Signed) → x ≡ 60 → y ≡ 61 → z ≡ 62 → r .found ≡ true → r .operator ≡ Both → Signs (readSign (x ∷ y ∷ z ∷ [])) r
 both x y z r e f g t o = rw (e, f, g) (t, ap operatorOf o)
 
-never : (x y z : ℕ) (r : Signed) → x ≡ 47 → y ≡ 60 → z ≡ 61 → r .right ≡ true → r .operator ≡ NeverThere → Signs (readSign (x ∷ y ∷ z ∷ [])) r
+never : (x y z : ℕ) (r : Signed) → x ≡ 47 → y ≡ 60 → z ≡ 61 → r .found ≡ true → r .operator ≡ NeverThere → Signs (readSign (x ∷ y ∷ z ∷ [])) r
 never x y z r e f g t o = rw (e, f, g) (t, ap operatorOf o)
 
 without-sign-requires : tie.Need-without-sign-requires

@@ -13,10 +13,10 @@ use Rattle.rule_texts.proofs.Signs.{signs-none, not-two}
 use Rattle.rule_texts.proofs.line.two_bytes.Statement.{statement}
 use Rattle.rule_texts.proofs.line.two_bytes.Tie as tie
 
-only : (x y : ℕ) (r : Signed) → x ≡ 61 → y ≡ 62 → r .right ≡ true → r .operator ≡ OnlyThere → Signs (readSign (x ∷ y ∷ [])) r
+only : (x y : ℕ) (r : Signed) → x ≡ 61 → y ≡ 62 → r .found ≡ true → r .operator ≡ OnlyThere → Signs (readSign (x ∷ y ∷ [])) r
 only x y r e f t o = rw (e, f) (t, ap operatorOf o)
 
-always : (x y : ℕ) (r : Signed) → x ≡ 60 → y ≡ 61 → r .right ≡ true → r .operator ≡ AlwaysThere → Signs (readSign (x ∷ y ∷ [])) r
+always : (x y : ℕ) (r : Signed) → x ≡ 60 → y ≡ 61 → r .found ≡ true → r .operator ≡ AlwaysThere → Signs (readSign (x ∷ y ∷ [])) r
 always x y r e f t o = rw (e, f) (t, ap operatorOf o)
 
 with-sign-requires : tie.Need-with-sign-requires

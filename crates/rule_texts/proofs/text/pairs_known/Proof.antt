@@ -3,7 +3,7 @@ use borrow.Author.Needs.{needs}
 use native.Mathlib.Omega.{arith}
 use borrow.Author.Tests.{not-true, not-false}
 use Prim.Native.Nat.{_-_}
-use mathlib.Core.Path.{_≡_, sym, _∙_}
+use mathlib.Core.Path.{sym, _∙_}
 use Rattle.rule_texts.specs.Text.{pairsKnown}
 use Rattle.rule_texts.proofs.Each.{Asked, asked-none, asked-all, asked-more, asked-fails, asked-here, ruleLine, knowsLine, rule-lines}
 use Rattle.rule_texts.proofs.text.pairs_known.Statement.{statement}

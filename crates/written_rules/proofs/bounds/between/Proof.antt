@@ -1,5 +1,4 @@
 -- `between` meets its contract.
-use borrow.Author.Needs.{needs}
 use native.Mathlib.Omega.{arith}
 use Prim.Native.Nat.{_-_}
 use Rattle.written_rules.proofs.Framing.{Framed, frame-begun, frame-more, frame-done}

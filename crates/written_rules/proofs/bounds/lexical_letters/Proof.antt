@@ -1,7 +1,7 @@
 -- `lexical_letters` meets its contract.
 use borrow.Author.Needs.{needs}
 use native.Mathlib.Omega.{arith}
-use Prim.Native.Nat.{ℕ, _-_}
+use Prim.Native.Nat.{_-_}
 use Rattle.model.specs.GrammarOf.{grammarOf}
 use Rattle.letters.proofs.Laws.{laid-pairs}
 use Rattle.judge.proofs.PairingLaws.{lexical-is, listed-at}

@@ -1,7 +1,7 @@
 -- `asked` meets its contract.
 use borrow.Author.Needs.{needs}
 use mathlib.Core.Bool.{Bool, true, false, not}
-use mathlib.Core.Path.{_≡_, refl, sym, ap, _∙_}
+use mathlib.Core.Path.{_≡_, refl}
 use Rattle.contexts.specs.Operators.{both, keptBy}
 use Rattle.written_rules.proofs.rule.asked.Statement.{statement}
 use Rattle.written_rules.proofs.rule.asked.Tie as tie
