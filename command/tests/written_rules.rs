@@ -150,7 +150,7 @@ fn a_text_has_32_rules() {
 fn a_sign_that_is_a_letter_is_one_beside_a_colon() {
     let folder = scratch("signs_as_letters");
     let grammar = folder.join("signs.txt");
-    let text = "BOUNDARY #\nNULL 0\nANY @\nALPHABET ( ) | * . _ < = : / a\nSUBSET <=> ( )\nSUBSET a_b a *\nSUBSET S a\nSUBSET S_S ( )\nPAIRS (:( ):) |:| *:* .:. _:_ <:< =:= ::: /:/ a:a a:)\nLEXICON Root\na #\nEND\n";
+    let text = "BOUNDARY #\nNULL 0\nANY @\nALPHABET ( ) | * . _ < = : / a\nSUBSET <=> ( )\nSUBSET a_b a *\nSUBSET S a\nSUBSET S_S ( )\nSUBSET (a a\nSUBSET a* a\nPAIRS (:( ):) |:| *:* .:. _:_ <:< =:= ::: /:/ a:a a:)\nLEXICON Root\na #\nEND\n";
     fs::write(&grammar, text).unwrap();
     for (rule, numbers) in [
         ("(:( => (*:*|.:.)* _ _:_ .", "=> 000 (003|004)*_005."),
@@ -161,6 +161,19 @@ fn a_sign_that_is_a_letter_is_one_beside_a_colon() {
         ("a => S_S _ S", "=> 010 000|001_010"),
     ] {
         assert_eq!(numbered(&grammar, rule), format!("{numbers}\n"), "{rule}");
+    }
+    let file = folder.join("numbers");
+    for (numbers, letters) in [
+        ("=> 000 (003|004)*_005.", "(:( => (*:* | .:.)* _ _:_ ."),
+        ("=> 010 000_001010", "a:a => (:( _ ):) a:a"),
+        ("=> 010 ((000|001)001*)*_(000|011)001", "a:a => (((:( | ):)) ):)*)* _ ((:( | a:)) ):)"),
+        // Without the blank the set (a would be read, and a*.
+        ("=> 000 (010|000)001_010*(.010)*", "(:( => ( a:a | (:() ):) _ a:a * (. a:a)*"),
+    ] {
+        fs::write(&file, numbers).unwrap();
+        let shown = rules(&grammar, &[], &[file.to_str().unwrap(), "--letters"]);
+        assert_eq!(shown, ran(0, &format!("{letters}\n"), ""), "{numbers}");
+        assert_eq!(numbered(&grammar, letters), format!("{numbers}\n"), "{letters}");
     }
 }
 
