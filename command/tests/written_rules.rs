@@ -83,6 +83,11 @@ fn slips_are_told_with_what_may_be_meant() {
         ("Z:c _ e", format!("_: {after}")),
         ("Z:c <-> _ e", format!("<->: {after}; is <=> meant?")),
         ("Z:c ⇐ _ e", format!("⇐: {after}; is <= meant?")),
+        ("Z:c <==> _ e", format!("<==>: {after}; is <=> meant?")),
+        ("Z:c<==_ e", format!("<==: {after}; is <= meant?")),
+        ("Z:c /<== _ e", format!("/<==: {after}; is /<= meant?")),
+        ("Z:c /<=> _ e", format!("/<=>: {after}; is /<= meant?")),
+        ("Z:c <=>=> _ e", format!("<=>=>: {after}")),
         ("Z:c => <= _ e", "<=: a second operator; a rule has one".to_string()),
         ("Z:c => e", format!("no underscore, which stands for the rule's own pair between its contexts; {shape}")),
         ("Z:c => _ e | e _", format!("a second underscore; {shape}")),
@@ -150,7 +155,7 @@ fn a_text_has_32_rules() {
 fn a_sign_that_is_a_letter_is_one_beside_a_colon() {
     let folder = scratch("signs_as_letters");
     let grammar = folder.join("signs.txt");
-    let text = "BOUNDARY #\nNULL 0\nANY @\nALPHABET ( ) | * . _ < = : / a\nSUBSET <=> ( )\nSUBSET a_b a *\nSUBSET S a\nSUBSET S_S ( )\nSUBSET (a a\nSUBSET a* a\nPAIRS (:( ):) |:| *:* .:. _:_ <:< =:= ::: /:/ a:a a:)\nLEXICON Root\na #\nEND\n";
+    let text = "BOUNDARY #\nNULL 0\nANY @\nALPHABET ( ) | * . _ < = : / a\nSUBSET <=> ( )\nSUBSET a_b a *\nSUBSET S a\nSUBSET S_S ( )\nSUBSET (a a\nSUBSET a* a\nSUBSET -- |\nPAIRS (:( ):) |:| *:* .:. _:_ <:< =:= ::: /:/ a:a a:)\nLEXICON Root\na #\nEND\n";
     fs::write(&grammar, text).unwrap();
     for (rule, numbers) in [
         ("(:( => (*:*|.:.)* _ _:_ .", "=> 000 (003|004)*_005."),
@@ -159,9 +164,13 @@ fn a_sign_that_is_a_letter_is_one_beside_a_colon() {
         ("/:/ /<= <=>:@ _ a_b:", "/<= 009 000|001_003|010|011"),
         ("::: => :( _ (:", "=> 008 000_000"),
         ("a => S_S _ S", "=> 010 000|001_010"),
+        ("= /<= / _ <", "/<= 007 009_006"),
+        ("a=> -- _ -- a", "=> 010 002_002010"),
     ] {
         assert_eq!(numbered(&grammar, rule), format!("{numbers}\n"), "{rule}");
     }
+    let after = "after its own pair a rule has an operator, => <= <=> or /<=; is <=> meant?";
+    assert_eq!(told(&grammar, "a <==> _"), format!("<==>: {after}"));
     let file = folder.join("numbers");
     for (numbers, letters) in [
         ("=> 000 (003|004)*_005.", "(:( => (*:* | .:.)* _ _:_ ."),
