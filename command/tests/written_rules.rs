@@ -357,6 +357,26 @@ fn pairings_at_fault_are_told() {
 }
 
 #[test]
+fn a_set_with_the_boundary_is_more_than_one_pair() {
+    let folder = scratch("set_with_boundary");
+    let grammar = folder.join("ends.txt");
+    fs::write(&grammar, PALATAL.replace("PAIRS", "SUBSET E i #\nSUBSET B #\nSUBSET T t\nPAIRS")).unwrap();
+    assert_eq!(numbered(&grammar, "t:c => B _ E:"), "=> 000 255_002|255\n");
+    let own = "a rule's own pair is one pair, and not the boundary, which this is too; write a line for each of i:i";
+    assert_eq!(told(&grammar, "E: => _"), format!("E:: {own}"));
+    assert_eq!(told(&grammar, "E => _"), format!("E: {own}"));
+    assert_eq!(told(&grammar, "T: => _"), "T:: a rule's own pair is one pair; write a line for each of t:c t:t");
+    for (pairing, what) in [
+        ("t:c E:", "E: is more than one pair, the boundary among them; a pairing names each of its pairs"),
+        ("T: i", "T: is more than one pair; a pairing names each of its pairs"),
+        ("t:c B", "B: the boundary stands at both ends of every pairing, and is not written"),
+    ] {
+        let ran = rules(&grammar, &["t:c => _"], &["--pairing", pairing]);
+        assert_eq!(ran, self::ran(1, "", &format!("--pairing:1: {what}\n")), "{pairing}");
+    }
+}
+
+#[test]
 fn options_that_say_nothing_together_are_wrong_usage() {
     let luz = sample_path("luz");
     for (options, what) in [
