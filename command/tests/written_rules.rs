@@ -377,6 +377,30 @@ fn a_set_with_the_boundary_is_more_than_one_pair() {
 }
 
 #[test]
+fn nothing_to_hold_and_nothing_to_hold_it_on_are_told() {
+    let luz = sample_path("luz");
+    let folder = scratch("nothing_to_hold");
+    let (empty, unread) = (folder.join("empty"), folder.join("unread"));
+    fs::write(&empty, "; nothing\n\n").unwrap();
+    fs::write(&unread, "luzes\n").unwrap();
+    let (empty, unread) = (empty.to_str().unwrap(), unread.to_str().unwrap());
+    let no_pairing = "headwords: there is no pairing to hold the rules on: ";
+    for (options, what) in
+        [(["--pairings", empty], "none is given\n"), (["--words", unread], "no word has a reading\n")]
+    {
+        let told = ran(1, "", &format!("{no_pairing}{what}"));
+        assert_eq!(rules(&luz, &["Z:c => _"], &options), told);
+        assert_eq!(rules(&luz, &["Z:c => _"], &[&options[..], &["--against", "0"]].concat()), told);
+    }
+    let no_rule = |name: &str| ran(1, "", &format!("headwords: {name}: there is no rule in it\n"));
+    for options in [&[][..], &["--against", "0"], &["--pairing", "l"], &["--words", unread]] {
+        assert_eq!(rules(&luz, &[], &[&[empty], options].concat()), no_rule(empty));
+        assert_eq!(rules(&luz, &[""], options), no_rule("--rule"));
+    }
+    assert_eq!(rules(&luz, &[], &[empty, "--numbers"]), ran(0, "", ""));
+}
+
+#[test]
 fn options_that_say_nothing_together_are_wrong_usage() {
     let luz = sample_path("luz");
     for (options, what) in [
@@ -386,6 +410,9 @@ fn options_that_say_nothing_together_are_wrong_usage() {
         (&["--words", "w", "--draw", "3"], "--words and --draw go not together"),
         (&["--draw", "0"], "--draw takes a number from 1 on, not 0"),
         (&["--draw", "10000001"], "--draw takes a number up to 10000000"),
+        (&["-", "--pairings", "-"], "standard input is read once, and - is given more than once"),
+        (&["-", "--words", "-"], "standard input is read once, and - is given more than once"),
+        (&["--words", "-", "--pairings", "-"], "standard input is read once, and - is given more than once"),
     ] {
         let ran = rules(&luz, &["Z:c => _"], options);
         assert_eq!((ran.code, ran.stdout.as_str()), (Some(2), ""), "{options:?}");
