@@ -83,6 +83,11 @@ fn slips_are_told_with_what_may_be_meant() {
         ("Z:c _ e", format!("_: {after}")),
         ("Z:c <-> _ e", format!("<->: {after}; is <=> meant?")),
         ("Z:c ⇐ _ e", format!("⇐: {after}; is <= meant?")),
+        ("Z:c <==> _ e", format!("<==>: {after}; is <=> meant?")),
+        ("Z:c<==_ e", format!("<==: {after}; is <= meant?")),
+        ("Z:c /<== _ e", format!("/<==: {after}; is /<= meant?")),
+        ("Z:c /<=> _ e", format!("/<=>: {after}; is /<= meant?")),
+        ("Z:c <=>=> _ e", format!("<=>=>: {after}")),
         ("Z:c => <= _ e", "<=: a second operator; a rule has one".to_string()),
         ("Z:c => e", format!("no underscore, which stands for the rule's own pair between its contexts; {shape}")),
         ("Z:c => _ e | e _", format!("a second underscore; {shape}")),
@@ -150,7 +155,7 @@ fn a_text_has_32_rules() {
 fn a_sign_that_is_a_letter_is_one_beside_a_colon() {
     let folder = scratch("signs_as_letters");
     let grammar = folder.join("signs.txt");
-    let text = "BOUNDARY #\nNULL 0\nANY @\nALPHABET ( ) | * . _ < = : / a\nSUBSET <=> ( )\nSUBSET a_b a *\nSUBSET S a\nSUBSET S_S ( )\nPAIRS (:( ):) |:| *:* .:. _:_ <:< =:= ::: /:/ a:a a:)\nLEXICON Root\na #\nEND\n";
+    let text = "BOUNDARY #\nNULL 0\nANY @\nALPHABET ( ) | * . _ < = : / a\nSUBSET <=> ( )\nSUBSET a_b a *\nSUBSET S a\nSUBSET S_S ( )\nSUBSET (a a\nSUBSET a* a\nSUBSET -- |\nPAIRS (:( ):) |:| *:* .:. _:_ <:< =:= ::: /:/ a:a a:)\nLEXICON Root\na #\nEND\n";
     fs::write(&grammar, text).unwrap();
     for (rule, numbers) in [
         ("(:( => (*:*|.:.)* _ _:_ .", "=> 000 (003|004)*_005."),
@@ -159,8 +164,25 @@ fn a_sign_that_is_a_letter_is_one_beside_a_colon() {
         ("/:/ /<= <=>:@ _ a_b:", "/<= 009 000|001_003|010|011"),
         ("::: => :( _ (:", "=> 008 000_000"),
         ("a => S_S _ S", "=> 010 000|001_010"),
+        ("= /<= / _ <", "/<= 007 009_006"),
+        ("a=> -- _ -- a", "=> 010 002_002010"),
     ] {
         assert_eq!(numbered(&grammar, rule), format!("{numbers}\n"), "{rule}");
+    }
+    let after = "after its own pair a rule has an operator, => <= <=> or /<=; is <=> meant?";
+    assert_eq!(told(&grammar, "a <==> _"), format!("<==>: {after}"));
+    let file = folder.join("numbers");
+    for (numbers, letters) in [
+        ("=> 000 (003|004)*_005.", "(:( => (*:* | .:.)* _ _:_ ."),
+        ("=> 010 000_001010", "a:a => (:( _ ):) a:a"),
+        ("=> 010 ((000|001)001*)*_(000|011)001", "a:a => (((:( | ):)) ):)*)* _ ((:( | a:)) ):)"),
+        // Without the blank the set (a would be read, and a*.
+        ("=> 000 (010|000)001_010*(.010)*", "(:( => ( a:a | (:() ):) _ a:a * (. a:a)*"),
+    ] {
+        fs::write(&file, numbers).unwrap();
+        let shown = rules(&grammar, &[], &[file.to_str().unwrap(), "--letters"]);
+        assert_eq!(shown, ran(0, &format!("{letters}\n"), ""), "{numbers}");
+        assert_eq!(numbered(&grammar, letters), format!("{numbers}\n"), "{letters}");
     }
 }
 
@@ -335,6 +357,50 @@ fn pairings_at_fault_are_told() {
 }
 
 #[test]
+fn a_set_with_the_boundary_is_more_than_one_pair() {
+    let folder = scratch("set_with_boundary");
+    let grammar = folder.join("ends.txt");
+    fs::write(&grammar, PALATAL.replace("PAIRS", "SUBSET E i #\nSUBSET B #\nSUBSET T t\nPAIRS")).unwrap();
+    assert_eq!(numbered(&grammar, "t:c => B _ E:"), "=> 000 255_002|255\n");
+    let own = "a rule's own pair is one pair, and not the boundary, which this is too; write a line for each of i:i";
+    assert_eq!(told(&grammar, "E: => _"), format!("E:: {own}"));
+    assert_eq!(told(&grammar, "E => _"), format!("E: {own}"));
+    assert_eq!(told(&grammar, "T: => _"), "T:: a rule's own pair is one pair; write a line for each of t:c t:t");
+    for (pairing, what) in [
+        ("t:c E:", "E: is more than one pair, the boundary among them; a pairing names each of its pairs"),
+        ("T: i", "T: is more than one pair; a pairing names each of its pairs"),
+        ("t:c B", "B: the boundary stands at both ends of every pairing, and is not written"),
+    ] {
+        let ran = rules(&grammar, &["t:c => _"], &["--pairing", pairing]);
+        assert_eq!(ran, self::ran(1, "", &format!("--pairing:1: {what}\n")), "{pairing}");
+    }
+}
+
+#[test]
+fn nothing_to_hold_and_nothing_to_hold_it_on_are_told() {
+    let luz = sample_path("luz");
+    let folder = scratch("nothing_to_hold");
+    let (empty, unread) = (folder.join("empty"), folder.join("unread"));
+    fs::write(&empty, "; nothing\n\n").unwrap();
+    fs::write(&unread, "luzes\n").unwrap();
+    let (empty, unread) = (empty.to_str().unwrap(), unread.to_str().unwrap());
+    let no_pairing = "headwords: there is no pairing to hold the rules on: ";
+    for (options, what) in
+        [(["--pairings", empty], "none is given\n"), (["--words", unread], "no word has a reading\n")]
+    {
+        let told = ran(1, "", &format!("{no_pairing}{what}"));
+        assert_eq!(rules(&luz, &["Z:c => _"], &options), told);
+        assert_eq!(rules(&luz, &["Z:c => _"], &[&options[..], &["--against", "0"]].concat()), told);
+    }
+    let no_rule = |name: &str| ran(1, "", &format!("headwords: {name}: there is no rule in it\n"));
+    for options in [&[][..], &["--against", "0"], &["--pairing", "l"], &["--words", unread]] {
+        assert_eq!(rules(&luz, &[], &[&[empty], options].concat()), no_rule(empty));
+        assert_eq!(rules(&luz, &[""], options), no_rule("--rule"));
+    }
+    assert_eq!(rules(&luz, &[], &[empty, "--numbers"]), ran(0, "", ""));
+}
+
+#[test]
 fn options_that_say_nothing_together_are_wrong_usage() {
     let luz = sample_path("luz");
     for (options, what) in [
@@ -344,6 +410,9 @@ fn options_that_say_nothing_together_are_wrong_usage() {
         (&["--words", "w", "--draw", "3"], "--words and --draw go not together"),
         (&["--draw", "0"], "--draw takes a number from 1 on, not 0"),
         (&["--draw", "10000001"], "--draw takes a number up to 10000000"),
+        (&["-", "--pairings", "-"], "standard input is read once, and - is given more than once"),
+        (&["-", "--words", "-"], "standard input is read once, and - is given more than once"),
+        (&["--words", "-", "--pairings", "-"], "standard input is read once, and - is given more than once"),
     ] {
         let ran = rules(&luz, &["Z:c => _"], options);
         assert_eq!((ran.code, ran.stdout.as_str()), (Some(2), ""), "{options:?}");

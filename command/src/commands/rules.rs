@@ -11,7 +11,7 @@ use crate::written_rules::{
     read_pairing, read_pairings, read_rules, readings, with_letters, Asked, Group, Holder, Judge, Pairing, Rules,
     Teller,
 };
-use std::ffi::OsStr;
+use std::ffi::{OsStr, OsString};
 use std::io::Read;
 use std::path::Path;
 
@@ -66,8 +66,8 @@ are given: told is on how many both say the same, and else pairings that they ju
 printed for each rule and each table: holds or fails, the pairing, the rule, divided by tabs. What a written rule says is the
 library's verdict, headwords_judge_rules.
 
-status: 0 where tables and written rules say the same; 1 where they do not, a text has faults, or something cannot be read; 2
-for wrong usage
+status: 0 where tables and written rules say the same; 1 where they do not, a text has faults, there is no rule or no pairing
+to hold it on, or something cannot be read; 2 for wrong usage
 ",
     run,
 };
@@ -123,6 +123,11 @@ fn check_options(given: &Given) -> Result<(), Failure> {
     together(&LETTERS, &[NUMBERS, RULE, AGAINST])?;
     together(&NUMBERS, &[AGAINST])?;
     pairings.iter().try_for_each(|one| together(one, &draws))?;
+    let files = [given.values(PAIRINGS.name), given.values(WORDS.name)].concat();
+    let rules = given.operands.get(1).map(OsString::as_os_str);
+    if files.into_iter().chain(rules).filter(|file| *file == "-").count() > 1 {
+        return Err(Failure::Usage("standard input is read once, and - is given more than once".to_string()));
+    }
     drawn(given).map(drop)
 }
 
@@ -199,6 +204,15 @@ fn all_rules(given: &Given, loaded: &Loaded, judge: &Judge) -> Result<Rules, Fai
     let mut rules = Rules(groups);
     let count = rules.all().count();
     limits::within(&limits::RULES, count, "written rules", 0).map_err(|fault| failed(&fault.what))?;
+    // Every pairing obeys a text of no rule, which is hardly meant; as numbers it is a text all the same.
+    if count == 0 && !given.has(NUMBERS.name) {
+        let name = match given.operands.get(1) {
+            Some(file) if file == "-" => "standard input".into(),
+            Some(file) => file.to_string_lossy(),
+            None => RULE.name.into(),
+        };
+        return Err(failed(&format!("{name}: there is no rule in it")));
+    }
     let against = given.values(AGAINST.name);
     let mut unnamed: Vec<&mut Group> = rules.0.iter_mut().filter(|group| group.tables.is_empty()).collect();
     if !against.is_empty() && unnamed.is_empty() {
@@ -241,6 +255,10 @@ fn pairings_listed(given: &Given, loaded: &Loaded, judge: &Judge) -> Result<Opti
     if !lists.is_empty() {
         let settings = Settings { summary: Summary::Never, ..Settings::of(given)? };
         pairings.extend(readings(loaded, words::open(&[], &lists)?, &settings)?);
+    }
+    if pairings.is_empty() {
+        let what = if lists.is_empty() { "none is given" } else { "no word has a reading" };
+        return Err(failed(&format!("there is no pairing to hold the rules on: {what}")));
     }
     Ok(Some(pairings))
 }

@@ -2,6 +2,7 @@
 
 use super::contexts::{Pairs, BOUNDARY_NUMBER};
 use super::judge::Judge;
+use super::signs::cut;
 use crate::refusals;
 use crate::text::{limits, Fault, Faults, Grammar};
 
@@ -31,17 +32,24 @@ fn show(line: &str, pairs: Pairs) -> String {
     let [operator, own, contexts] = [(); 3].map(|()| parts.next().unwrap_or(""));
     let mut words = vec![pair(own, pairs), operator.to_string()];
     let mut rest = contexts;
+    let mut opened = false;
     while let Some(sign) = rest.chars().next() {
-        let length = if sign.is_ascii_digit() { 3 } else { 1 };
-        let (text, after) = rest.split_at(length);
-        match (sign, words.last_mut()) {
-            ('0'..='9', _) => words.push(pair(text, pairs)),
-            ('*', Some(before)) => before.push('*'),
-            _ => words.push(text.to_string()),
+        let (text, after) = rest.split_at(if sign.is_ascii_digit() { 3 } else { 1 });
+        let shown = if sign.is_ascii_digit() { pair(text, pairs) } else { text.to_string() };
+        match words.last_mut() {
+            Some(word) if (opened || matches!(sign, '*' | ')')) && may_join(word, &shown, pairs) => *word += &shown,
+            _ => words.push(shown),
         }
+        opened = sign == '(';
         rest = after;
     }
-    words.join(" ").replace("( ", "(").replace(" )", ")") + "\n"
+    words.join(" ") + "\n"
+}
+
+/// Whether no blank is needed between two texts: a bracket or a star may be a letter, or in the name of a set.
+fn may_join(before: &str, after: &str, pairs: Pairs) -> bool {
+    let count = |text: &str| cut(text, pairs.sides).len();
+    count(&format!("{before}{after}")) == count(before) + count(after)
 }
 
 fn pair(digits: &str, pairs: Pairs) -> String {

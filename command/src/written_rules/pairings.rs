@@ -8,6 +8,7 @@ use crate::failure::Failure;
 use crate::library::{pairing, ROW};
 use crate::loaded::Loaded;
 use crate::refusals;
+use crate::text::columns::Column;
 use crate::text::lines::{decode, split, Word};
 use crate::text::{Fault, Faults, Grammar};
 use crate::words::{work_through, Asker, Letters, Piece, Portion, Settings, Source};
@@ -38,17 +39,7 @@ fn read_words(words: &[Word], grammar: &Grammar, judge: &Judge) -> Result<Pairin
     for word in words {
         for cut in cut(word.text(), pairs.sides) {
             numbers.push(match cut.sign {
-                Sign::Pair(column) => match pairs.matching(column).collect::<Vec<_>>()[..] {
-                    [number] => number as u8,
-                    [] if pairs.matches_boundary(column) => {
-                        return Err(format!(
-                            "{}: the boundary stands at both ends of every pairing, and is not written",
-                            cut.text
-                        ))
-                    }
-                    [] => return Err(pairs.no_pair(cut.text, column)),
-                    _ => return Err(format!("{} is more than one pair; a pairing names each of its pairs", cut.text)),
-                },
+                Sign::Pair(column) => one_pair(column, cut.text, pairs)?,
                 Sign::Unknown => return Err(unknown(cut.text, pairs.sides)),
                 _ => return Err(format!("{} is no pair; a pairing is pairs, as in l:l u:u Z:c", cut.text)),
             });
@@ -56,6 +47,19 @@ fn read_words(words: &[Word], grammar: &Grammar, judge: &Judge) -> Result<Pairin
     }
     judge.takes(&numbers).map_err(refusals::told)?;
     Ok(numbers)
+}
+
+fn one_pair(column: Column, written: &str, pairs: Pairs) -> Result<u8, String> {
+    let numbers: Vec<usize> = pairs.matching(column).collect();
+    match (&numbers[..], pairs.matches_boundary(column)) {
+        ([number], false) => Ok(*number as u8),
+        ([], false) => Err(pairs.no_pair(written, column)),
+        ([], true) => Err(format!("{written}: the boundary stands at both ends of every pairing, and is not written")),
+        (_, boundary) => {
+            let boundary = if boundary { ", the boundary among them" } else { "" };
+            Err(format!("{written} is more than one pair{boundary}; a pairing names each of its pairs"))
+        }
+    }
 }
 
 /// The pairings of the readings of words, each once.

@@ -62,11 +62,12 @@ fn read_own<'a>(cuts: &'a [Cut<'a>], pairs: Pairs) -> Result<(usize, &'a [Cut<'a
         ([], true) => Err(format!("{}: the boundary is no rule's own pair; it stands in contexts only", first.text)),
         ([], false) => Err(pairs.no_pair(first.text, column)),
         ([own], false) => Ok((*own, rest)),
-        _ => {
+        (_, boundary) => {
             let shown: Vec<String> = numbers.iter().take(MOST_NAMED).map(|&number| pairs.show(number)).collect();
             let rest = if numbers.len() > MOST_NAMED { " .." } else { "" };
+            let boundary = if boundary { ", and not the boundary, which this is too" } else { "" };
             Err(format!(
-                "{}: a rule's own pair is one pair; write a line for each of {}{rest}",
+                "{}: a rule's own pair is one pair{boundary}; write a line for each of {}{rest}",
                 first.text,
                 shown.join(" ")
             ))
@@ -89,7 +90,7 @@ fn operator_meant(text: &str) -> String {
         "⇔" | "<->" | "↔" | "<==>" | "=" => "<=>",
         "⇒" | "->" | "→" | "==>" | ">" => "=>",
         "⇐" | "<-" | "←" | "<==" | "=<" | "<" => "<=",
-        "/⇐" | "/=>" | "/<==" | "/<" | "/<-" => "/<=",
+        "/⇐" | "/=>" | "/<==" | "/<=>" | "/<" | "/<-" => "/<=",
         _ => return String::new(),
     };
     format!("; is {meant} meant?")

@@ -15,7 +15,6 @@ pub enum Operator {
     Never,
 }
 
-/// The longer of two that begin alike comes first.
 const OPERATORS: [(&str, Operator); 4] =
     [("<=>", Operator::Both), ("/<=", Operator::Never), ("<=", Operator::Always), ("=>", Operator::Only)];
 
@@ -80,8 +79,9 @@ fn next<'a>(text: &'a str, sides: Sides) -> (Sign, &'a str) {
     if let Some((column, rest)) = two_sides(text, sides) {
         return (Sign::Pair(column), rest);
     }
-    if let Some((operator, rest)) = operator(text) {
-        return (Sign::Operator(operator), rest);
+    let (arrow, after) = arrow(text);
+    if let Some(operator) = operator(arrow) {
+        return (Sign::Operator(operator), after);
     }
     match text.chars().next().and_then(sign) {
         // The source writes the place with several underscores.
@@ -89,14 +89,22 @@ fn next<'a>(text: &'a str, sides: Sides) -> (Sign, &'a str) {
         Some(sign) => return (sign, &text[1..]),
         None => {}
     }
-    match begins(text, sides).into_iter().find(|(_, rest)| ends(rest)) {
+    // A letter that is a part of an arrow is none.
+    match begins(text, sides).into_iter().find(|(_, rest)| ends(rest) && rest.len() <= after.len()) {
         Some((side, rest)) => (Sign::Pair(Column { lexical: side, surface: side }), rest),
+        None if arrow.len() > 1 => (Sign::Unknown, after),
         None => (Sign::Unknown, &text[text.find(|c| sign(c).is_some()).unwrap_or(text.len())..]),
     }
 }
 
-fn operator(text: &str) -> Option<(Operator, &str)> {
-    OPERATORS.iter().find_map(|&(written, operator)| Some((operator, text.strip_prefix(written)?)))
+fn operator(arrow: &str) -> Option<Operator> {
+    OPERATORS.iter().find(|(text, _)| *text == arrow).map(|(_, operator)| *operator)
+}
+
+/// The arrow that a text begins with, an operator or what others write for one, and what follows it.
+fn arrow(text: &str) -> (&str, &str) {
+    let rest = text.trim_start_matches(['<', '=', '>', '/', '-']);
+    text.split_at(text.len() - rest.len())
 }
 
 /// A pair with a colon; a side that is left out is any.
@@ -127,7 +135,7 @@ fn begins<'a>(text: &'a str, sides: Sides) -> Vec<(u8, &'a str)> {
     found
 }
 
-/// Whether a pair may end where this follows.
+/// Whether a pair may end where this follows; one character of an arrow may go on with a name.
 fn ends(rest: &str) -> bool {
-    rest.chars().next().is_none_or(|character| sign(character).is_some()) || operator(rest).is_some()
+    rest.chars().next().is_none_or(|character| sign(character).is_some()) || arrow(rest).0.len() > 1
 }
