@@ -40,7 +40,7 @@ use Rattle.grammar.proofs.form_reply.Reads as form-reply
 use Rattle.grammar.proofs.form_view.Reads as form-view
 use Rattle.judge.proofs.judge.Reads as judge
 use Rattle.spelling.proofs.spell.Reads as spell
-use Rattle.many.specs.Words.{ManyReply, wordsAsked}
+use Rattle.shares.specs.Words.{ManyReply, wordsAsked}
 use Rattle.many.specs.Answers.{manyOf}
 use Rattle.many.proofs.analyse_words.Reads as analyse-words
 use Rattle.headwords.proofs.headwords_analyse.Reads as headwords-analyse

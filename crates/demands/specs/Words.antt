@@ -17,7 +17,7 @@ use Rattle.model.specs.Spelling.{wordSpelled}
 use Rattle.model.specs.Rows.{Reply, replyNumber}
 use Rattle.model.specs.Calls.{listingReply, afterListing}
 use Rattle.model.specs.Beside.{Judgement, formStart}
-use Rattle.many.specs.Words.{wordOf, lowFirst, wordsAsked, shareRows}
+use Rattle.shares.specs.Words.{wordOf, lowFirst, wordsAsked, shareRows}
 
 -- "a number of document 01's table", which the answers of document 02 join
 abbrev pub inTable : ℕ → Bool

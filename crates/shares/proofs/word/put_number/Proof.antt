@@ -6,10 +6,10 @@ use mathlib.Core.Path.{_≡_, refl, sym, ap, _∙_}
 use mathlib.Core.List.{List, [], _++_, append-nil}
 use lib.ListN.{length, take, length-set}
 use lib.Seq.{take-all}
-use Rattle.many.specs.Words.{lowFirst}
-use Rattle.many.proofs.Records.{low-more}
-use Rattle.many.proofs.word.put_number.Statement.{statement}
-use Rattle.many.proofs.word.put_number.Tie as tie
+use Rattle.shares.specs.Words.{lowFirst}
+use Rattle.shares.proofs.Records.{low-more}
+use Rattle.shares.proofs.word.put_number.Statement.{statement}
+use Rattle.shares.proofs.word.put_number.Tie as tie
 
 abbrev Inv-loop : tie.InvT-loop
 Inv-loop place₀ n rest₀ i₀ place rest i = (i ≤ 8) × (length place ≡ 8) × (take i place ++ lowFirst (8 - i) rest ≡ lowFirst 8 n)

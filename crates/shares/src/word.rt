@@ -6,7 +6,7 @@ ghost use Rattle.model.specs.Refusals.{accepted, imageVerdict};
 ghost use Rattle.model.specs.Rows.{rowCount, replyNumber};
 ghost use Rattle.image.specs.Header.{headerOf};
 ghost use Rattle.prepare.specs.Indexed.{Indexed};
-ghost use Rattle.many.specs.Words.{lowFirst, recordReply, afterRecord};
+ghost use Rattle.shares.specs.Words.{lowFirst, recordReply, afterRecord};
 use image::Header;
 
 // The reply's number, as plain analysis of the record's first letters gives it, and the rows. A length byte over 32 is refused with 9.

@@ -10,7 +10,7 @@ use lib.Seq.{drop-drop, take-at, drop-at}
 use borrow.Rule.Slice.PartMut.{putMid}
 use Rattle.model.specs.Lists.{below, flatMap, part}
 use Rattle.model.proofs.Lists.{flatMap-below}
-use Rattle.many.specs.Words.{laidOver}
+use Rattle.shares.specs.Words.{laidOver}
 
 -- the first i parts are laid
 pub record Over (w : ℕ) (f : ℕ → List ℕ) (buffer : List ℕ) (i : ℕ) (now : List ℕ) : Type 0 where

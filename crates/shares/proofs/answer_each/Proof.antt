@@ -10,10 +10,10 @@ use lib.ListN.{length, take, drop}
 use borrow.Rule.Slice.PartMut.{same-len-mid}
 use Rattle.model.specs.Lists.{part}
 use Rattle.model.specs.Rows.{rowCount, replyNumber}
-use Rattle.many.specs.Words.{lowFirst, recordReply, afterRecord, placeAt, shareAt, laidOver}
-use Rattle.many.proofs.Over.{Over, over-none, part-inside, over-lent, over-more, part-long, share-rows}
-use Rattle.many.proofs.answer_each.Statement.{statement}
-use Rattle.many.proofs.answer_each.Tie as tie
+use Rattle.shares.specs.Words.{lowFirst, recordReply, afterRecord, placeAt, shareAt, laidOver}
+use Rattle.shares.proofs.Over.{Over, over-none, part-inside, over-lent, over-more, part-long, share-rows}
+use Rattle.shares.proofs.answer_each.Statement.{statement}
+use Rattle.shares.proofs.answer_each.Tie as tie
 
 abbrev Inv-loop : tie.InvT-loop
 Inv-loop image index h words n share replies₀ out₀ width from₀ i₀ replies out from i =

@@ -15,9 +15,9 @@ use Rattle.model.specs.Calls.{rowsAfter, requestVerdict, allReadings, listingRo
 use Rattle.model.proofs.Lists.{length-below, below-from, getD-below}
 use Rattle.model.proofs.Parts.{length-parts, part-at}
 use Rattle.model.proofs.Rows.{length-filled}
-use Rattle.many.specs.Words.{wordOf, lowFirst, afterRecord, placeAt, shareAt, laidOver, wordsAsked, shareRows, afterReplies, afterRows}
-use Rattle.many.proofs.Over.{part-inside, part-long, shares-inside}
-use Rattle.many.proofs.Replies.{answered-places, answered-shares}
+use Rattle.shares.specs.Words.{wordOf, lowFirst, afterRecord, placeAt, shareAt, laidOver, wordsAsked, shareRows, afterReplies, afterRows}
+use Rattle.shares.proofs.Over.{part-inside, part-long, shares-inside}
+use Rattle.shares.proofs.Replies.{answered-places, answered-shares}
 
 -- eight bytes tell a number that fits in them
 pub low-apart : (k x y : ℕ) → x < 256 ^ k → y < 256 ^ k → lowFirst k x ≡ lowFirst k y → x ≡ y

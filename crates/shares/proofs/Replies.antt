@@ -7,7 +7,7 @@ use mathlib.Core.List.{List}
 use lib.ListN.{length, drop}
 use Rattle.model.specs.Refusals.{Verdict, accepted, refused, imageVerdict}
 use Rattle.model.proofs.Tests.{clash}
-use Rattle.many.specs.Words.{ManyReply, placeAt, shareAt, laidOver, manyAfter, bytesAfter, wordsAsked, shareRows, manyReply, afterReplies, afterRows}
+use Rattle.shares.specs.Words.{ManyReply, placeAt, shareAt, laidOver, manyAfter, bytesAfter, wordsAsked, shareRows, manyReply, afterReplies, afterRows}
 
 module _ (image words replies rows : List ℕ) where
   -- what the call replies, and what it leaves

@@ -7,11 +7,11 @@ use mathlib.Core.Path.{_≡_, ap, _∙_}
 use mathlib.Core.List.{List}
 use lib.ListN.{length}
 use Rattle.model.specs.Rows.{rowCount}
-use Rattle.many.specs.Words.{placeAt, shareAt, laidOver, wordsAsked}
-use Rattle.many.proofs.Over.{shares-inside}
-use Rattle.many.proofs.Replies.{answered-places, answered-shares, no-places, no-shares, count-inside}
-use Rattle.many.proofs.answer_all.Statement.{statement}
-use Rattle.many.proofs.answer_all.Tie as tie
+use Rattle.shares.specs.Words.{placeAt, shareAt, laidOver, wordsAsked}
+use Rattle.shares.proofs.Over.{shares-inside}
+use Rattle.shares.proofs.Replies.{answered-places, answered-shares, no-places, no-shares, count-inside}
+use Rattle.shares.proofs.answer_all.Statement.{statement}
+use Rattle.shares.proofs.answer_all.Tie as tie
 
 module _ (c : tie.After-word-count) where
   abbrev start : tie.Start

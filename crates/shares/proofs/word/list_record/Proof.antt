@@ -11,10 +11,10 @@ use Rattle.model.specs.Rows.{rowCount, replyNumber}
 use Rattle.model.specs.Demand.{replyRows}
 use Rattle.model.specs.Calls.{listingReply, afterListing}
 use Rattle.analyser.proofs.Replies.{listing-rows}
-use Rattle.many.specs.Words.{wordOf}
-use Rattle.many.proofs.Records.{record-long, record-listed}
-use Rattle.many.proofs.word.list_record.Statement.{statement}
-use Rattle.many.proofs.word.list_record.Tie as tie
+use Rattle.shares.specs.Words.{wordOf}
+use Rattle.shares.proofs.Records.{record-long, record-listed}
+use Rattle.shares.proofs.word.list_record.Statement.{statement}
+use Rattle.shares.proofs.word.list_record.Tie as tie
 
 module _ (c : tie.After-byte-at) where
   abbrev start : tie.Start

@@ -1,9 +1,9 @@
 -- `answer_word` meets its contract: the record listed, and its reply's number put in its place.
 use borrow.Author.Needs.{needs}
 use mathlib.Core.Path.{ap, _∙_}
-use Rattle.many.specs.Words.{lowFirst}
-use Rattle.many.proofs.word.answer_word.Statement.{statement}
-use Rattle.many.proofs.word.answer_word.Tie as tie
+use Rattle.shares.specs.Words.{lowFirst}
+use Rattle.shares.proofs.word.answer_word.Statement.{statement}
+use Rattle.shares.proofs.word.answer_word.Tie as tie
 
 list-record-requires : tie.Need-list-record-requires
 list-record-requires c κs = search needs

@@ -11,7 +11,7 @@ use Rattle.model.specs.Lists.{byte}
 use Rattle.model.specs.Query.{analysis}
 use Rattle.model.specs.Rows.{Reply}
 use Rattle.model.specs.Calls.{listingReply, afterListing}
-use Rattle.many.specs.Words.{wordOf, lowFirst, recordReply, afterRecord}
+use Rattle.shares.specs.Words.{wordOf, lowFirst, recordReply, afterRecord}
 
 module _ (image asked : List ℕ) where
   pub record-long : 32 < byte asked 0 → ((rows : ℕ) → Reply.refused 9 ≡ recordReply image asked rows) × ((share : List ℕ) → share ≡ afterRecord image asked share)
