@@ -6,10 +6,10 @@ use lib.ListN.{length}
 use lib.Dec.{T, leb, leb→le}
 use borrow.Author.Needs.{needs}
 use borrow.Rule.Slice.PartMut.{putMid}
-use Rattle.forms.proofs.FormsLaws.{letters-filled}
-use Rattle.forms.proofs.Parts.{Put, put-part, fits}
-use Rattle.forms.proofs.fill_letters.Statement.{statement}
-use Rattle.forms.proofs.fill_letters.Tie as tie
+use Rattle.filling.proofs.FormsLaws.{letters-filled}
+use Rattle.filling.proofs.Parts.{Put, put-part, fits}
+use Rattle.filling.proofs.fill_letters.Statement.{statement}
+use Rattle.filling.proofs.fill_letters.Tie as tie
 
 -- how far the parts reach
 most : (k : ℕ) → T (leb k 146688) → k ≤ 146688

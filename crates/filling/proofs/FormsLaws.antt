@@ -10,12 +10,12 @@ use Rattle.model.specs.Blocks.{Header, header}
 use Rattle.model.specs.GrammarOf.{grammarOf}
 use Rattle.image.specs.Accepted.{Accepted}
 use Rattle.letters.proofs.Laws.{laid-pairs}
 use Rattle.forms.specs.Letters.{rowCount, rowLetter, Rowed}
 use Rattle.forms.specs.Forms.{formsEnd, rowsIn, flagsIn, orderIn, sharedIn, slotsIn, skipsIn, FormsOf}
 use Rattle.orders.specs.Orders.{Ordered}
 use Rattle.forms.specs.Filling.{RowsOf, FlagsOf, SkipsOf, Held, Sharing, LettersFilled, SlotsFilled}
-use Rattle.forms.proofs.Parts.{Put}
+use Rattle.filling.proofs.Parts.{Put}
 use Rattle.forms.proofs.SlottedLaws.{slotted-of}
 
 module _ (image : List ℕ) (h : Header) (a : Accepted image h) where
   laid-lexicons : h .lexicons ≡ header image .lexicons

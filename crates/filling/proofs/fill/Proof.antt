@@ -2,9 +2,9 @@
 use Prim.Native.Nat.{_-_}
 use borrow.Author.Needs.{needs}
 use Rattle.image.specs.Header.{headerOf}
-use Rattle.forms.proofs.FormsLaws.{forms-of}
-use Rattle.forms.proofs.fill.Statement.{statement}
-use Rattle.forms.proofs.fill.Tie as tie
+use Rattle.filling.proofs.FormsLaws.{forms-of}
+use Rattle.filling.proofs.fill.Statement.{statement}
+use Rattle.filling.proofs.fill.Tie as tie
 
 fill-letters-requires : tie.Need-fill-letters-requires
 fill-letters-requires c κs = search needs

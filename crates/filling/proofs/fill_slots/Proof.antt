@@ -9,11 +9,11 @@ use borrow.Author.Needs.{needs}
 use borrow.Rule.Slice.PartMut.{putMid}
 use Rattle.model.specs.Blocks.{Header}
 use Rattle.image.specs.Accepted.{Accepted}
 use Rattle.forms.specs.Filling.{Held}
-use Rattle.forms.proofs.FormsLaws.{slots-filled}
-use Rattle.forms.proofs.Parts.{part-long, Put, put-part, put-copied, fits}
-use Rattle.forms.proofs.fill_slots.Statement.{statement}
-use Rattle.forms.proofs.fill_slots.Tie as tie
+use Rattle.filling.proofs.FormsLaws.{slots-filled}
+use Rattle.filling.proofs.Parts.{part-long, Put, put-part, put-copied, fits}
+use Rattle.filling.proofs.fill_slots.Statement.{statement}
+use Rattle.filling.proofs.fill_slots.Tie as tie
 
 -- how far the parts reach
 most : (k : ℕ) → T (leb k 146688) → k ≤ 146688
