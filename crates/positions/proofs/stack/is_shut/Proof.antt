@@ -5,9 +5,9 @@ use mathlib.Core.Bool.{true≢false}
 use mathlib.Core.Path.{sym}
 use lib.Bits.{bitAnd}
 use lib.ListN.{getD}
-use Rattle.filter.proofs.Depths.{step-shut}
-use Rattle.filter.proofs.stack.is_shut.Statement.{statement}
-use Rattle.filter.proofs.stack.is_shut.Tie as tie
+use Rattle.positions.proofs.Depths.{step-shut}
+use Rattle.positions.proofs.stack.is_shut.Statement.{statement}
+use Rattle.positions.proofs.stack.is_shut.Tie as tie
 
 shared-slice-read-if1 : tie.Need-shared-slice-read-if1
 shared-slice-read-if1 c = search needs

@@ -3,9 +3,9 @@ use Prim.Native.Nat.{ℕ, _<_}
 use borrow.Author.Needs.{needs}
 use mathlib.Core.Bool.{true≢false}
 use mathlib.Core.Path.{sym, subst}
-use Rattle.filter.proofs.Depths.{letter-dead}
-use Rattle.filter.proofs.stack.shut.Statement.{statement}
-use Rattle.filter.proofs.stack.shut.Tie as tie
+use Rattle.positions.proofs.Depths.{letter-dead}
+use Rattle.positions.proofs.stack.shut.Statement.{statement}
+use Rattle.positions.proofs.stack.shut.Tie as tie
 
 returns : tie.Need-returns
 returns c = λ e. absurd (true≢false (sym e))
