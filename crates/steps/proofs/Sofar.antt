@@ -9,10 +9,10 @@ use Rattle.model.specs.Lines.{printed}
 use Rattle.parse.specs.Fields.{Begun}
 use Rattle.print.specs.Text.{Put}
 use Rattle.moving.specs.declared.Count.{Count}
-use Rattle.lines.specs.declared.Stand.{Stand}
+use Rattle.steps.specs.declared.Stand.{Stand}
 use Rattle.answers.specs.Input.{begunAfter, textAfter, lastText}
-use Rattle.lines.specs.declared.Ending.the-variants as ending
-use Rattle.lines.specs.Sofar.{Rooms, Within, waiting, Sofar, WentOn, Over, Ended}
+use Rattle.steps.specs.declared.Ending.the-variants as ending
+use Rattle.steps.specs.Sofar.{Rooms, Within, waiting, Sofar, WentOn, Over, Ended}
 use Rattle.answers.proofs.Reading.{begun-parts, text-parts, begun-nothing, printed-is}
 
 -- a part of a list, and the part after it

@@ -3,10 +3,10 @@ use borrow.Author.Needs.{needs}
 use native.Mathlib.Omega.{arith}
 use mathlib.Core.Path.{_≡_, refl, sym, _∙_, subst}
 use lib.ListN.{length}
-use Rattle.lines.specs.Sofar.{Stepped}
-use Rattle.lines.proofs.Sofar.{SameLengths, Head, head-none, head-within, head-more, head-over}
-use Rattle.lines.proofs.answer_input.Statement.{statement}
-use Rattle.lines.proofs.answer_input.Tie as tie
+use Rattle.steps.specs.Sofar.{Stepped}
+use Rattle.steps.proofs.Sofar.{SameLengths, Head, head-none, head-within, head-more, head-over}
+use Rattle.steps.proofs.answer_input.Statement.{statement}
+use Rattle.steps.proofs.answer_input.Tie as tie
 
 abbrev Inv-loop : tie.InvT-loop
 Inv-loop image index run chunk₀ line₀ out₀ s₀ left₀ chunk line out s left = Head image chunk line out s left

@@ -6,11 +6,11 @@ use lib.ListN.{length, take, drop}
 use Rattle.model.specs.Lines.{printed}
 use Rattle.parse.specs.Fields.{Begun}
 use Rattle.moving.specs.declared.Count.{Count}
-use Rattle.lines.specs.declared.Stand.{Stand}
-use Rattle.lines.specs.declared.Step.{Step}
-use Rattle.lines.specs.declared.Step.the-variants as step
-use Rattle.lines.specs.declared.Ending.{Ending}
-use Rattle.lines.specs.declared.Ending.the-variants as ending
+use Rattle.steps.specs.declared.Stand.{Stand}
+use Rattle.steps.specs.declared.Step.{Step}
+use Rattle.steps.specs.declared.Step.the-variants as step
+use Rattle.steps.specs.declared.Ending.{Ending}
+use Rattle.steps.specs.declared.Ending.the-variants as ending
 use Rattle.answers.specs.Input.{begunAfter, textAfter}
 
 -- the room that a run has

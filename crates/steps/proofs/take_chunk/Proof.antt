@@ -6,10 +6,10 @@ use mathlib.Core.List.{[], _++_}
 use lib.ListN.{length, take, drop}
 use lib.Seq.{length-take-le}
 use Rattle.moving.specs.Told.{TakenIn}
-use Rattle.lines.proofs.Sofar.{went-on}
+use Rattle.steps.proofs.Sofar.{went-on}
 use borrow.Author.Needs.{needs}
-use Rattle.lines.proofs.take_chunk.Statement.{statement}
-use Rattle.lines.proofs.take_chunk.Tie as tie
+use Rattle.steps.proofs.take_chunk.Statement.{statement}
+use Rattle.steps.proofs.take_chunk.Tie as tie
 
 take-in-requires : tie.Need-take-in-requires
 take-in-requires c κs = search needs

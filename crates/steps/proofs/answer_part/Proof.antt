@@ -6,11 +6,11 @@ use mathlib.Core.List.{List, [], append-nil}
 use lib.ListN.{length, take, drop}
 use lib.Seq.{length-take-le}
 use Rattle.moving.specs.Told.{GivenOut}
-use Rattle.lines.specs.Sofar.{waiting}
-use Rattle.lines.proofs.Sofar.{parts-join, went-on}
+use Rattle.steps.specs.Sofar.{waiting}
+use Rattle.steps.proofs.Sofar.{parts-join, went-on}
 use borrow.Author.Needs.{needs}
-use Rattle.lines.proofs.answer_part.Statement.{statement}
-use Rattle.lines.proofs.answer_part.Tie as tie
+use Rattle.steps.proofs.answer_part.Statement.{statement}
+use Rattle.steps.proofs.answer_part.Tie as tie
 
 slice-aggregate-read-chunk : tie.Need-slice-aggregate-read-chunk
 slice-aggregate-read-chunk c = let s = c .before .before .before .before .before .before in sym (length-take-le (s .args .s .n) (s .args .chunk .now) (omega (arith, s .pre .1 .0 .0, s .pre .1 .1 .inside)))

@@ -5,10 +5,10 @@ use mathlib.Core.Path.{sym, ap, subst}
 use lib.ListN.{length, take}
 use lib.Seq.{length-take-le}
 use Rattle.moving.specs.Told.{GivenOut}
-use Rattle.lines.proofs.Sofar.{over}
+use Rattle.steps.proofs.Sofar.{over}
 use borrow.Author.Needs.{needs}
-use Rattle.lines.proofs.answer_last.Statement.{statement}
-use Rattle.lines.proofs.answer_last.Tie as tie
+use Rattle.steps.proofs.answer_last.Statement.{statement}
+use Rattle.steps.proofs.answer_last.Tie as tie
 
 read-end-requires : tie.Need-read-end-requires
 read-end-requires c κs = search needs
