@@ -24,6 +24,8 @@ bench:
 	@echo
 	@bench/hostile
 	@echo
+	@bench/rules
+	@echo
 	@bench/command
 	@echo
 	@bench/others

@@ -6,10 +6,11 @@ cd "$(dirname "$0")/.."
 work=$(mktemp -d)
 trap 'rm -rf "$work"' EXIT
 tools/library
-for program in examples/luces tests/replies tests/largest; do
+for program in examples/luces tests/replies tests/rules tests/largest; do
     cc -std=c99 -O1 -Wall -Wextra -Werror -Iinclude -o "$work/$(basename $program)" $program.c target/staticlib/libheadwords.a
 done
 image=crates/check_image/data/grammar.img
 "$work/luces" $image | diff - examples/luces.out
 "$work/replies" $image
+"$work/rules" $image
 "$work/largest"

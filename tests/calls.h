@@ -111,6 +111,15 @@ static inline void judge(const char *what, struct bytes image, struct bytes path
     }
 }
 
+static inline void judge_rules(const char *what, struct bytes image, struct bytes pairing, struct bytes text, uint64_t reply)
+{
+    for (enum side side = 0; side < SIDES; side++) {
+        const uint8_t *lent_image = lend(IMAGE, side, image), *lent_pairing = lend(PAIRING, side, pairing), *lent_text = lend(GIVEN, side, text);
+        called = what;
+        answered(headwords_judge_rules(lent_image, image.length, lent_pairing, pairing.length, lent_text, text.length), reply);
+    }
+}
+
 static inline void form(const char *what, struct bytes image, size_t entry, size_t room, uint64_t reply, struct bytes written)
 {
     for (enum side side = 0; side < SIDES; side++) {

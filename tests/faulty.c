@@ -1,7 +1,7 @@
 /* The C entry with the one fault that the environment variable FAULT names. The functions of the true library are renamed, with real_ in front.
  *
  * CALL is a function's name without headwords_, or places for analyse_words with its replies as the buffer; RANGE is one of image, given (word, words,
- * path or code points), pairing and out.
+ * path, code points or rules), pairing and out.
  * entry CALL            entry numbers of row 0 from 2,048 on are wrong
  * count CALL            n is cut to two bytes
  * after RANGE CALL      a byte after the range is read
@@ -15,11 +15,13 @@
  * boundary spell        the boundary is taken for a letter of a word
  * long words            a length byte over 32 is taken for 32
  * early words           the words after one that is refused are not answered
- * last words            of sixteen words and more the last is answered as the first */
+ * last words            of sixteen words and more the last is answered as the first
+ * rules WHAT            the judge of rules is that of faulty_rules.c, with the fault WHAT */
 #include <stdio.h>
 #include <stdlib.h>
 #include <string.h>
 
+#include "faulty_rules.h"
 #include "headwords.h"
 
 uint64_t real_headwords_analyse(const uint8_t *image, size_t image_length, const uint8_t *word, size_t word_length, uint8_t *rows, size_t rows_length);
@@ -28,6 +30,7 @@ uint64_t real_headwords_generate(const uint8_t *image, size_t image_length, cons
 uint64_t real_headwords_check(const uint8_t *image, size_t image_length);
 uint64_t real_headwords_seal(uint8_t *image, size_t image_length);
 uint64_t real_headwords_judge(const uint8_t *image, size_t image_length, const uint8_t *path, size_t path_length, const uint8_t *pairing, size_t pairing_length);
+uint64_t real_headwords_judge_rules(const uint8_t *image, size_t image_length, const uint8_t *pairing, size_t pairing_length, const uint8_t *text, size_t text_length);
 uint64_t real_headwords_form(const uint8_t *image, size_t image_length, size_t entry, uint8_t *letters, size_t letters_length);
 uint64_t real_headwords_spell(const uint8_t *image, size_t image_length, const uint8_t *points, size_t points_length, uint8_t *letters, size_t letters_length);
 
@@ -162,6 +165,15 @@ uint64_t headwords_judge(const uint8_t *image, size_t image_length, const uint8_
 {
     uint64_t reply = real_headwords_judge(image, image_length, path, path_length, pairing, pairing_length);
     return with_fault(reply, (struct call){"judge", {image, image_length}, {path, path_length}, {pairing, pairing_length}, {NULL, 0}, 0});
+}
+
+uint64_t headwords_judge_rules(const uint8_t *image, size_t image_length, const uint8_t *pairing, size_t pairing_length, const uint8_t *text, size_t text_length)
+{
+    const char *fault = getenv("FAULT");
+    uint64_t reply = real_headwords_judge_rules(image, image_length, pairing, pairing_length, text, text_length);
+    if (fault != NULL && strncmp(fault, "rules ", 6) == 0 && real_headwords_check(image, image_length) == 1)
+        return judge_rules_with_fault(fault + 6, image, pairing, pairing_length, text, text_length);
+    return with_fault(reply, (struct call){"judge_rules", {image, image_length}, {text, text_length}, {pairing, pairing_length}, {NULL, 0}, 0});
 }
 
 uint64_t headwords_form(const uint8_t *image, size_t image_length, size_t entry, uint8_t *letters, size_t letters_length)

@@ -16,6 +16,7 @@ struct bytes {
 };
 
 #define BYTES(...) ((struct bytes){(const uint8_t[]){__VA_ARGS__}, sizeof((const uint8_t[]){__VA_ARGS__})})
+#define TEXT(string) ((struct bytes){(const uint8_t *)(string), strlen(string)})
 
 static const struct bytes nothing = {(const uint8_t[]){0}, 0};
 
@@ -37,7 +38,7 @@ struct lent {
 };
 
 enum range { IMAGE, GIVEN, PAIRING, REPLIES, OUT, RANGES };
-static struct lent ranges[RANGES] = {{.name = "image"}, {.name = "word, words, code points or path"}, {.name = "pairing"}, {.name = "replies"}, {.name = "buffer"}};
+static struct lent ranges[RANGES] = {{.name = "image"}, {.name = "word, words, code points, path or rules"}, {.name = "pairing"}, {.name = "replies"}, {.name = "buffer"}};
 
 static const char *called = "no call"; /* the call under way, to be told when it is wrong */
 static unsigned failures;

@@ -408,6 +408,9 @@ static void refused_image(const char *what, struct bytes image, unsigned k)
     generate(what, image, BYTES(4), MOST, refused(k), nothing);
     judge(what, image, BYTES(0, 0, 3, 0), BYTES(3, 5, 6, 0, 2, 4), refused(k));
     judge(what, image, nothing, nothing, refused(k));
+    judge_rules(what, image, BYTES(3, 5, 6, 0, 2, 4), TEXT("<=> 006 _000002"), refused(k));
+    judge_rules(what, image, BYTES(3), TEXT("<=> 255 _"), refused(k));
+    judge_rules(what, image, nothing, TEXT("*"), refused(k));
     form(what, image, 0, 12, refused(k), nothing);
     form(what, image, 4, 0, refused(k), nothing);
     spell(what, image, POINTS('l', 'u', 'z'), 3, refused(k), nothing);

@@ -20,6 +20,7 @@ mod text;
 mod warnings;
 mod why;
 mod words;
+mod written_rules;
 
 pub use commands::run;
 pub use decode::decode;

@@ -96,6 +96,14 @@ extern "C" {
         letters: *mut u8,
         letters_length: usize,
     ) -> u64;
+    fn headwords_judge_rules(
+        image: *const u8,
+        image_length: usize,
+        pairing: *const u8,
+        pairing_length: usize,
+        text: *const u8,
+        text_length: usize,
+    ) -> u64;
 }
 
 // Slices are what the header asks of a caller: no pointer is NULL, each range has its length, what is written is lent to
@@ -147,4 +155,12 @@ pub fn spell(image: &[u8], points: &[u8], letters: &mut [u8]) -> Reply {
     Reply::of(unsafe {
         headwords_spell(image.as_ptr(), image.len(), points.as_ptr(), points.len(), letters.as_mut_ptr(), letters.len())
     })
+}
+
+/// Whether a pairing, a byte a pair, obeys written rules, a line each; else the number of the refusal.
+pub fn judge_rules(image: &[u8], pairing: &[u8], text: &[u8]) -> Result<bool, u32> {
+    let reply = Reply::of(unsafe {
+        headwords_judge_rules(image.as_ptr(), image.len(), pairing.as_ptr(), pairing.len(), text.as_ptr(), text.len())
+    });
+    reply.refusal().map_or(Ok(reply != Reply::None), Err)
 }

@@ -17,6 +17,8 @@ pub fn meaning(number: u32) -> &'static str {
         11 => "path of 0 or over 16 entries, or an odd count of bytes",
         12 => "no such entry, or the path is not linked through the lexicon",
         13 => "pairing length 0 or over 40, or no such pair",
+        19 => "no text of written rules: a line is not operator, pair, contexts, there are over 32 rules, or a context is over 64 bytes or 8 brackets deep",
+        20 => "a written rule names a pair that the grammar has not, or the boundary as its own pair",
         23 => "a code point with no letter, or with letter 1",
         24 => "an output shorter than the word",
         _ => "a refusal that this command does not know",

@@ -7,6 +7,7 @@ mod forms;
 mod generate;
 mod list;
 mod read;
+mod rules;
 mod sheet;
 mod show;
 mod spell;
@@ -35,7 +36,7 @@ pub struct Command {
     pub run: fn(&Given) -> Result<(), Failure>,
 }
 
-const COMMANDS: [&Command; 12] = [
+const COMMANDS: [&Command; 13] = [
     &read::COMMAND,
     &generate::COMMAND,
     &forms::COMMAND,
@@ -46,6 +47,7 @@ const COMMANDS: [&Command; 12] = [
     &why::COMMAND,
     &compare::COMMAND,
     &show::COMMAND,
+    &rules::COMMAND,
     &sheet::COMMAND,
     &spell::COMMAND,
 ];

@@ -4,7 +4,6 @@ use crate::arguments::{Choice, Given};
 use crate::commands::Command;
 use crate::failure::{failed, print, Failure};
 use crate::loaded::load;
-use crate::nearest::{is_meant, nearest};
 use crate::show::{dot, svg, text, Shown};
 use crate::text::Grammar;
 use std::path::Path;
@@ -41,7 +40,7 @@ fn run(given: &Given) -> Result<(), Failure> {
     let Some(asked) = given.operands.get(1) else {
         return print(&list(&loaded.grammar));
     };
-    let at = find(&loaded.grammar, &asked.to_string_lossy()).map_err(|what| failed(&what))?;
+    let at = loaded.grammar.find_rule(&asked.to_string_lossy()).map_err(|what| failed(&what))?;
     let shown = Shown::of(&loaded.grammar, at);
     print(&match (as_dot, as_svg) {
         (true, _) => dot(&shown, failures),
@@ -54,27 +53,4 @@ fn run(given: &Given) -> Result<(), Failure> {
 fn list(grammar: &Grammar) -> String {
     let rules = grammar.rules.iter().enumerate();
     rules.map(|(number, rule)| format!("{number}\t{}\n", rule.name)).collect()
-}
-
-/// The place of the rule that is asked for.
-fn find(grammar: &Grammar, asked: &str) -> Result<usize, String> {
-    let names = || grammar.rules.iter().map(|rule| rule.name.as_str());
-    let found = |takes: &dyn Fn(&str) -> bool| -> Vec<usize> {
-        names().enumerate().filter(|(_, name)| takes(name)).map(|(at, _)| at).collect()
-    };
-    // Names need not differ; a number always tells rules apart.
-    for places in [found(&|name| name == asked), found(&|name| name.starts_with(asked))] {
-        match places[..] {
-            [] => {}
-            [at] => return Ok(at),
-            [first, second, ..] => {
-                return Err(format!("\"{asked}\" may be rule {first} or rule {second}; give the number"))
-            }
-        }
-    }
-    match asked.parse::<usize>() {
-        Ok(number) if number < grammar.rules.len() => Ok(number),
-        Ok(number) => Err(format!("there is no rule {number}; the grammar has {}, from 0 on", grammar.rules.len())),
-        Err(_) => Err(format!("no rule is called \"{asked}\"{}", is_meant(nearest(asked, names())))),
-    }
 }

@@ -1,5 +1,6 @@
 //! A grammar: letters, sets, pairs, rules and lexicons that an image can hold.
 
+use crate::nearest::{is_meant, nearest};
 use crate::text::alphabet::{Alphabet, BOUNDARY, NULL};
 use crate::text::columns::Sides;
 use crate::text::fault::Faults;
@@ -66,6 +67,29 @@ impl Grammar {
         match continuation {
             Continuation::End => self.alphabet.character(BOUNDARY).to_string(),
             Continuation::Lexicon(next) => self.lexicons[usize::from(next)].name.clone(),
+        }
+    }
+
+    /// The place of the rule that is asked for: by its name, the beginning of one name alone, or its number.
+    pub(crate) fn find_rule(&self, asked: &str) -> Result<usize, String> {
+        let names = || self.rules.iter().map(|rule| rule.name.as_str());
+        let found = |takes: &dyn Fn(&str) -> bool| -> Vec<usize> {
+            names().enumerate().filter(|(_, name)| takes(name)).map(|(at, _)| at).collect()
+        };
+        // Names need not differ; a number always tells rules apart.
+        for places in [found(&|name| name == asked), found(&|name| name.starts_with(asked))] {
+            match places[..] {
+                [] => {}
+                [at] => return Ok(at),
+                [first, second, ..] => {
+                    return Err(format!("\"{asked}\" may be rule {first} or rule {second}; give the number"))
+                }
+            }
+        }
+        match asked.parse::<usize>() {
+            Ok(number) if number < self.rules.len() => Ok(number),
+            Ok(number) => Err(format!("there is no rule {number}; the grammar has {}, from 0 on", self.rules.len())),
+            Err(_) => Err(format!("no rule is called \"{asked}\"{}", is_meant(nearest(asked, names())))),
         }
     }
 }

@@ -146,16 +146,19 @@ fn read_side(word: Word, line: usize, sides: Sides) -> Result<u8, Fault> {
         return Err(Fault::new(line, format!("\"{}\": {side_is}, without quotation marks", word.text())));
     };
     sides.side(text).ok_or_else(|| match one_character(text) {
-        Some(c) => {
-            let hint = letter_meant(c, sides.alphabet);
-            Fault::new(line, format!("{} is no letter of the alphabet, and no set is called so{hint}", name(c)))
-        }
+        Some(c) => Fault::new(line, no_letter(c, sides)),
         None => Fault::new(line, format!("no set is called {text}; {side_is}{}", side_meant(text, sides))),
     })
 }
 
+/// What is told of a character that is no side.
+pub fn no_letter(character: char, sides: Sides) -> String {
+    let hint = letter_meant(character, sides.alphabet);
+    format!("{} is no letter of the alphabet, and no set is called so{hint}", name(character))
+}
+
 /// What a word that is no side of a column may be.
-fn side_meant(text: &str, sides: Sides) -> String {
+pub fn side_meant(text: &str, sides: Sides) -> String {
     let named = nearest(text, sides.sets.all().iter().map(|set| set.name.as_str()));
     match text.split_once(':') {
         Some(_) if named.is_none() => "; a pair stands on two rows, its lexical side in the first".to_string(),

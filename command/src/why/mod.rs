@@ -10,4 +10,5 @@ mod told;
 mod without;
 
 pub use explain::Explainer;
+pub use tables::{Refusal, Tables};
 pub use told::Teller;

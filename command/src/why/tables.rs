@@ -53,6 +53,11 @@ impl<'a> Tables<'a> {
         self.grammar.pairs.get(number).copied().unwrap_or(BOUNDARY_PAIR)
     }
 
+    /// A pair as the text writes it.
+    pub fn show(&self, number: usize) -> String {
+        self.pair(number).show(&self.grammar.alphabet)
+    }
+
     /// The column of a rule that a pair takes, as the text writes it.
     pub fn column(&self, rule: usize, pair: usize) -> String {
         let sides = Sides { alphabet: &self.grammar.alphabet, sets: &self.grammar.sets };
@@ -101,6 +106,17 @@ impl<'a> Tables<'a> {
 
     fn is_final(&self, rule: usize, state: u8) -> bool {
         state.checked_sub(1).is_some_and(|at| self.grammar.rules[rule].states[usize::from(at)].is_final)
+    }
+
+    /// How a rule refuses a pair, in words.
+    pub fn told(&self, refusal: &Refusal, pair: usize) -> String {
+        let Refusal { rule, state, next } = *refusal;
+        let (shown, column) = (self.show(pair), self.column(rule, pair));
+        let rule = format!("rule \"{}\" is in state {state} and", self.grammar.rules[rule].name);
+        if next == 0 {
+            return format!("{rule} refuses {shown}: row {state} has 0 under {column}");
+        }
+        format!("{rule} goes to {next} by {shown}, where no word may end: {next} is not final")
     }
 
     /// Where one rule refuses a pairing: the pair that it refuses, the boundary pair at the front and the end, and how.

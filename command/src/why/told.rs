@@ -3,7 +3,7 @@
 use super::explain::{Explainer, LeftOut, Nothing, Outcome};
 use super::groups::{groups, last_entry, Group};
 use super::search::{opened, Dead, Furthest, Step, Stop};
-use super::tables::{Refusal, Tables};
+use super::tables::Tables;
 use super::without::Readings;
 use crate::library::Reply;
 use crate::readings::{EntryName, Names};
@@ -61,7 +61,7 @@ impl<'a> Teller<'a> {
     fn nothing(&self, word: &[char], nothing: &Nothing) -> String {
         let mut told = String::new();
         for refusal in &nothing.furthest.front {
-            told += &format!("  before any letter, {}\n", self.refusal(refusal, self.tables.boundary()));
+            told += &format!("  before any letter, {}\n", self.tables.told(refusal, self.tables.boundary()));
         }
         if nothing.furthest.through {
             told += "  a way comes through that the library does not have, so that what follows may be wrong\n";
@@ -163,7 +163,7 @@ impl<'a> Teller<'a> {
     fn barred(&self, dead: &Dead) -> String {
         match &dead.stop {
             Stop::Refused { pair, by } => {
-                by.iter().map(|refusal| format!("  {}\n", self.refusal(refusal, *pair))).collect()
+                by.iter().map(|refusal| format!("  {}\n", self.tables.told(refusal, *pair))).collect()
             }
             Stop::Nulls { pair } => {
                 let side = if self.tables.pair(*pair).lexical == NULL { "lexical" } else { "surface" };
@@ -173,18 +173,8 @@ impl<'a> Teller<'a> {
         }
     }
 
-    fn refusal(&self, refusal: &Refusal, pair: usize) -> String {
-        let Refusal { rule, state, next } = *refusal;
-        let (shown, column) = (self.pair(pair), self.tables.column(rule, pair));
-        let rule = format!("rule \"{}\" is in state {state} and", self.explainer.loaded.grammar.rules[rule].name);
-        if next == 0 {
-            return format!("{rule} refuses {shown}: row {state} has 0 under {column}");
-        }
-        format!("{rule} goes to {next} by {shown}, where no word may end: {next} is not final")
-    }
-
     pub(super) fn pair(&self, pair: usize) -> String {
-        self.tables.pair(pair).show(&self.explainer.loaded.grammar.alphabet)
+        self.tables.show(pair)
     }
 
     fn unfit(&self, lexicons: &[usize], all: &[&Dead], left: &str) -> String {
@@ -247,7 +237,7 @@ impl<'a> Teller<'a> {
             };
             let is_told = |dead: &Dead| matches!(&dead.stop, Stop::Refused { pair: other, by } if *other == pair && by.contains(&refusal));
             if !furthest.front.contains(&refusal) && !furthest.dead.iter().any(is_told) {
-                told += &format!("  {}\n", self.refusal(&refusal, pair));
+                told += &format!("  {}\n", self.tables.told(&refusal, pair));
             }
         }
         told

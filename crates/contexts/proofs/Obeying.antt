@@ -12,7 +12,7 @@ use native.Mathlib.Decide.{ℕ-discrete}
 use Rattle.contexts.specs.Context.{Context}
 use Rattle.contexts.specs.Reader.{Written, everywhere, where-it-runs, wrong}
 use Rattle.contexts.specs.Meaning.{Runs, ends}
-use Rattle.contexts.specs.Operators.{Left, Right, Operator, only-there, always-there, both, never-there, Rule, bounded, There, Kept, kept, all, some, left, right, there, obeys}
+use Rattle.contexts.specs.Operators.{Left, Right, Operator, only-there, always-there, both, never-there, Rule, bounded, There, Kept, KeptThroughout, kept, all, some, left, right, there, obeys}
 use Rattle.model.proofs.Booleans.{and-out, and-in, left-or, right-or, eq→eqb}
 use Rattle.contexts.proofs.Booleans.{or-out}
 use Rattle.contexts.proofs.Places.{places-iff, ends-iff}
@@ -120,17 +120,17 @@ module _ (lexical : ℕ → ℕ) (own p : ℕ) (b : Bool) (B : Type 0) (e : T b 
 
 -- "It replies holds exactly when each rule's operator, in the meaning above, is kept at every place of the pairing."
 pub obeys-iff : (lexical : ℕ → ℕ) (r : Rule) (ps : List ℕ)
-    → T (obeys lexical r ps) ↔ ((i : ℕ) → i < length ps → Kept lexical (r .own) (getD ps i 0) (r .operator) (There r (bounded ps) (suc i)))
+    → T (obeys lexical r ps) ↔ KeptThroughout lexical ps r
 unfolding obeys
 obeys-iff lexical r ps = (out, into)
   where
     at : (i : ℕ) → i < length ps → T (kept lexical (r .own) (getD ps i 0) (r .operator) (there r (bounded ps) (suc i))) ↔ Kept lexical (r .own) (getD ps i 0) (r .operator) (There r (bounded ps) (suc i))
     at i h = kept-iff lexical (r .own) (getD ps i 0) (there r (bounded ps) (suc i)) (There r (bounded ps) (suc i)) (there-iff r (bounded ps) (suc i) (omega (arith, h, length-append ps (255 ∷ [])))) (r .operator)
 
-    out : T (obeys lexical r ps) → (i : ℕ) → i < length ps → Kept lexical (r .own) (getD ps i 0) (r .operator) (There r (bounded ps) (suc i))
+    out : T (obeys lexical r ps) → KeptThroughout lexical ps r
     out t i h = (at i h) .0 (all-out (λ i. kept lexical (r .own) (getD ps i 0) (r .operator) (there r (bounded ps) (suc i))) (length ps) t i h)
 
-    into : ((i : ℕ) → i < length ps → Kept lexical (r .own) (getD ps i 0) (r .operator) (There r (bounded ps) (suc i))) → T (obeys lexical r ps)
+    into : KeptThroughout lexical ps r → T (obeys lexical r ps)
     into f = all-in (λ i. kept lexical (r .own) (getD ps i 0) (r .operator) (there r (bounded ps) (suc i))) (length ps) (λ i h. (at i h) .1 (f i h))
 
 pub all-same : (f g : ℕ → Bool) (n : ℕ) → ((i : ℕ) → i < n → f i ≡ g i) → all f n ≡ all g n

@@ -61,12 +61,12 @@ abbrev pub moreOfSide : Reader → ℕ → Context → Bool → List ℕ → Rea
 moreOfSide rec b c true t = andThen (rec side b t) (λ d r. got (sequence c d) r)
 moreOfSide rec b c false t = got c t
 
-abbrev pub readSide : Reader → ℕ → List ℕ → Read
-readSide rec b t = andThen (readTight rec b t) (λ c r. moreOfSide rec b c (beginsAtom r) r)
-
 abbrev pub moreSides : Reader → ℕ → Context → Bool → List ℕ → Read
 moreSides rec b c true t = andThen (rec whole b (drop 1 t)) (λ d r. got (either c d) r)
 moreSides rec b c false t = got c t
+
+abbrev pub readSide : Reader → ℕ → List ℕ → Read
+readSide rec b t = andThen (readTight rec b t) (λ c r. moreOfSide rec b c (beginsAtom r) r)
 
 abbrev pub readWhole : Reader → ℕ → List ℕ → Read
 readWhole rec b t = andThen (readSide rec b t) (λ c r. moreSides rec b c (startsWith 124 r) r)

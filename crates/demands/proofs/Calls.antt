@@ -3,17 +3,18 @@ use Prim.Native.Nat.{ℕ, _%_, _≤_}
 use native.Mathlib.Omega.{arith}
 use mathlib.Core.Bool.{Bool, true, false, _&&_, cond}
 use mathlib.Core.Path.{_≡_, refl, sym, ap, _∙_, subst}
-use mathlib.Core.Logic.{inl, inr}
-use mathlib.Core.List.{List, [], _∷_}
+use mathlib.Core.Logic.{_↔_, inl, inr}
+use mathlib.Core.List.{List, [], _∷_, _++_}
 use lib.ListN.{length}
 use lib.Dec.{T, leb, eqb}
 use borrow.Author.Tests.{leb-true}
 use Rattle.model.specs.Lists.{every, numbers}
-use Rattle.model.specs.Blocks.{sealedImage}
+use Rattle.model.specs.Blocks.{header, sealedImage}
 use Rattle.model.specs.Lexicon.{entry, formLength}
-use Rattle.model.specs.Readings.{Reading, wordLength}
+use Rattle.model.specs.GrammarOf.{grammarOf}
+use Rattle.model.specs.Readings.{Reading, wordLength, isReading}
 use Rattle.model.specs.Spelling.{wordSpelled}
-use Rattle.model.specs.Query.{Request, analysis, generation}
+use Rattle.model.specs.Query.{Request, analysis, generation, entryNumbers}
 use Rattle.model.specs.Refusals.{Verdict, accepted, refused, unless, firstFailing, rightLength, formatTests, imageTests, imageVerdict, wordTests, pathTests, pairingTests, ownTests, requestTests, judgeTests, viewTests, pointTests, spellingTests}
 use Rattle.model.specs.Rows.{Reply, rowCount}
 use Rattle.model.specs.Calls.{Sealing, sealingReply, afterSealing, requestVerdict, allReadings, listingReply, afterListing}
@@ -25,7 +26,10 @@ use Rattle.model.proofs.Tests.{clash, passed, tests-append}
 use Rattle.model.proofs.Spelling.{length-spelled}
 use Rattle.spelling.proofs.Replies.{spelled-passes}
 use Rattle.analyser.proofs.Replies.{refused-by}
-use Rattle.demands.specs.Words.{IsJudged, Judged, formLetters, SpelledOut}
+use Rattle.rule_texts.specs.Text.{isText, pairsKnown, obeysText}
+use Rattle.rule_texts.proofs.Obeyed.{obeyed-iff}
+use Rattle.written_rules.specs.Judged.{textTests, rulesTests, rulesJudged}
+use Rattle.demands.specs.Words.{JudgedSo, IsReading, KeepsRules, formLetters, SpelledOut}
 use Rattle.demands.proofs.Refusing.{Case, InTable}
 
 -- a reply that refuses lists nothing
@@ -50,6 +54,10 @@ module _ (image : List ℕ) where
   pub judge-table : (path pairing : List ℕ) → T (InTable (judgeTests image path pairing))
   unfolding judgeTests formatTests imageTests pathTests pairingTests
   judge-table path pairing = tt
+
+  pub rules-table : (pairing text : List ℕ) → T (InTable (rulesTests image pairing text))
+  unfolding rulesTests textTests formatTests imageTests pairingTests
+  rules-table pairing text = tt
 
   pub view-table : (e : ℕ) → T (InTable (viewTests image e))
   unfolding viewTests formatTests imageTests
@@ -107,20 +115,38 @@ module _ (image : List ℕ) (reply : Verdict) (replies : reply ≡ imageVerdict 
       go Verdict.accepted e = (e, λ k g. clash (cc))
       go (Verdict.refused k) e = (e, λ j g. cc, tt, λ g. clash (cc))
 
--- the judge
+-- a call that judges, by its tests and by what it finds where they pass
+pub judgement-case : (tests : List (ℕ × Bool)) (b : Bool) (So : Type 0) (reply : Judgement) → (firstFailing tests ≡ accepted → T b ↔ So) → reply ≡ judgementAfter (firstFailing tests) b
+    → Case (λ k. reply ≡ Judgement.refused k) Unit (JudgedSo So reply) (firstFailing tests)
+judgement-case tests b So reply when replies = go (firstFailing tests) b when replies
+  where
+    go : (v : Verdict) (b : Bool) → (v ≡ accepted → T b ↔ So) → reply ≡ judgementAfter v b → Case (λ k. reply ≡ Judgement.refused k) Unit (JudgedSo So reply) v
+    go Verdict.accepted true f e = (inl (e, f refl .0 tt), λ k g. clash (cc))
+    go Verdict.accepted false f e = (inr (e, λ t. f refl .1 t), λ k g. clash (cc))
+    go (Verdict.refused k) b f e = (e, λ j g. cc, tt, not-judged)
+      where
+        not-judged : JudgedSo So reply → ⊥
+        not-judged (inl w) = let g = w .0 in clash (cc)
+        not-judged (inr w) = let g = w .0 in clash (cc)
+
+-- the judge, and the judge of written rules
 module _ (image path pairing : List ℕ) where
-  pub judge-case : (reply : Judgement) → reply ≡ judged image path pairing → Case (λ k. reply ≡ Judgement.refused k) Unit (Judged image path pairing reply) (firstFailing (judgeTests image path pairing))
+  pub judge-case : (reply : Judgement) → reply ≡ judged image path pairing → Case (λ k. reply ≡ Judgement.refused k) Unit (JudgedSo (IsReading image path pairing) reply) (firstFailing (judgeTests image path pairing))
   unfolding judged
-  judge-case reply replies = go (firstFailing (judgeTests image path pairing)) (IsJudged image path pairing) refl replies
-    where
-      go : (v : Verdict) (b : Bool) → IsJudged image path pairing ≡ b → reply ≡ judgementAfter v b → Case (λ k. reply ≡ Judgement.refused k) Unit (Judged image path pairing reply) v
-      go Verdict.accepted true f e = (inl (e, of-true (IsJudged image path pairing) f), λ k g. clash (cc))
-      go Verdict.accepted false f e = (inr (e, λ t. subst T f t), λ k g. clash (cc))
-      go (Verdict.refused k) b f e = (e, λ j g. cc, tt, not-judged)
-        where
-          not-judged : Judged image path pairing reply → ⊥
-          not-judged (inl w) = let g = w .0 in clash (cc)
-          not-judged (inr w) = let g = w .0 in clash (cc)
+  judge-case reply replies = judgement-case (judgeTests image path pairing) (isReading (grammarOf image) (record { path = entryNumbers path; pairing = pairing })) (IsReading image path pairing) reply (λ e. (λ t. t, λ t. t)) replies
+
+module _ (image pairing text : List ℕ) where
+  -- where the tests pass, the text is of the grammar
+  of-grammar : firstFailing (rulesTests image pairing text) ≡ accepted → T (isText text)
+  unfolding rulesTests textTests
+  of-grammar e =
+      let t = tests-append (imageTests image) (pairingTests image pairing ++ textTests image pairing text) .0 e in
+      let u = tests-append (pairingTests image pairing) (textTests image pairing text) .0 (t .1) in
+      of-true (isText text) (passed (isText text) 19 (firstFailing ((20, pairsKnown (header image .pairs) text) ∷ [])) (u .1) .0)
+
+  pub rules-case : (reply : Judgement) → reply ≡ rulesJudged image pairing text → Case (λ k. reply ≡ Judgement.refused k) Unit (JudgedSo (KeepsRules image pairing text) reply) (firstFailing (rulesTests image pairing text))
+  unfolding rulesJudged
+  rules-case reply replies = judgement-case (rulesTests image pairing text) (obeysText (grammarOf image .lexical) text pairing) (KeepsRules image pairing text) reply (λ e. obeyed-iff (grammarOf image .lexical) pairing text (of-grammar e)) replies
 
 -- the entry view and its companion
 module _ (image : List ℕ) (e : ℕ) where

@@ -4,7 +4,7 @@ use Prim.Native.Nat.{ℕ, _+_, _*_, _<_}
 use mathlib.Core.Bool.{Bool}
 use mathlib.Core.Path.{_≡_, refl, sym, ap₂, _∙_, subst}
 use mathlib.Core.Logic.{_↔_, _⊎_, inl, inr}
-use mathlib.Core.List.{List, [], _∷_, map, List·Memᴰ}
+use mathlib.Core.List.{List, [], _∷_, _++_, map, List·Memᴰ}
 use lib.ListN.{length, take, drop}
 use lib.Dec.{T}
 use Rattle.model.specs.Lists.{joined}
@@ -29,6 +29,7 @@ use Rattle.model.proofs.Unspelled.{refused-14, refused-by-each}
 use Rattle.image.specs.Sealing.{sealingOf}
 use Rattle.grammar.specs.Answers.{verdictOf, formReplyOf}
 use Rattle.grammar.proofs.Verdicts.{form-refused, view-none}
+use Rattle.model.proofs.Tests.{tests-refused}
 use Rattle.judge.specs.Answers.{judgementOf}
 use Rattle.spelling.specs.Answers.{spellingOf}
 use Rattle.rows.specs.Fill.{replyOf}
@@ -39,6 +40,8 @@ use Rattle.grammar.proofs.check.Reads as check
 use Rattle.grammar.proofs.form_reply.Reads as form-reply
 use Rattle.grammar.proofs.form_view.Reads as form-view
 use Rattle.judge.proofs.judge.Reads as judge
+use Rattle.written_rules.specs.Judged.{textTests, rulesTests}
+use Rattle.written_rules.proofs.judge_rules.Reads as judge-rules
 use Rattle.spelling.proofs.spell.Reads as spell
 use Rattle.shares.specs.Words.{ManyReply, wordsAsked}
 use Rattle.many.specs.Answers.{manyOf}
@@ -49,11 +52,12 @@ use Rattle.headwords.proofs.headwords_generate.Reads as headwords-generate
 use Rattle.headwords.proofs.headwords_check.Reads as headwords-check
 use Rattle.headwords.proofs.headwords_seal.Reads as headwords-seal
 use Rattle.headwords.proofs.headwords_judge.Reads as headwords-judge
+use Rattle.headwords.proofs.headwords_judge_rules.Reads as headwords-judge-rules
 use Rattle.headwords.proofs.headwords_form.Reads as headwords-form
 use Rattle.headwords.proofs.headwords_spell.Reads as headwords-spell
 use Rattle.headwords.specs.Numbers.{verdictNumber, sealingNumber, judgementNumber, formNumber, spellingNumber, manyNumber}
 use Rattle.print.proofs.Small.{Small}
-use Rattle.demands.specs.Words.{inTable, FirstFails, Coding, Judged, JudgedNumber, formLetters, FormCopied, SpelledOut, wordAt, shareOf, WordsAnswered, AmongWords, Asks, pathBytes}
+use Rattle.demands.specs.Words.{inTable, FirstFails, Coding, JudgedSo, JudgedSoNumber, IsReading, KeepsRules, formLetters, FormCopied, SpelledOut, wordAt, shareOf, WordsAnswered, AmongWords, Asks, pathBytes}
 use Rattle.demands.proofs.Ends.{Ends, each-ends}
 use Rattle.demands.proofs.Refusing.{InTable, fails-first, Case, either-of, not-both-of, by-first, by-table, unchanged-of}
 use Rattle.demands.proofs.Calls as calls
@@ -102,6 +106,7 @@ pub takes-every :
     × ((κs : _) (a : _) → form-reply.Asked κs a)
     × ((κs : _) (a : _) → form-view.Asked κs a)
     × ((κs : _) (a : _) → judge.Asked κs a)
+    × ((κs : _) (a : _) → judge-rules.Asked κs a)
     × ((κs : _) (a : _) → spell.Asked κs a)
     × ((κs : _) (a : _) → analyse-words.Asked κs a)
     × ((κs : _) (a : _) → headwords-analyse.Asked κs a)
@@ -109,12 +114,13 @@ pub takes-every :
     × ((κs : _) (a : _) → headwords-seal.Asked κs a)
     × ((κs : _) (a : _) → headwords-check.Asked κs a)
     × ((κs : _) (a : _) → headwords-judge.Asked κs a)
+    × ((κs : _) (a : _) → headwords-judge-rules.Asked κs a)
     × ((κs : _) (a : _) → headwords-form.Asked κs a)
     × ((κs : _) (a : _) → headwords-spell.Asked κs a)
     × ((κs : _) (a : _) → headwords-analyse-words.Asked κs a)
-takes-every = (λ κs a. tt, λ κs a. tt, λ κs a. tt, λ κs a. tt, λ κs a. tt, λ κs a. tt, λ κs a. tt, λ κs a. tt, λ κs a. tt, λ κs a. tt, λ κs a. tt, λ κs a. tt, λ κs a. tt, λ κs a. tt, λ κs a. tt, λ κs a. tt, λ κs a. tt)
+takes-every = (λ κs a. tt, λ κs a. tt, λ κs a. tt, λ κs a. tt, λ κs a. tt, λ κs a. tt, λ κs a. tt, λ κs a. tt, λ κs a. tt, λ κs a. tt, λ κs a. tt, λ κs a. tt, λ κs a. tt, λ κs a. tt, λ κs a. tt, λ κs a. tt, λ κs a. tt, λ κs a. tt, λ κs a. tt)
 
--- "ends": each of the seventeen returns, from whatever it is lent.
+-- "ends": each of the nineteen returns, from whatever it is lent.
 pub ends : {M : Type 1} → Ends M
 ends = each-ends
 
@@ -140,16 +146,17 @@ demand1 {tests} {Refused} {Unchanged} {Work} t c =
       unchanged = unchanged-of Refused Unchanged Work tests c;
     }
 
--- "the image check .. 1-8; every other call 1-8 and then its own"; 14 "tested after 8 and before 9", 23 and 24 "in that order after 9": the numbers of the tests of each, in their order
-pub tests-made : (image word path pairing points : List ℕ) (e room : ℕ)
+-- "the image check .. 1-8; every other call 1-8 and then its own"; 14 "tested after 8 and before 9", 19 and 20 "come after 13", 23 and 24 "in that order after 9": the numbers of the tests of each, in their order
+pub tests-made : (image word path pairing text points : List ℕ) (e room : ℕ)
     → (map (λ t. t .0) (imageTests image) ≡ 1 ∷ 2 ∷ 3 ∷ 4 ∷ 5 ∷ 6 ∷ 7 ∷ 8 ∷ 14 ∷ [])
     × (map (λ t. t .0) (requestTests image (analysis word)) ≡ 1 ∷ 2 ∷ 3 ∷ 4 ∷ 5 ∷ 6 ∷ 7 ∷ 8 ∷ 14 ∷ 9 ∷ 10 ∷ [])
     × (map (λ t. t .0) (requestTests image (generation path)) ≡ 1 ∷ 2 ∷ 3 ∷ 4 ∷ 5 ∷ 6 ∷ 7 ∷ 8 ∷ 14 ∷ 11 ∷ 12 ∷ [])
     × (map (λ t. t .0) (judgeTests image path pairing) ≡ 1 ∷ 2 ∷ 3 ∷ 4 ∷ 5 ∷ 6 ∷ 7 ∷ 8 ∷ 14 ∷ 11 ∷ 12 ∷ 13 ∷ [])
+    × (map (λ t. t .0) (rulesTests image pairing text) ≡ 1 ∷ 2 ∷ 3 ∷ 4 ∷ 5 ∷ 6 ∷ 7 ∷ 8 ∷ 14 ∷ 13 ∷ 19 ∷ 20 ∷ [])
     × (map (λ t. t .0) (viewTests image e) ≡ 1 ∷ 2 ∷ 3 ∷ 4 ∷ 5 ∷ 6 ∷ 7 ∷ 8 ∷ 14 ∷ 12 ∷ [])
     × (map (λ t. t .0) (spellingTests image points room) ≡ 1 ∷ 2 ∷ 3 ∷ 4 ∷ 5 ∷ 6 ∷ 7 ∷ 8 ∷ 14 ∷ 9 ∷ 23 ∷ 24 ∷ [])
-unfolding formatTests imageTests requestTests ownTests wordTests pathTests pairingTests judgeTests viewTests pointTests spellingTests
-tests-made image word path pairing points e room = (refl, refl, refl, refl, refl, refl)
+unfolding formatTests imageTests requestTests ownTests wordTests pathTests pairingTests judgeTests textTests rulesTests viewTests pointTests spellingTests
+tests-made image word path pairing text points e room = (refl, refl, refl, refl, refl, refl, refl)
 
 -- analysis and generation, from Rattle and from C: the image's tests and then the word's or the path's; their work is demand 3
 pub demand1-listing : {image : List ℕ} {request : Request} {before after : List ℕ} {reply : Reply} → Listing image request before after reply
@@ -171,8 +178,14 @@ demand1-check κs a r s p = demand1 (calls.check-table (a .0 .now)) (calls.check
 -- the judge: 1 to 8, 14, 11, 12 and 13
 pub demand1-judge : (κs : _) (a : _) (r : _) (s : _) → judge.Post κs a r s
     → let image = a .0 .now in let path = a .1 .0 .now in let pairing = a .1 .1 .0 .now in
-    Demand1 (judgeTests image path pairing) (λ k. judgementOf r ≡ Judgement.refused k) Unit (Judged image path pairing (judgementOf r))
+    Demand1 (judgeTests image path pairing) (λ k. judgementOf r ≡ Judgement.refused k) Unit (JudgedSo (IsReading image path pairing) (judgementOf r))
 demand1-judge κs a r s p = demand1 (calls.judge-table (a .0 .now) (a .1 .0 .now) (a .1 .1 .0 .now)) (calls.judge-case (a .0 .now) (a .1 .0 .now) (a .1 .1 .0 .now) (judgementOf r) p)
+
+-- the judge of written rules: 1 to 8, 14, 13, 19 and 20; it holds exactly when each rule's operator is kept at every place
+pub demand1-judge-rules : (κs : _) (a : _) (r : _) (s : _) → judge-rules.Post κs a r s
+    → let image = a .0 .now in let pairing = a .1 .0 .now in let text = a .1 .1 .0 .now in
+    Demand1 (rulesTests image pairing text) (λ k. judgementOf r ≡ Judgement.refused k) Unit (JudgedSo (KeepsRules image pairing text) (judgementOf r))
+demand1-judge-rules κs a r s p = demand1 (calls.rules-table (a .0 .now) (a .1 .0 .now) (a .1 .1 .0 .now)) (calls.rules-case (a .0 .now) (a .1 .0 .now) (a .1 .1 .0 .now) (judgementOf r) p)
 
 -- the companion of the entry view: 1 to 8, 14, and 12 for a missing entry
 pub demand1-form-reply : (κs : _) (a : _) (r : _) (s : _) → form-reply.Post κs a r s
@@ -238,8 +251,13 @@ demand1-headwords-check κs a r s p = demand1 (calls.check-table (a .0 .now)) (n
 
 pub demand1-headwords-judge : (κs : _) (a : _) (r : _) (s : _) → headwords-judge.Post κs a r s
     → let image = a .0 .now in let path = a .1 .0 .now in let pairing = a .1 .1 .0 .now in
-    Demand1 (judgeTests image path pairing) (λ k. r ≡ 4 * k + 3) Unit (JudgedNumber image path pairing r)
+    Demand1 (judgeTests image path pairing) (λ k. r ≡ 4 * k + 3) Unit (JudgedSoNumber (IsReading image path pairing) r)
 demand1-headwords-judge κs a r s p = demand1 (calls.judge-table (a .0 .now) (a .1 .0 .now) (a .1 .1 .0 .now)) (numbers.judge-number-case (a .0 .now) (a .1 .0 .now) (a .1 .1 .0 .now) r p)
+
+pub demand1-headwords-judge-rules : (κs : _) (a : _) (r : _) (s : _) → headwords-judge-rules.Post κs a r s
+    → let image = a .0 .now in let pairing = a .1 .0 .now in let text = a .1 .1 .0 .now in
+    Demand1 (rulesTests image pairing text) (λ k. r ≡ 4 * k + 3) Unit (JudgedSoNumber (KeepsRules image pairing text) r)
+demand1-headwords-judge-rules κs a r s p = demand1 (calls.rules-table (a .0 .now) (a .1 .0 .now) (a .1 .1 .0 .now)) (numbers.rules-number-case (a .0 .now) (a .1 .0 .now) (a .1 .1 .0 .now) r p)
 
 pub demand1-headwords-form : (κs : _) (a : _) (r : _) (s : _) → headwords-form.Post κs a r s
     → let image = a .0 .now in let e = a .1 .0 in let before = a .1 .1 .0 .now in let after = s .1 .1 .0 .now in
@@ -259,7 +277,7 @@ demand1-headwords-analyse-words κs a r s p =
     demand1 (calls.check-table (a .0 .now)) (words-number-case (a .0 .now) (a .1 .0 .now) (a .1 .1 .0 .now) (a .1 .1 .1 .0 .now) (s .1 .1 .0 .now) (s .1 .1 .1 .0 .now) r (p .0) (p .1 .0) (p .1 .1))
 
 -- Document 02, (b): "Such an image is to be refused by every call but sealing.": one that passes tests 1 to 8 and has an entry that can never be spelled is
--- refused with 14 by each of the other fifteen, whatever it is asked for, and no byte changes. In C 4k + 3 is 59.
+-- refused with 14 by each of the other seventeen, whatever it is asked for, and no byte changes. In C 4k + 3 is 59.
 abbrev pub Slipped : List ℕ → Type 0
 Slipped image = (firstFailing (formatTests image) ≡ accepted) × ((e : ℕ) × Unspelled image e)
 
@@ -274,9 +292,14 @@ pub unspelled-listing : {image : List ℕ} {request : Request} {before after : L
     → (reply ≡ Reply.refused 14) × (after ≡ before)
 unspelled-listing {image} {request} l u = refused-with-14 (refused-by-each image (slip-refused image u) .0 request) (demand1-listing l)
 
+rules-refused : (image pairing text : List ℕ) → imageVerdict image ≡ Verdict.refused 14 → firstFailing (rulesTests image pairing text) ≡ Verdict.refused 14
+unfolding imageVerdict rulesTests
+rules-refused image pairing text v = tests-refused (imageTests image) (pairingTests image pairing ++ textTests image pairing text) 14 v
+
 pub unspelled-refused :
     ((κs : _) (a : _) (r : _) (s : _) → check.Post κs a r s → Slipped (a .0 .now) → verdictOf r ≡ Verdict.refused 14)
     × ((κs : _) (a : _) (r : _) (s : _) → judge.Post κs a r s → Slipped (a .0 .now) → judgementOf r ≡ Judgement.refused 14)
+    × ((κs : _) (a : _) (r : _) (s : _) → judge-rules.Post κs a r s → Slipped (a .0 .now) → judgementOf r ≡ Judgement.refused 14)
     × ((κs : _) (a : _) (r : _) (s : _) → form-reply.Post κs a r s → Slipped (a .0 .now) → formReplyOf r ≡ FormReply.refused 14)
     × ((κs : _) (a : _) (r : _) (s : _) → form-view.Post κs a r s → Slipped (a .0 .now) → r .now ≡ [])
     × ((κs : _) (a : _) (r : _) (s : _) → spell.Post κs a r s → Slipped (a .0 .now) → (spellingOf r ≡ Spelling.refused 14) × (s .1 .1 .0 .now ≡ a .1 .1 .0 .now))
@@ -285,6 +308,7 @@ pub unspelled-refused :
     × ((κs : _) (a : _) (r : _) (s : _) → headwords-generate.Post κs a r s → Slipped (a .0 .now) → (r ≡ 59) × (s .1 .1 .0 .now ≡ a .1 .1 .0 .now))
     × ((κs : _) (a : _) (r : _) (s : _) → headwords-check.Post κs a r s → Slipped (a .0 .now) → r ≡ 59)
     × ((κs : _) (a : _) (r : _) (s : _) → headwords-judge.Post κs a r s → Slipped (a .0 .now) → r ≡ 59)
+    × ((κs : _) (a : _) (r : _) (s : _) → headwords-judge-rules.Post κs a r s → Slipped (a .0 .now) → r ≡ 59)
     × ((κs : _) (a : _) (r : _) (s : _) → headwords-form.Post κs a r s → Slipped (a .0 .now) → (r ≡ 59) × (s .1 .1 .0 .now ≡ a .1 .1 .0 .now))
     × ((κs : _) (a : _) (r : _) (s : _) → headwords-spell.Post κs a r s → Slipped (a .0 .now) → (r ≡ 59) × (s .1 .1 .0 .now ≡ a .1 .1 .0 .now))
     × ((κs : _) (a : _) (r : _) (s : _) → headwords-analyse-words.Post κs a r s → Slipped (a .0 .now) → (r ≡ 59) × (s .1 .1 .0 .now ≡ a .1 .1 .0 .now) × (s .1 .1 .1 .0 .now ≡ a .1 .1 .1 .0 .now))
@@ -292,6 +316,7 @@ unfolding imageVerdict
 unspelled-refused = (
   λ κs a r s p u. refused-with-14 (slip-refused (a .0 .now) u) (demand1-check κs a r s p) .0,
   λ κs a r s p u. refused-with-14 (refused-by-each (a .0 .now) (slip-refused (a .0 .now) u) .1 (a .1 .0 .now) (a .1 .1 .0 .now)) (demand1-judge κs a r s p) .0,
+  λ κs a r s p u. refused-with-14 (rules-refused (a .0 .now) (a .1 .0 .now) (a .1 .1 .0 .now) (slip-refused (a .0 .now) u)) (demand1-judge-rules κs a r s p) .0,
   λ κs a r s p u. refused-with-14 (refused-by-each (a .0 .now) (slip-refused (a .0 .now) u) .2 (a .1 .0)) (demand1-form-reply κs a r s p) .0,
   λ κs a r s p u. p ∙ sym (view-none (a .0 .now) (a .1 .0) 14 (sym (form-refused (a .0 .now) (a .1 .0) 14 (slip-refused (a .0 .now) u)))),
   λ κs a r s p u. refused-with-14 (refused-by-each (a .0 .now) (slip-refused (a .0 .now) u) .3 (a .1 .0 .now) (length (a .1 .1 .0 .now))) (demand1-spell κs a r s p),
@@ -300,6 +325,7 @@ unspelled-refused = (
   λ κs a r s p u. refused-with-14 (refused-by-each (a .0 .now) (slip-refused (a .0 .now) u) .0 (generation (a .1 .0 .now))) (demand1-headwords-generate κs a r s p),
   λ κs a r s p u. refused-with-14 (slip-refused (a .0 .now) u) (demand1-headwords-check κs a r s p) .0,
   λ κs a r s p u. refused-with-14 (refused-by-each (a .0 .now) (slip-refused (a .0 .now) u) .1 (a .1 .0 .now) (a .1 .1 .0 .now)) (demand1-headwords-judge κs a r s p) .0,
+  λ κs a r s p u. refused-with-14 (rules-refused (a .0 .now) (a .1 .0 .now) (a .1 .1 .0 .now) (slip-refused (a .0 .now) u)) (demand1-headwords-judge-rules κs a r s p) .0,
   λ κs a r s p u. refused-with-14 (refused-by-each (a .0 .now) (slip-refused (a .0 .now) u) .2 (a .1 .0)) (demand1-headwords-form κs a r s p),
   λ κs a r s p u. refused-with-14 (refused-by-each (a .0 .now) (slip-refused (a .0 .now) u) .3 (a .1 .0 .now) (length (a .1 .1 .0 .now))) (demand1-headwords-spell κs a r s p),
   λ κs a r s p u. let t = refused-with-14 (slip-refused (a .0 .now) u) (demand1-headwords-analyse-words κs a r s p) in (t .0, t .1 .0, t .1 .1),

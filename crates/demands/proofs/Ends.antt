@@ -13,6 +13,8 @@ use Rattle.grammar.proofs.form_view.Statement as form-view-statement
 use Rattle.grammar.proofs.form_view.Met as form-view-met
 use Rattle.judge.proofs.judge.Statement as judge-statement
 use Rattle.judge.proofs.judge.Met as judge-met
+use Rattle.written_rules.proofs.judge_rules.Statement as judge-rules-statement
+use Rattle.written_rules.proofs.judge_rules.Met as judge-rules-met
 use Rattle.spelling.proofs.spell.Statement as spell-statement
 use Rattle.spelling.proofs.spell.Met as spell-met
 use Rattle.many.proofs.analyse_words.Statement as analyse-words-statement
@@ -29,6 +31,8 @@ use Rattle.headwords.proofs.headwords_check.Statement as headwords-check-statem
 use Rattle.headwords.proofs.headwords_check.Met as headwords-check-met
 use Rattle.headwords.proofs.headwords_judge.Statement as headwords-judge-statement
 use Rattle.headwords.proofs.headwords_judge.Met as headwords-judge-met
+use Rattle.headwords.proofs.headwords_judge_rules.Statement as headwords-judge-rules-statement
+use Rattle.headwords.proofs.headwords_judge_rules.Met as headwords-judge-rules-met
 use Rattle.headwords.proofs.headwords_form.Statement as headwords-form-statement
 use Rattle.headwords.proofs.headwords_form.Met as headwords-form-met
 use Rattle.headwords.proofs.headwords_spell.Statement as headwords-spell-statement
@@ -44,6 +48,7 @@ Ends M =
     × form-reply-statement.statement M
     × form-view-statement.statement M
     × judge-statement.statement M
+    × judge-rules-statement.statement M
     × spell-statement.statement M
     × analyse-words-statement.statement M
     × headwords-analyse-statement.statement M
@@ -51,9 +56,10 @@ Ends M =
     × headwords-seal-statement.statement M
     × headwords-check-statement.statement M
     × headwords-judge-statement.statement M
+    × headwords-judge-rules-statement.statement M
     × headwords-form-statement.statement M
     × headwords-spell-statement.statement M
     × headwords-analyse-words-statement.statement M
 
 pub each-ends : {M : Type 1} → Ends M
-each-ends = (analyse-met.met, generate-met.met, seal-met.met, check-met.met, form-reply-met.met, form-view-met.met, judge-met.met, spell-met.met, analyse-words-met.met, headwords-analyse-met.met, headwords-generate-met.met, headwords-seal-met.met, headwords-check-met.met, headwords-judge-met.met, headwords-form-met.met, headwords-spell-met.met, headwords-analyse-words-met.met)
+each-ends = (analyse-met.met, generate-met.met, seal-met.met, check-met.met, form-reply-met.met, form-view-met.met, judge-met.met, judge-rules-met.met, spell-met.met, analyse-words-met.met, headwords-analyse-met.met, headwords-generate-met.met, headwords-seal-met.met, headwords-check-met.met, headwords-judge-met.met, headwords-judge-rules-met.met, headwords-form-met.met, headwords-spell-met.met, headwords-analyse-words-met.met)

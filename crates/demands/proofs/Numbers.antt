@@ -17,11 +17,12 @@ use Rattle.model.specs.Rows.{Reply, rowCount, replyNumber}
 use Rattle.model.specs.Calls.{Sealing, sealingReply, afterSealing, allReadings, listingReply, afterListing}
 use Rattle.model.specs.Beside.{Judgement, FormReply, Spelling, judged, viewed, formReply, spellingReply, afterSpelling}
 use Rattle.model.specs.Demand.{Demand3}
+use Rattle.written_rules.specs.Judged.{rulesTests, rulesJudged}
 use Rattle.headwords.specs.Numbers.{verdictNumber, sealingNumber, judgementNumber, formNumber, afterForm, spellingNumber}
 use Rattle.headwords.proofs.Replies.{letters-are, form-refused, form-short, form-fits}
-use Rattle.demands.specs.Words.{Coding, Judged, JudgedNumber, formLetters, FormCopied, SpelledOut}
+use Rattle.demands.specs.Words.{Coding, JudgedSo, JudgedSoNumber, IsReading, KeepsRules, formLetters, FormCopied, SpelledOut}
 use Rattle.demands.proofs.Refusing.{Case}
-use Rattle.demands.proofs.Calls.{listing-case, sealing-case, check-case, judge-case, view-case, spelling-case}
+use Rattle.demands.proofs.Calls.{listing-case, sealing-case, check-case, judge-case, rules-case, view-case, spelling-case}
 
 -- the second follows from the first
 pub coding : {A : Type 0} (number : A → ℕ) (refused : ℕ → A) → ((k : ℕ) → number (refused k) ≡ 4 * k + 3) → ((a b : A) → number a ≡ number b → a ≡ b) → Coding number refused
@@ -146,20 +147,26 @@ check-number-case image n replies =
     (firstFailing (imageTests image))
     (check-case image (imageVerdict image) refl)
 
-module _ (image path pairing : List ℕ) (n : ℕ) where
-  pub judge-number-case : n ≡ judgementNumber (judged image path pairing) → Case (λ k. n ≡ 4 * k + 3) Unit (JudgedNumber image path pairing n) (firstFailing (judgeTests image path pairing))
-  judge-number-case replies =
-      coded-case judgementNumber Judgement.refused judge-coding (judged image path pairing) n replies Unit (Judged image path pairing (judged image path pairing)) (JudgedNumber image path pairing n) to from
-      (firstFailing (judgeTests image path pairing))
-      (judge-case image path pairing (judged image path pairing) refl)
+-- the calls that judge
+module _ (v : Verdict) (So : Type 0) (reply : Judgement) (n : ℕ) where
+  pub judgement-number-case : n ≡ judgementNumber reply → Case (λ k. reply ≡ Judgement.refused k) Unit (JudgedSo So reply) v → Case (λ k. n ≡ 4 * k + 3) Unit (JudgedSoNumber So n) v
+  judgement-number-case replies c = coded-case judgementNumber Judgement.refused judge-coding reply n replies Unit (JudgedSo So reply) (JudgedSoNumber So n) to from v c
     where
-      to : Judged image path pairing (judged image path pairing) → JudgedNumber image path pairing n
+      to : JudgedSo So reply → JudgedSoNumber So n
       to (inl w) = inl (replies ∙ ap judgementNumber (w .0), w .1)
       to (inr w) = inr (replies ∙ ap judgementNumber (w .0), w .1)
 
-      from : JudgedNumber image path pairing n → Judged image path pairing (judged image path pairing)
-      from (inl w) = inl (judge-coding .apart (judged image path pairing) Judgement.holds (sym replies ∙ w .0), w .1)
-      from (inr w) = inr (judge-coding .apart (judged image path pairing) Judgement.fails (sym replies ∙ w .0), w .1)
+      from : JudgedSoNumber So n → JudgedSo So reply
+      from (inl w) = inl (judge-coding .apart reply Judgement.holds (sym replies ∙ w .0), w .1)
+      from (inr w) = inr (judge-coding .apart reply Judgement.fails (sym replies ∙ w .0), w .1)
+
+pub judge-number-case : (image path pairing : List ℕ) (n : ℕ) → n ≡ judgementNumber (judged image path pairing) → Case (λ k. n ≡ 4 * k + 3) Unit (JudgedSoNumber (IsReading image path pairing) n) (firstFailing (judgeTests image path pairing))
+judge-number-case image path pairing n e =
+    judgement-number-case (firstFailing (judgeTests image path pairing)) (IsReading image path pairing) (judged image path pairing) n e (judge-case image path pairing (judged image path pairing) refl)
+
+pub rules-number-case : (image pairing text : List ℕ) (n : ℕ) → n ≡ judgementNumber (rulesJudged image pairing text) → Case (λ k. n ≡ 4 * k + 3) Unit (JudgedSoNumber (KeepsRules image pairing text) n) (firstFailing (rulesTests image pairing text))
+rules-number-case image pairing text n e =
+    judgement-number-case (firstFailing (rulesTests image pairing text)) (KeepsRules image pairing text) (rulesJudged image pairing text) n e (rules-case image pairing text (rulesJudged image pairing text) refl)
 
 -- the form's letters in the lent buffer
 module _ (image : List ℕ) (e : ℕ) (before after : List ℕ) (n : ℕ) where

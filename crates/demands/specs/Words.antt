@@ -17,11 +17,13 @@ use Rattle.model.specs.Spelling.{wordSpelled}
 use Rattle.model.specs.Rows.{Reply, replyNumber}
 use Rattle.model.specs.Calls.{listingReply, afterListing}
 use Rattle.model.specs.Beside.{Judgement, formStart}
+use Rattle.contexts.specs.Operators.{Rule, KeptThroughout}
+use Rattle.rule_texts.specs.Text.{RuleOf}
 use Rattle.shares.specs.Words.{wordOf, lowFirst, wordsAsked, shareRows}
 
 -- "a number of document 01's table", which the answers of document 02 join
 abbrev pub inTable : ℕ → Bool
-inTable k = within 1 14 k || within 23 24 k
+inTable k = within 1 14 k || within 19 20 k || within 23 24 k
 
 -- in the order of the tests: test k fails, and every test before it passes
 pub record FirstFails (k : ℕ) (tests : List (ℕ × Bool)) : Type 0 where
@@ -35,16 +37,21 @@ pub record Coding {A : Type 0} (number : A → ℕ) (refused : ℕ → A) : Type
   pub apart : (a b : A) → number a ≡ number b → a ≡ b
   pub refused-is : (a : A) (k : ℕ) → (number a ≡ 4 * k + 3) ↔ (a ≡ refused k)
 
--- the judge "holds exactly for a reading of the word it spells"; in C holds is 1 and fails 0
-module _ (image path pairing : List ℕ) where
-  abbrev pub IsJudged : Bool
-  IsJudged = isReading (grammarOf image) (record { path = entryNumbers path; pairing = pairing })
+-- a call that judges holds exactly where it is so; in C holds is 1 and fails 0
+module _ (So : Type 0) where
+  abbrev pub JudgedSo : Judgement → Type 0
+  JudgedSo reply = ((reply ≡ Judgement.holds) × So) ⊎ ((reply ≡ Judgement.fails) × (So → ⊥))
 
-  abbrev pub Judged : Judgement → Type 0
-  Judged reply = ((reply ≡ Judgement.holds) × T IsJudged) ⊎ ((reply ≡ Judgement.fails) × (T IsJudged → ⊥))
+  abbrev pub JudgedSoNumber : ℕ → Type 0
+  JudgedSoNumber n = ((n ≡ 1) × So) ⊎ ((n ≡ 0) × (So → ⊥))
 
-  abbrev pub JudgedNumber : ℕ → Type 0
-  JudgedNumber n = ((n ≡ 1) × T IsJudged) ⊎ ((n ≡ 0) × (T IsJudged → ⊥))
+-- the judge "holds exactly for a reading of the word it spells"
+abbrev pub IsReading : List ℕ → List ℕ → List ℕ → Type 0
+IsReading image path pairing = T (isReading (grammarOf image) (record { path = entryNumbers path; pairing = pairing }))
+
+-- the judge of written rules "holds exactly when each rule's operator, in the meaning above, is kept at every place of the pairing"
+abbrev pub KeepsRules : List ℕ → List ℕ → List ℕ → Type 0
+KeepsRules image pairing text = (r : Rule) → RuleOf text r → KeptThroughout (grammarOf image .lexical) pairing r
 
 -- "the letters of an entry's form as they stand in the image"
 module _ (image : List ℕ) (e : ℕ) where

@@ -271,13 +271,13 @@ pub fn match_whole(text: &[u8], from: usize, depth: usize, s: &[u8]) -> Step
     }
     let at = a.at;
     if starts(text, at, 124) {
-        let b = match_whole(text, at + 1, depth, s);
-        if !b.read {
+        let others = match_whole(text, at + 1, depth, s);
+        if !others.read {
             return wrong();
         }
         let one = a.rows;
-        let two = b.rows;
-        let end = b.at;
+        let two = others.rows;
+        let end = others.at;
         let rows = relations::tables::either(&one, &two, s.len());
         return Step {
             read: true,

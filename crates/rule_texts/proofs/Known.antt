@@ -10,8 +10,8 @@ use Rattle.model.proofs.Booleans.{and-out, and-in, left-or, right-or, eq→eqb}
 use Rattle.model.proofs.Lists.{every-at, every-in}
 use Rattle.contexts.specs.Operators.{Rule}
 use Rattle.rule_texts.specs.Line.{rule}
-use Rattle.rule_texts.specs.Text.{isText, pairsOf, isKnown, knowsPairs, pairsKnown}
-use Rattle.rule_texts.proofs.TextGrammar.{over-text, RuleOf, rules-of}
+use Rattle.rule_texts.specs.Text.{RuleOf, isText, pairsOf, isKnown, knowsPairs, pairsKnown}
+use Rattle.rule_texts.proofs.TextGrammar.{over-text, rules-of}
 
 module _ (pairs : ℕ) where
   -- "a pair number that is neither below P nor 255" is unknown

@@ -13,4 +13,4 @@ pub mod TextGrammar
 pub mod Obeyed
 pub mod Known
 pub mod Each
-mod Trials
+pub mod Trials

@@ -3,7 +3,7 @@ use Prim.Native.Nat.{ℕ, _+_, _/_, _%_}
 use mathlib.Core.Bool.{Bool, _&&_, not}
 use mathlib.Core.Path.{_≡_, refl, sym, ap, ap₂, _∙_, subst}
 use mathlib.Core.Logic.{_↔_, _⊎_}
-use mathlib.Core.List.{List, [], _∷_, _++_, map, List·Memᴰ}
+use mathlib.Core.List.{List, [], _∷_, _++_, map}
 use lib.ListN.{length}
 use lib.Dec.{T, leb, eqb}
 use native.Mathlib.Omega.{arith}
@@ -141,10 +141,6 @@ same-rules (r ∷ rs) (s ∷ ss) h k e =
 -- whatever their number, a text stands for one list of rules
 pub unambiguous-text : (t : List ℕ) (rs ss : List Rule) → TextOf rs t → TextOf ss t → T (every writable rs) → T (every writable ss) → rs ≡ ss
 unambiguous-text t rs ss p q h k = same-rules rs ss h k (sym (text-lines t rs p h) ∙ text-lines t ss q k)
-
--- r is one of the rules that t is the text of
-abbrev pub RuleOf : List ℕ → Rule → Type 0
-RuleOf t r = (rs : List Rule) × TextOf rs t × T (every writable rs) × List·Memᴰ r rs
 
 pub rules-of : (t : List ℕ) → T (isText t) → (rs : List Rule) × TextOf rs t × T (every writable rs)
 rules-of t h =

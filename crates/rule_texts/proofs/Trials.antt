@@ -15,7 +15,8 @@ use Rattle.contexts.specs.Operators.{both, never-there, obeys}
 use Rattle.rule_texts.specs.Line.{rule, readRule}
 use Rattle.rule_texts.specs.Text.{isText, pairsKnown, obeysText}
 
-bytes : String → List ℕ
+-- a text as its bytes
+unfoldable pub bytes : String → List ℕ
 bytes end = []
 bytes (c then s) = code c ∷ bytes s
 

@@ -4,16 +4,16 @@ use Prim.Native.Nat.{ℕ}
 use mathlib.Core.Bool.{Bool, true, false, _&&_, _||_}
 use mathlib.Core.Path.{_≡_}
 use mathlib.Core.Logic.{_⊎_}
-use mathlib.Core.List.{List, [], _∷_, _++_}
+use mathlib.Core.List.{List, [], _∷_, _++_, List·Memᴰ}
 use lib.ListN.{length}
-use lib.Dec.{leb, ltb, eqb}
+use lib.Dec.{T, leb, ltb, eqb}
 use Rattle.model.specs.Lists.{every}
 use Rattle.model.specs.Lines.{linesOf}
 use Rattle.contexts.specs.Context.{Context, pair, any, star, sequence, either, bracket}
 use Rattle.contexts.specs.Meaning.{pairNumber}
 use Rattle.contexts.specs.Reader.{Written, everywhere, where-it-runs, wrong, isRight}
 use Rattle.contexts.specs.Operators.{Rule, obeys}
-use Rattle.rule_texts.specs.Line.{Line, rule, no-rule, writtenRule, readRule}
+use Rattle.rule_texts.specs.Line.{Line, rule, no-rule, writtenRule, writable, readRule}
 
 -- the text that rules are written as, byte 10 after each
 abbrev pub writtenRules : List Rule → List ℕ
@@ -23,6 +23,10 @@ writtenRules (r ∷ rs) = writtenRule r ++ (10 ∷ writtenRules rs)
 -- "byte 10 after each, or none after the last"
 abbrev pub TextOf : List Rule → List ℕ → Type 0
 TextOf rs t = (t ≡ writtenRules rs) ⊎ (t ++ (10 ∷ []) ≡ writtenRules rs)
+
+-- a rule is one of those that a text is written for
+abbrev pub RuleOf : List ℕ → Rule → Type 0
+RuleOf t r = (rs : List Rule) × TextOf rs t × T (every writable rs) × List·Memᴰ r rs
 
 -- a line that is a rule's, with contexts of the grammar
 abbrev pub isRule : Line → Bool

@@ -42,6 +42,14 @@ extern "C" {
         pairing: *const u8,
         pairing_length: usize,
     ) -> u64;
+    fn headwords_judge_rules(
+        image: *const u8,
+        image_length: usize,
+        pairing: *const u8,
+        pairing_length: usize,
+        text: *const u8,
+        text_length: usize,
+    ) -> u64;
     fn headwords_form(
         image: *const u8,
         image_length: usize,
@@ -123,6 +131,19 @@ pub fn judge(image: &Lent, path: &Lent, pairing: &Lent) -> u64 {
             path.length(),
             pairing.start(),
             pairing.length(),
+        )
+    }
+}
+
+pub fn judge_rules(image: &Lent, pairing: &Lent, text: &Lent) -> u64 {
+    unsafe {
+        headwords_judge_rules(
+            image.start(),
+            image.length(),
+            pairing.start(),
+            pairing.length(),
+            text.start(),
+            text.length(),
         )
     }
 }

@@ -1,10 +1,14 @@
 //! Every call is made to the linked library and to the second engine, and the first reply or byte that differs ends the run.
 
+mod claims;
+mod decided;
 mod lent;
 mod library;
 mod many;
 mod met;
+mod ruled;
 mod spelled;
+mod tables;
 mod tally;
 mod touched;
 
@@ -14,6 +18,7 @@ use draw::inputs::{any_room, any_word, entry, room, Pool};
 use draw::points::{any_points, folding_trials, letters_room, point_bytes, points_given};
 use draw::prng::Prng;
 use draw::records::{asked, record, Asked};
+use draw::rule_texts::{any_pairing, any_rules, rules_given, RuleText};
 use lent::Lent;
 use other_engine::calls::{self, Known, PLACE, RECORD};
 use other_engine::draft::Draft;
@@ -21,11 +26,12 @@ use other_engine::image::{read, BLOCK};
 use other_engine::listing::{list, refused, ROW};
 use other_engine::pairings::Budget;
 use other_engine::reading::{Reading, Stop};
+use ruled::Judged;
 use std::ops::Range;
 use std::process::exit;
 use tally::{Kind, Tally};
 
-const USAGE: &str = "usage: compare [SEED [CALLS]]";
+const USAGE: &str = "usage: compare [SEED [CALLS]], or compare --tables IMAGE CLAIMS";
 
 /// The refusals that images are damaged for, with their weights; 0 is a change that does no harm, and none is several at once.
 const DAMAGES: [(usize, Option<u8>); 11] = [
@@ -43,7 +49,17 @@ const DAMAGES: [(usize, Option<u8>); 11] = [
 ];
 
 fn main() {
-    let mut arguments = std::env::args().skip(1);
+    let given: Vec<String> = std::env::args().skip(1).collect();
+    if let [mode, image, claims] = &given[..] {
+        let files = (std::fs::read(image), std::fs::read_to_string(claims));
+        let (true, (Ok(image), Ok(claims))) = (mode == "--tables", files) else {
+            eprintln!("{USAGE}");
+            exit(2);
+        };
+        tables::run(&image, &claims);
+        return;
+    }
+    let mut arguments = given.into_iter();
     let mut number = |otherwise: u64| match arguments.next() {
         None => otherwise,
         Some(text) => text.parse().unwrap_or_else(|_| {
@@ -256,9 +272,9 @@ impl Run {
             return;
         }
         let weights = if image.known.is_ok() {
-            [34, 22, 2, 4, 19, 5, 9, 8]
+            [34, 22, 2, 4, 19, 5, 9, 8, 24]
         } else {
-            [15, 16, 16, 5, 14, 14, 10, 10]
+            [15, 16, 16, 5, 14, 14, 10, 10, 10]
         };
         match self.prng.weighted(&weights) {
             0 => self.analyse(image, pool),
@@ -268,7 +284,8 @@ impl Run {
             4 => self.judge(image, pool),
             5 => self.form(image),
             6 => self.spell(image),
-            _ => self.words(image, pool),
+            7 => self.words(image, pool),
+            _ => self.rules(image, pool),
         }
     }
 
@@ -499,6 +516,69 @@ impl Run {
                 ("pairing", &pairing, &lent_pairing),
             ],
         });
+    }
+
+    /// Calls the judge of rules, with a pairing as the other judge gets it or with any pairs.
+    fn rules(&mut self, image: &Image, pool: &Pool) {
+        let prng = &mut self.prng;
+        let known = &image.known;
+        let Ok(grammar) = known else {
+            let length = prng.one_of(&[0, 1, 3, 41]);
+            let text = any_rules(prng);
+            self.ruled(image, &vec![0; length], &text);
+            return;
+        };
+        let pairing = if prng.percent(45) {
+            pool.judged(prng, grammar).1
+        } else {
+            any_pairing(prng, grammar)
+        };
+        let RuleText { text, fault } = rules_given(prng, known, grammar, &pairing);
+        let reply = self.ruled(image, &pairing, &text);
+        if reply == refused(13) {
+            return;
+        }
+        let judged = Judged {
+            grammar,
+            pairing: &pairing,
+            text: &text,
+            fault,
+            reply,
+        };
+        if let Some(wanted) = judged.wanted_in_vain() {
+            let (seed, got) = (self.seed, spoken(reply));
+            println!("seed {seed}: rules made for {wanted} get {got}");
+            println!("image {}", hex(&image.bytes));
+            println!("text {}", hex(&text));
+            exit(4);
+        }
+        self.tally.count_rules(&judged);
+    }
+
+    /// One call of the judge of rules, and its reply.
+    fn ruled(&mut self, image: &Image, pairing: &[u8], text: &[u8]) -> u64 {
+        let reply = calls::judge_rules_reply(&image.known, pairing, text);
+        let lent_pairing = Lent::new(&mut self.prng, pairing);
+        let lent_text = Lent::new(&mut self.prng, text);
+        self.under_way(Kind::Rules);
+        let got = library::judge_rules(&image.lent, &lent_pairing, &lent_text);
+        self.compared(Outcome {
+            kind: Kind::Rules,
+            given: &[
+                ("image", &image.bytes),
+                ("pairing", pairing),
+                ("text", text),
+            ],
+            entry: None,
+            reply: (reply, got),
+            written: &[],
+            kept: &[
+                ("image", &image.bytes, &image.lent),
+                ("pairing", pairing, &lent_pairing),
+                ("text", text, &lent_text),
+            ],
+        });
+        reply
     }
 
     fn form(&mut self, image: &Image) {

@@ -1,5 +1,6 @@
 //! Replies are counted by kind of call, so that a run shows what it has met and what it has not.
 
+use crate::ruled::{self, Judged};
 use crate::{many, spelled};
 use other_engine::grammar::{set_named, Grammar, BOUNDARY, NULL};
 use other_engine::Reading;
@@ -16,9 +17,10 @@ pub enum Kind {
     Form,
     Spell,
     Words,
+    Rules,
 }
 
-const KINDS: [(Kind, &str); 8] = [
+const KINDS: [(Kind, &str); 9] = [
     (Kind::Analyse, "analyse"),
     (Kind::Generate, "generate"),
     (Kind::Check, "check"),
@@ -27,6 +29,7 @@ const KINDS: [(Kind, &str); 8] = [
     (Kind::Form, "form"),
     (Kind::Spell, "spell"),
     (Kind::Words, "analyse_words"),
+    (Kind::Rules, "judge_rules"),
 ];
 
 impl Kind {
@@ -41,7 +44,7 @@ impl Kind {
             Kind::Analyse | Kind::Generate => [Some("none"), Some("all"), Some("more")],
             Kind::Check => [None, Some("accepted"), None],
             Kind::Seal => [None, Some("sealed"), None],
-            Kind::Judge => [Some("fails"), Some("holds"), None],
+            Kind::Judge | Kind::Rules => [Some("fails"), Some("holds"), None],
             Kind::Form => [None, Some("letters"), Some("short")],
             Kind::Spell => [None, Some("spelled"), None],
             Kind::Words => [None, Some("answered"), None],
@@ -54,6 +57,7 @@ impl Kind {
             Kind::Analyse => &[9, 10],
             Kind::Generate => &[11, 12],
             Kind::Judge => &[11, 12, 13],
+            Kind::Rules => &[13, 19, 20],
             Kind::Form => &[12],
             Kind::Spell => &[9, 23, 24],
             Kind::Check | Kind::Words => &[],
@@ -99,15 +103,28 @@ fn sets_asked(grammar: &Grammar, row: &Reading) -> Vec<(usize, u8)> {
     asked
 }
 
-/// How many replies of each kind of call have been met, how many listings by each with a row at a limit, and how many spellings and calls with many
-/// words of each sort.
-#[derive(Default)]
+/// How many replies of each kind of call have been met, how many listings by each with a row at a limit, and how many spellings, calls with many words
+/// and texts of rules of each sort.
 pub struct Tally {
     replies: [[u64; 3]; KINDS.len()],
     refusals: [[u64; 25]; KINDS.len()],
     limits: [[u64; 13]; 2],
     spellings: [u64; spelled::SORTS.len()],
     many: [u64; many::SORTS.len()],
+    rules: [u64; ruled::SORTS.len()],
+}
+
+impl Default for Tally {
+    fn default() -> Tally {
+        Tally {
+            replies: [[0; 3]; KINDS.len()],
+            refusals: [[0; 25]; KINDS.len()],
+            limits: [[0; 13]; 2],
+            spellings: [0; spelled::SORTS.len()],
+            many: [0; many::SORTS.len()],
+            rules: [0; ruled::SORTS.len()],
+        }
+    }
 }
 
 impl Tally {
@@ -178,6 +195,14 @@ impl Tally {
         }
     }
 
+    /// Counts the sorts that a text of rules is of, by an accepted image.
+    pub fn count_rules(&mut self, judged: &Judged) {
+        let met = judged.sorts();
+        for (count, sort) in self.rules.iter_mut().zip(ruled::SORTS) {
+            *count += u64::from(met.contains(&sort));
+        }
+    }
+
     /// All calls of a kind.
     fn calls(&self, kind: Kind) -> u64 {
         let k = kind as usize;
@@ -211,6 +236,10 @@ impl Tally {
         }
         line.push_str("; many words with");
         for (sort, count) in many::SORTS.iter().zip(self.many) {
+            let _ = write!(line, " {sort}: {count}");
+        }
+        line.push_str("; rules with");
+        for (sort, count) in ruled::SORTS.iter().zip(self.rules) {
             let _ = write!(line, " {sort}: {count}");
         }
         line
@@ -248,6 +277,30 @@ impl Tally {
                 missing.push(format!("many words with {sort}"));
             }
         }
+        for (sort, count) in ruled::SORTS.iter().zip(self.rules) {
+            if count == 0 {
+                missing.push(format!("rules with {sort}"));
+            }
+        }
+        missing.extend(self.seldom());
         missing
+    }
+
+    /// The replies to texts of rules that are not at least 4 in 100 of those calls.
+    fn seldom(&self) -> Vec<String> {
+        let calls = self.calls(Kind::Rules);
+        let [fails, holds, _] = self.replies[Kind::Rules as usize];
+        let refused = self.refusals[Kind::Rules as usize];
+        let replies = [
+            ("fails", fails),
+            ("holds", holds),
+            ("refused 13", refused[13]),
+            ("refused 19", refused[19]),
+            ("refused 20", refused[20]),
+        ];
+        let seldom = replies.into_iter().filter(|(_, count)| count * 25 < calls);
+        seldom
+            .map(|(reply, _)| format!("judge_rules {reply} often enough"))
+            .collect()
     }
 }

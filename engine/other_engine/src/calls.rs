@@ -6,6 +6,7 @@ use crate::image;
 use crate::listing::{list, refused, ROW};
 use crate::pairings::Budget;
 use crate::reading::{Reading, Stop};
+use crate::written_rules;
 use std::collections::BTreeMap;
 
 /// The bytes of a word's record: its length, then its letters.
@@ -39,6 +40,16 @@ fn complete(grammar: &Grammar, path: &[u8]) -> Result<Vec<u16>, u8> {
         Ok(path)
     } else {
         Err(12)
+    }
+}
+
+/// Test 13.
+fn paired(grammar: &Grammar, pairing: &[u8]) -> Result<(), u8> {
+    let is_listed = |&pair: &u8| usize::from(pair) < grammar.pairs.len();
+    if (1..=40).contains(&pairing.len()) && pairing.iter().all(is_listed) {
+        Ok(())
+    } else {
+        Err(13)
     }
 }
 
@@ -154,15 +165,20 @@ pub fn generate_within(
 pub fn judge(known: &Known, path: &[u8], pairing: &[u8]) -> Result<bool, u8> {
     let grammar = accepted(known)?;
     let path = complete(grammar, path)?;
-    if pairing.is_empty()
-        || pairing.len() > 40
-        || pairing
-            .iter()
-            .any(|&p| usize::from(p) >= grammar.pairs.len())
-    {
-        return Err(13);
-    }
+    paired(grammar, pairing)?;
     Ok(grammar.reads(&grammar.joined(&path), pairing, &grammar.spelled(pairing)))
+}
+
+/// Whether a pairing keeps each rule of a text, or the refusal.
+pub fn judge_rules(known: &Known, pairing: &[u8], text: &[u8]) -> Result<bool, u8> {
+    let grammar = accepted(known)?;
+    paired(grammar, pairing)?;
+    let rules = written_rules::read(text).ok_or(19)?;
+    let pairs = grammar.pairs.len();
+    if !rules.iter().all(|rule| rule.names_pairs_below(pairs)) {
+        return Err(20);
+    }
+    Ok(rules.iter().all(|rule| rule.kept(grammar, pairing)))
 }
 
 /// The letters of an entry's form, or the refusal.
@@ -213,6 +229,14 @@ pub fn seal_reply(bytes: &mut [u8]) -> u64 {
 /// The reply number of the judge.
 pub fn judge_reply(known: &Known, path: &[u8], pairing: &[u8]) -> u64 {
     match judge(known, path, pairing) {
+        Ok(holds) => u64::from(holds),
+        Err(k) => refused(k),
+    }
+}
+
+/// The reply number of the judge of rules.
+pub fn judge_rules_reply(known: &Known, pairing: &[u8], text: &[u8]) -> u64 {
+    match judge_rules(known, pairing, text) {
         Ok(holds) => u64::from(holds),
         Err(k) => refused(k),
     }
