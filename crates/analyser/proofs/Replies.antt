@@ -1,16 +1,13 @@
 -- A listing's reply and bytes by its verdict: a refusal's number and the buffer as it was, or what the search leaves.
-use Prim.Native.Nat.{ℕ, _-_, _<_, _≤_}
+use Prim.Native.Nat.{ℕ, _-_, _≤_}
 use native.Mathlib.Omega.{arith}
-use mathlib.Core.Bool.{true, false}
 use mathlib.Core.Path.{_≡_, refl, sym, _∙_, subst}
 use mathlib.Core.List.{List, []}
 use lib.ListN.{length, take, drop, length-drop}
 use lib.Seq.{take-all}
-use borrow.Author.Tests.{lt-leb, le-leb}
-use Rattle.model.specs.Lists.{every, within}
 use Rattle.model.specs.Blocks.{Header, header}
 use Rattle.model.specs.Query.{Request}
-use Rattle.model.specs.Refusals.{Verdict, accepted, refused, firstFailing, imageTests, imageVerdict, wordTests, ownTests, requestTests}
+use Rattle.model.specs.Refusals.{Verdict, accepted, refused, firstFailing, imageTests, imageVerdict, ownTests, requestTests}
 use Rattle.model.specs.Rows.{Reply, rowCount, filled}
 use Rattle.model.specs.Demand.{replyRows}
 use Rattle.model.specs.Calls.{replyAfter, rowsAfter, requestVerdict, allReadings, listingReply, listingRows, afterListing}

@@ -4,11 +4,11 @@ use native.Mathlib.Omega.{arith}
 use native.Mathlib.Decide.{ℕ-discrete, decLe}
 use mathlib.Core.Bool.{Bool, true, false, _&&_, _||_, not, cond, true≢false}
 use mathlib.Core.Path.{_≡_, refl, sym, ap, ap₂, _∙_, subst}
-use mathlib.Core.List.{List, [], _∷_, map, List·Memᴰ, List·Memᴰ·head, List·Memᴰ·tail}
+use mathlib.Core.List.{List, [], _∷_, map}
 use lib.ListN.{length, getD, List·getD-eq-default}
 use lib.Dec.{T, leb, eqb}
 use borrow.Author.Tests.{le-leb, lt-leb, eq-eqb, ne-eqb}
-use Rattle.model.specs.Lists.{below, every, count, byte, bit}
+use Rattle.model.specs.Lists.{below, every, byte, bit}
 use Rattle.model.specs.Blocks.{Header, header, kinds, recordStart, recordAt}
 use Rattle.model.specs.RuleTables.{Pair, Sides, letterSets, inSet, isSet, namesSet, matchesSide, matches}
 use Rattle.model.proofs.Booleans.{within-out, of-true, true-of, false-of, not-both}
@@ -17,7 +17,7 @@ use Rattle.image.specs.Laid.{Laid}
 use Rattle.image.proofs.Records.{record-inside, record-byte, record-length}
 use Rattle.sets.proofs.Bits.{halved, high-none, none-of, low-of}
 use Rattle.sets.specs.Sides.{meetsSide, meets}
-use Rattle.sets.specs.Seen.{seenBy, Seen}
+use Rattle.sets.specs.Seen.{seenBy}
 
 -- the sets of an image
 module _ {image : List ℕ} {h : Header} (laid : Laid image h) (i : ℕ) where
