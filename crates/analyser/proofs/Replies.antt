@@ -1,16 +1,13 @@
 -- A listing's reply and bytes by its verdict: a refusal's number and the buffer as it was, or what the search leaves.
-use Prim.Native.Nat.{ℕ, _-_, _<_, _≤_}
+use Prim.Native.Nat.{ℕ, _-_, _≤_}
 use native.Mathlib.Omega.{arith}
-use mathlib.Core.Bool.{true, false}
 use mathlib.Core.Path.{_≡_, refl, sym, _∙_, subst}
 use mathlib.Core.List.{List, []}
 use lib.ListN.{length, take, drop, length-drop}
 use lib.Seq.{take-all}
-use borrow.Author.Tests.{lt-leb, le-leb}
-use Rattle.model.specs.Lists.{every, within}
 use Rattle.model.specs.Blocks.{Header, header}
 use Rattle.model.specs.Query.{Request}
-use Rattle.model.specs.Refusals.{Verdict, accepted, refused, firstFailing, imageTests, imageVerdict, wordTests, ownTests, requestTests}
+use Rattle.model.specs.Refusals.{Verdict, accepted, refused, firstFailing, imageTests, imageVerdict, ownTests, requestTests}
 use Rattle.model.specs.Rows.{Reply, rowCount, filled}
 use Rattle.model.specs.Demand.{replyRows}
 use Rattle.model.specs.Calls.{replyAfter, rowsAfter, requestVerdict, allReadings, listingReply, listingRows, afterListing}
@@ -30,28 +27,6 @@ accepted-by image h a e = subst (Accepted image) (sym e) (accepted-image image a
 -- and the index of forms, where there is one
 pub rest-forms : {image index : List ℕ} → Indexed image index → MayBe image (take (length index - 39424) (drop 39424 index))
 rest-forms {image} {index} i = rw (take-all (length index - 39424) (drop 39424 index) (omega (arith, length-drop 39424 index))) (i .forms-are)
-
--- a word's tests
-module _ (image word : List ℕ) where
-  pub too-short : length word < 1 → refused 9 ≡ firstFailing (wordTests image word)
-  unfolding wordTests
-  too-short h = rw (lt-leb 1 (length word) h) refl
-
-  pub too-long : 1 ≤ length word → 32 < length word → refused 9 ≡ firstFailing (wordTests image word)
-  unfolding wordTests
-  too-long h k = rw (le-leb 1 (length word) h, lt-leb (length word) 32 k) refl
-
-  module _ (h : 1 ≤ length word) (k : length word ≤ 32) (letters : ℕ) (e : letters ≡ header image .letters) where
-    whole : every (within 2 letters) (drop 0 (take (length word) word)) ≡ every (within 2 (header image .letters)) word
-    whole = rw (take-all (length word) word (omega arith), e) refl
-
-    pub bad-letter : every (within 2 letters) (drop 0 (take (length word) word)) ≡ false → refused 10 ≡ firstFailing (wordTests image word)
-    unfolding wordTests
-    bad-letter f = rw (le-leb 1 (length word) h, le-leb (length word) 32 k, sym whole ∙ f) refl
-
-    pub right-word : every (within 2 letters) (drop 0 (take (length word) word)) ≡ true → accepted ≡ firstFailing (wordTests image word)
-    unfolding wordTests
-    right-word f = rw (le-leb 1 (length word) h, le-leb (length word) 32 k, sym whole ∙ f) refl
 
 -- the listing, for every request
 module _ (image : List ℕ) (request : Request) (before : List ℕ) where

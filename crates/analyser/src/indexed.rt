@@ -7,12 +7,12 @@ ghost use Rattle.model.specs.Rows.{rowCount};
 ghost use Rattle.model.specs.Calls.{listingReply, afterListing};
 ghost use Rattle.image.specs.Header.{headerOf};
 ghost use Rattle.rows.specs.Fill.{replyOf};
-ghost use Rattle.analyser.specs.Request.{requestOf};
+ghost use Rattle.requests.specs.Request.{requestOf};
 ghost use Rattle.prepare.specs.Indexed.{Indexed};
 ghost use Rattle.analyser.specs.Tried.{TriedOf};
-use crate::request::Direction;
 use grammar::Verdict;
 use image::Header;
+use requests::Direction;
 use rows::Reply;
 
 pub fn analyse(image: &[u8], index: &[u8], h: Header, word: &[u8], out: &mut [u8]) -> Reply
@@ -38,19 +38,12 @@ pub fn try_analyse(image: &[u8], index: &[u8], h: Header, word: &[u8], out: &mut
     requires { ⌜ Indexed (now image) (now index) ⌝ }
     ensures { λ r. ⌜ TriedOf (now (image .entry)) (now (word .entry)) (now (out .entry)) (now (out .exit)) r ⌝ }
 {
-    let verdict = crate::own::own_verdict(image, h, Direction::Analysis, word);
+    let verdict = requests::own::own_verdict(image, h, Direction::Analysis, word);
     match verdict {
         Verdict::Refused(k) => Tried::Given(Reply::Refused(k)),
         Verdict::Accepted => {
             let capacity = out.len() / 116;
-            let found = crate::request::try_word(
-                image,
-                &index[..39424],
-                h,
-                word,
-                &index[39424..],
-                out,
-            );
+            let found = requests::try_word(image, &index[..39424], h, word, &index[39424..], out);
             if found < capacity + 2 {
                 return Tried::Given(rows::reply_for(found, capacity));
             }
@@ -84,12 +77,12 @@ pub fn list(
     ensures reply { λ r. ⌜ replyOf r ≡ listingReply (now (image .entry)) (requestOf d (now (asked .entry))) (rowCount (now (out .entry))) ⌝ }
     ensures bytes { λ r. ⌜ now (out .exit) ≡ afterListing (now (image .entry)) (requestOf d (now (asked .entry))) (now (out .entry)) ⌝ }
 {
-    let verdict = crate::own::own_verdict(image, h, d, asked);
+    let verdict = requests::own::own_verdict(image, h, d, asked);
     match verdict {
         Verdict::Refused(k) => Reply::Refused(k),
         Verdict::Accepted => {
             let capacity = out.len() / 116;
-            let found = crate::request::search_for(
+            let found = requests::search_for(
                 image,
                 &index[..39424],
                 h,

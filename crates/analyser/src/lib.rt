@@ -1,7 +1,5 @@
 // Analysis of a word and generation from a path: the image check, the call's own tests, the index, and the search.
 pub mod indexed;
-pub mod own;
-pub mod request;
 
 ghost use mathlib.Core.Path.{_≡_};
 ghost use Rattle.model.specs.Query.{analysis, generation};
@@ -10,9 +8,9 @@ ghost use Rattle.model.specs.Rows.{rowCount};
 ghost use Rattle.model.specs.Calls.{listingReply, afterListing};
 ghost use Rattle.grammar.specs.Answers.{tablesVerdict};
 ghost use Rattle.rows.specs.Fill.{replyOf};
-ghost use Rattle.analyser.specs.Request.{requestOf};
-use crate::request::Direction;
+ghost use Rattle.requests.specs.Request.{requestOf};
 use grammar::Verdict;
+use requests::Direction;
 use rows::Reply;
 
 // All readings of a word, as rows in the lent buffer.

@@ -43,7 +43,7 @@ use Rattle.judge.proofs.judge.Reads as judge
 use Rattle.written_rules.specs.Judged.{textTests, rulesTests}
 use Rattle.written_rules.proofs.judge_rules.Reads as judge-rules
 use Rattle.spelling.proofs.spell.Reads as spell
-use Rattle.many.specs.Words.{ManyReply, wordsAsked}
+use Rattle.shares.specs.Words.{ManyReply, wordsAsked}
 use Rattle.many.specs.Answers.{manyOf}
 use Rattle.many.proofs.analyse_words.Reads as analyse-words
 use Rattle.headwords.proofs.headwords_analyse.Reads as headwords-analyse

@@ -15,11 +15,11 @@ use Rattle.model.specs.Calls.{listingReply, afterListing}
 use Rattle.model.proofs.Booleans.{of-true, within-out}
 use Rattle.model.proofs.Tests.{clash}
 use Rattle.analyser.proofs.Replies.{listing-rows}
-use Rattle.many.specs.Words.{ManyReply, lowFirst, recordReply, afterRecord, wordsAsked, shareRows, manyReply, afterReplies, afterRows}
-use Rattle.many.proofs.Over.{part-long, share-rows}
-use Rattle.many.proofs.Records.{record-long, record-listed}
-use Rattle.many.proofs.Replies.{refused-whole, answered-reply, answered-when}
-use Rattle.many.proofs.Shares.{low-apart, share-inside, place-left, share-left, places-past, shares-past}
+use Rattle.shares.specs.Words.{ManyReply, lowFirst, recordReply, afterRecord, wordsAsked, shareRows, manyReply, afterReplies, afterRows}
+use Rattle.shares.proofs.Over.{part-long, share-rows}
+use Rattle.shares.proofs.Records.{record-long, record-listed}
+use Rattle.shares.proofs.Replies.{refused-whole, answered-reply, answered-when}
+use Rattle.shares.proofs.Shares.{low-apart, share-inside, place-left, share-left, places-past, shares-past}
 use Rattle.demands.specs.Words.{inTable, Coding, wordAt, shareOf, WordsAnswered, AmongWords}
 use Rattle.demands.proofs.Refusing.{Case, by-table}
 use Rattle.demands.proofs.Calls.{Promised, listing-case, request-table}

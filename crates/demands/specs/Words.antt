@@ -19,7 +19,7 @@ use Rattle.model.specs.Calls.{listingReply, afterListing}
 use Rattle.model.specs.Beside.{Judgement, formStart}
 use Rattle.contexts.specs.Operators.{Rule, KeptThroughout}
 use Rattle.rule_texts.specs.Text.{RuleOf}
-use Rattle.many.specs.Words.{wordOf, lowFirst, wordsAsked, shareRows}
+use Rattle.shares.specs.Words.{wordOf, lowFirst, wordsAsked, shareRows}
 
 -- "a number of document 01's table", which the answers of document 02 join
 abbrev pub inTable : ℕ → Bool

@@ -14,7 +14,7 @@ use Rattle.model.specs.Tree.{Node, opens, isNil, spells, left, lettersAnd, null
 use Rattle.model.proofs.Booleans.{and-out, out3, out5}
 use Rattle.model.proofs.Lists.{below-from}
 use Rattle.listing.specs.Gather.{grow, gather}
-use Rattle.filter.specs.Positions.{Feasible, Over, Leads}
+use Rattle.positions.specs.Positions.{Feasible, Over, Leads}
 use Rattle.filter.specs.Reach.{Covers, Onward, Hope, HopeAt, Sound}
 use Rattle.filter.proofs.Leads.{here, inserted-more, leads-map}
 

@@ -24,10 +24,10 @@ use Rattle.listing.specs.Search.{nodeAt, entryOne}
 use Rattle.listing.specs.Opening.{mayEnter, Ranged}
 use Rattle.listing.proofs.Searching.{entry-none}
 use Rattle.listing.proofs.Loops.{flatMap-places}
-use Rattle.filter.specs.Positions.{Feasible, Leads}
+use Rattle.positions.specs.Positions.{Feasible, Leads}
 use Rattle.filter.specs.Reach.{Covers, HopeAt, Sound}
 use Rattle.filter.specs.Lexicons.{afterIn, Reaches}
-use Rattle.filter.specs.Stack.{feasibleOf, reachOf}
+use Rattle.positions.specs.Stack.{feasibleOf, reachOf}
 use Rattle.filter.specs.Survivors.{Surviving}
 use Rattle.filter.proofs.Listed.{listed, rising-within}
 use Rattle.filter.proofs.Lost.{lost, hope-entry}

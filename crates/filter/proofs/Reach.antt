@@ -13,7 +13,7 @@ use Rattle.model.specs.Lexicon.{inLexicon, entry, formOf, continuation}
 use Rattle.model.specs.GrammarOf.{grammarOf}
 use Rattle.model.specs.Query.{Query}
 use Rattle.model.proofs.Booleans.{and-out, not-out}
-use Rattle.filter.specs.Positions.{Feasible, Over, Inserted, Leads}
+use Rattle.positions.specs.Positions.{Feasible, Over, Inserted, Leads}
 use Rattle.filter.specs.Reach.{Sound}
 use Rattle.filter.specs.Lexicons.{afterIn, Reaches, replaced}
 use Rattle.filter.proofs.Leads.{leads-map}

@@ -16,11 +16,11 @@ use Rattle.model.specs.Lexicon.{entry, formOf, continuation}
 use Rattle.model.specs.GrammarOf.{grammarOf}
 use Rattle.model.specs.Query.{Pattern, Query, exactly}
 use Rattle.model.proofs.Booleans.{and-out, eq→eqb}
-use Rattle.filter.specs.Positions.{Feasible, Inserted}
+use Rattle.positions.specs.Positions.{Feasible, Inserted}
 use Rattle.filter.specs.Reach.{Covers}
 use Rattle.filter.specs.Lexicons.{afterIn, Reaches}
-use Rattle.filter.specs.Masks.{backSpreadMask}
-use Rattle.filter.specs.Stack.{setOf, deletesOf, feasibleOf, reachOf, Begins}
+use Rattle.positions.specs.Masks.{backSpreadMask}
+use Rattle.positions.specs.Stack.{setOf, deletesOf, feasibleOf, reachOf, Begins}
 use Rattle.forms.specs.Letters.{rowCount, rowLetter}
 use Rattle.forms.specs.Forms.{rowsIn, flagsIn, FormsOf}
 use Rattle.filter.specs.Letters.{Wrote}

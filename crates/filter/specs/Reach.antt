@@ -8,7 +8,7 @@ use lib.Dec.{T}
 use Rattle.model.specs.Grammar.{Grammar}
 use Rattle.model.specs.Query.{Query}
 use Rattle.model.specs.Tree.{Node}
-use Rattle.filter.specs.Positions.{Feasible, Over, Inserted, Leads}
+use Rattle.positions.specs.Positions.{Feasible, Over, Inserted, Leads}
 
 module _ (g : Grammar) (q : Query) where
   -- every pair of the grammar is in it, wherever the query allows its surface side: by the word's letter, or by an interval, or anywhere

@@ -11,7 +11,7 @@ use Rattle.listing.specs.Opening.{mayEnter, mayEnterIn, Ranged}
 use Rattle.forms.specs.Forms.{flagsIn, FormsOf}
 use Rattle.filter.specs.Reach.{Covers}
 use Rattle.filter.specs.Lexicons.{Reaches}
-use Rattle.filter.specs.Stack.{feasibleOf, reachOf, Filled, Reached}
+use Rattle.positions.specs.Stack.{feasibleOf, reachOf, Filled, Reached}
 use Rattle.filter.specs.Survivors.{Surviving}
 
 -- no index of forms was made, or it is one of the image

@@ -3,5 +3,3 @@ pub mod Stores
 pub mod SlotLaws
 pub mod SkipLaws
 pub mod SlottedLaws
-pub mod Parts
-pub mod FormsLaws

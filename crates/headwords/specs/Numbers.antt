@@ -7,7 +7,7 @@ use Rattle.model.specs.Lists.{whereRoom}
 use Rattle.model.specs.Refusals.{Verdict}
 use Rattle.model.specs.Calls.{Sealing}
 use Rattle.model.specs.Beside.{Judgement, FormReply, Spelling}
-use Rattle.many.specs.Words.{ManyReply}
+use Rattle.shares.specs.Words.{ManyReply}
 
 abbrev pub refusedNumber : ℕ → ℕ
 refusedNumber k = 4 * k + 3

@@ -7,7 +7,7 @@ ghost use Rattle.model.specs.Rows.{rowCount, replyNumber};
 ghost use Rattle.model.specs.Calls.{sealingReply, afterSealing, listingReply, afterListing};
 ghost use Rattle.model.specs.Beside.{judged, formReply, viewed, spellingReply, afterSpelling};
 ghost use Rattle.judge.specs.Answers.{judgementOf};
-ghost use Rattle.many.specs.Words.{manyReply, afterReplies, afterRows};
+ghost use Rattle.shares.specs.Words.{manyReply, afterReplies, afterRows};
 ghost use Rattle.written_rules.specs.Judged.{rulesJudged};
 ghost use Rattle.headwords.specs.Numbers.{refusedNumber, verdictNumber, sealingNumber, judgementNumber, formNumber, afterForm, spellingNumber, manyNumber};
 use grammar::FormReply;

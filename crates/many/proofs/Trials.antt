@@ -7,7 +7,7 @@ use Rattle.model.specs.Rows.{rowBytes}
 use Rattle.model.specs.Samples.{luzImage, slipImage}
 use Rattle.trials.specs.Trials.{luces, luzes, lucesOfLuZ}
 use Rattle.model.proofs.Computed.{computed}
-use Rattle.many.specs.Words.{ManyReply, recordReply, afterRecord, manyReply, afterReplies, afterRows}
+use Rattle.shares.specs.Words.{ManyReply, recordReply, afterRecord, manyReply, afterReplies, afterRows}
 
 -- a record: its length byte, letters, and bytes that say nothing
 abbrev pub asked : ℕ → List ℕ → List ℕ

@@ -1,5 +1,5 @@
 -- The call's answer in the words of its definition.
-use Rattle.many.specs.Words as words
+use Rattle.shares.specs.Words as words
 use Rattle.many.specs.declared.Many.{Many}
 use Rattle.many.specs.declared.Many.the-variants as many
 

@@ -26,7 +26,7 @@ fn fill(image: &[u8], h: Header, index: &mut [u8])
     ensures { λ r. ⌜ Indexed (now (image .entry)) (now (index .exit)) ⌝ }
 {
     index::fill_index(image, h, &mut index[0..39424]);
-    forms::fill(image, h, &mut index[39424..186112]);
+    filling::fill(image, h, &mut index[39424..186112]);
 }
 
 // All bytes 0 again.

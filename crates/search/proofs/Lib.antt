@@ -1,4 +1,1 @@
-pub mod Turns
-pub mod Giving
 pub mod Starting
-pub mod Choosing

@@ -15,13 +15,7 @@ use Rattle.model.proofs.Booleans.{and-out, left-true, left-false, right-false, 
 use Rattle.model.proofs.Lists.{drop-take}
 use Rattle.model.specs.RuleTables.{columnCount, stateCount, marksAt, rowsAt, tableEnd, isSide, isTable}
 use Rattle.tables.specs.Bounds.{rightCounts, allowed}
-use Rattle.tables.proofs.Lists.{fails, passes}
-
-pub within-low : (low high n : ℕ) → n < low → within low high n ≡ false
-within-low low high n h = left-false (leb low n) (leb n high) (lt-leb low n h)
-
-pub within-high : (low high n : ℕ) → low ≤ n → within low high n ≡ leb n high
-within-high low high n h = left-true (leb low n) (leb n high) (le-leb low n h)
+use Rattle.sets.proofs.Lists.{fails, passes}
 
 module _ (sets most b : ℕ) where
   -- a side's three tests

@@ -16,11 +16,11 @@ use Rattle.model.proofs.Booleans.{and-out, out5, true-of}
 use Rattle.model.proofs.Lists.{every-at, below-has}
 use Rattle.image.specs.Laid.{Laid}
 use Rattle.image.proofs.Records.{record-inside, record-part, record-length, record-byte}
-use Rattle.tables.specs.Breadths.{Columned, columnsBy}
+use Rattle.columns.specs.Breadths.{Columned, columnsBy}
 use Rattle.model.proofs.Rest.{every-getD}
-use Rattle.tables.proofs.Lists.{every-getD-any}
+use Rattle.sets.proofs.Lists.{every-getD-any}
 use Rattle.tables.proofs.Bounds.{counts, sides, marks, nexts, rest, table-is, counts-bound}
-use Rattle.tables.proofs.Breadths.{length-columns}
+use Rattle.columns.proofs.Breadths.{length-columns}
 
 module _ (image : List ℕ) (h : Header) (laid : Laid image h) where
   -- the table of a rule, a record of kind 4, as it stands in the image

@@ -1,12 +1,4 @@
-pub mod Lists
 pub mod Bounds
-pub mod Pairs
-pub mod Choice
-pub mod Breadths
 pub mod Laws
-pub mod Unique
-pub mod Passes
-pub mod Bits
-pub mod LetterSets
 pub mod RowByRow
 pub mod Rows

@@ -1,5 +1,1 @@
 pub mod Bounds
-pub mod Sides
-pub mod Seen
-pub mod Breadths
-pub mod Passes

@@ -1,8 +1,5 @@
 // Rule tables: the tests 6 and 7 of the image check, and the column that each pair takes.
-mod columns;
 mod range;
-mod sets;
-pub mod sides;
 
 use image::kinds;
 ghost use mathlib.Core.Path.{_≡_};

@@ -6,24 +6,14 @@ ghost use lib.Seq.{slice};
 ghost use Rattle.model.specs.Lists.{every, within};
 ghost use Rattle.tables.specs.Bounds.{rightCounts, allowed};
 
-// A number from `low` to `high`.
-pub fn is_within(low: usize, high: usize, n: usize) -> bool
-    ensures { λ r. ⌜ r ≡ within low high n ⌝ }
-{
-    if n < low {
-        return false;
-    }
-    n <= high
-}
-
 // A table's column count and state count.
 pub fn right_counts(columns: usize, states: usize) -> bool
     ensures { λ r. ⌜ r ≡ rightCounts columns states ⌝ }
 {
-    if !is_within(1, 16, columns) {
+    if !sets::range::is_within(1, 16, columns) {
         return false;
     }
-    is_within(1, 24, states)
+    sets::range::is_within(1, 24, states)
 }
 
 // A byte that is at most `most`, or 255, or one that names a set, where `any` allows it.

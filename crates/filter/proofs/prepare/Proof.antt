@@ -18,7 +18,7 @@ use Rattle.forms.specs.Letters.{Rowed}
 use Rattle.forms.specs.Forms.{flagsIn, FormsOf}
 use Rattle.filter.specs.Letters.{Wrote}
 use Rattle.listing.specs.Asked.{wordPattern}
-use Rattle.filter.specs.Stack.{Filled, Begins}
+use Rattle.positions.specs.Stack.{Filled, Begins}
 use Rattle.filter.proofs.Parts.{part-long}
 use Rattle.filter.proofs.Words.{asksWord, word-covers, word-reaches}
 use Rattle.filter.proofs.prepare.Statement.{statement}

@@ -4,9 +4,9 @@ use native.Mathlib.Omega.{arith}
 use Prim.Native.Nat.{ℕ, _*_, _≤_}
 use mathlib.Core.Path.{_≡_, sym, ap, _∙_}
 use lib.ListN.{length}
-use Rattle.many.specs.Words.{ManyReply, manyReply}
+use Rattle.shares.specs.Words.{ManyReply, manyReply}
 use Rattle.many.specs.Answers.{manyOf}
-use Rattle.many.proofs.Replies.{answered-few}
+use Rattle.shares.proofs.Replies.{answered-few}
 use Rattle.headwords.specs.Numbers.{manyNumber}
 use Rattle.headwords.proofs.headwords_analyse_words.Statement.{statement}
 use Rattle.headwords.proofs.headwords_analyse_words.Tie as tie

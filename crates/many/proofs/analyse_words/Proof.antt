@@ -3,7 +3,7 @@ use borrow.Author.Needs.{needs}
 use mathlib.Core.Path.{sym, ap, _∙_}
 use Rattle.grammar.specs.Answers.{verdictOf}
 use Rattle.grammar.proofs.Verdicts.{refused-early}
-use Rattle.many.proofs.Replies.{refused-whole}
+use Rattle.shares.proofs.Replies.{refused-whole}
 use Rattle.many.proofs.analyse_words.Statement.{statement}
 use Rattle.many.proofs.analyse_words.Tie as tie
 

@@ -18,7 +18,7 @@ use Rattle.ahead.specs.Here.{opensAt}
 use Rattle.model.specs.Query.{Query}
 use Rattle.dead.specs.Dead.{Remembered}
 use Rattle.dead.proofs.Dead.{none-remembered}
-use Rattle.search.proofs.Giving.{offered-same}
+use Rattle.walk.proofs.Giving.{offered-same}
 use Rattle.search.proofs.Starting.{start-underway, start-found, dead-found}
 use Rattle.search.proofs.from_start.Statement.{statement}
 use Rattle.search.proofs.from_start.Tie as tie

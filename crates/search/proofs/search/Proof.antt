@@ -8,7 +8,7 @@ use lib.ListN.{length}
 use Rattle.rows.specs.Fill.{put}
 use Rattle.rows.specs.Offering.{offerAll}
 use Rattle.rows.proofs.Offering.{offer-by}
-use Rattle.search.proofs.Giving.{offered-all, offered-again}
+use Rattle.walk.proofs.Giving.{offered-all, offered-again}
 use Rattle.search.proofs.search.Statement.{statement}
 use Rattle.search.proofs.search.Tie as tie
 

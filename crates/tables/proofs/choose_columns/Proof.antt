@@ -11,10 +11,10 @@ use Rattle.model.specs.Lists.{every}
 use Rattle.model.specs.Blocks.{header}
 use Rattle.image.specs.Header.{headerOf}
 use Rattle.letters.proofs.Laws.{laid-pairs}
-use Rattle.tables.specs.Breadths.{Columned, columnsBy}
-use Rattle.tables.specs.Passes.{front}
+use Rattle.columns.specs.Breadths.{Columned, columnsBy}
+use Rattle.columns.specs.Passes.{front}
 use Rattle.tables.proofs.Laws.{read-columned, columns-written, columns-tested}
-use Rattle.tables.proofs.Passes.{front-columns, none-is}
+use Rattle.columns.proofs.Passes.{front-columns, none-is}
 use Rattle.tables.proofs.choose_columns.Statement.{statement}
 use Rattle.tables.proofs.choose_columns.Tie as tie
 

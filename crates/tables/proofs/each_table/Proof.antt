@@ -8,7 +8,7 @@ use Prim.Native.Nat.{ℕ, _≤_, _-_}
 use Rattle.model.specs.Lists.{below, every}
 use Rattle.model.specs.RuleTables.{table, isTable}
 use Rattle.model.proofs.Lists.{every-more, every-fails}
-use Rattle.tables.proofs.Lists.{fails, passes}
+use Rattle.sets.proofs.Lists.{fails, passes}
 use Rattle.tables.proofs.each_table.Statement.{statement}
 use Rattle.tables.proofs.each_table.Tie as tie
 

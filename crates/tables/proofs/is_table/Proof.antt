@@ -3,7 +3,7 @@ use borrow.Author.Needs.{needs}
 use native.Mathlib.Omega.{arith}
 use mathlib.Core.Path.{sym}
 use Prim.Native.Nat.{_*_, _≤_}
-use Rattle.tables.proofs.Lists.{passes}
+use Rattle.sets.proofs.Lists.{passes}
 use Rattle.tables.proofs.Bounds.{counts-fail, sides-fail, marks-fail, nexts-fail, counts-pass, sides-pass, marks-pass, nexts-pass, rest-decides, counts-bound}
 use Rattle.tables.proofs.is_table.Statement.{statement}
 use Rattle.tables.proofs.is_table.Tie as tie

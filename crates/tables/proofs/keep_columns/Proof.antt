@@ -15,7 +15,7 @@ use Rattle.image.specs.Header.{headerOf}
 use Rattle.image.specs.Index.{columnRow}
 use Rattle.letters.proofs.Laws.{laid-pairs}
 use Rattle.model.proofs.Lists.{every-more, every-fails}
-use Rattle.tables.proofs.Lists.{fails, passes}
+use Rattle.sets.proofs.Lists.{fails, passes}
 use Rattle.tables.proofs.Laws.{columns-read}
 use Rattle.tables.proofs.Rows.{length-columnRow, columns-stored, no-columns}
 use Rattle.tables.proofs.RowByRow.{rowsTo, rows-none, lent-row, rows-more, rows-all}

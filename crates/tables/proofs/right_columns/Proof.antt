@@ -11,7 +11,7 @@ use Rattle.model.specs.Lists.{below, every}
 use Rattle.model.specs.RuleTables.{table, columnCount, columnsOf}
 use Rattle.image.specs.Header.{headerOf}
 use Rattle.model.proofs.Lists.{every-more, every-fails}
-use Rattle.tables.proofs.Lists.{fails, passes}
+use Rattle.sets.proofs.Lists.{fails, passes}
 use Rattle.tables.proofs.Laws.{columns-read}
 use Rattle.tables.proofs.right_columns.Statement.{statement}
 use Rattle.tables.proofs.right_columns.Tie as tie

@@ -8,7 +8,7 @@ use Rattle.model.specs.Lists.{below, every}
 use Rattle.model.specs.RuleTables.{letterSets, isSet, table, isTable}
 use Rattle.model.proofs.Booleans.{left-true, left-false}
 use Rattle.image.specs.Header.{headerOf}
-use Rattle.tables.proofs.Lists.{fails, passes}
+use Rattle.sets.proofs.Lists.{fails, passes}
 use Rattle.tables.proofs.Laws.{tables-read}
 use Rattle.tables.proofs.right_tables.Statement.{statement}
 use Rattle.tables.proofs.right_tables.Tie as tie

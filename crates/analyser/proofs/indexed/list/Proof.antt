@@ -5,7 +5,7 @@ use lib.Seq.{length-take-le}
 use Rattle.model.specs.Refusals.{accepted, firstFailing, ownTests}
 use Rattle.image.specs.Header.{headerOf}
 use Rattle.grammar.specs.Answers.{verdictOf}
-use Rattle.analyser.specs.Request.{requestOf}
+use Rattle.requests.specs.Request.{requestOf}
 use Rattle.analyser.proofs.Replies.{accepted-by, own-refused, own-accepted, rest-forms}
 use Rattle.analyser.proofs.indexed.list.Statement.{statement}
 use Rattle.analyser.proofs.indexed.list.Tie as tie

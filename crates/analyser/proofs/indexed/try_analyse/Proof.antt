@@ -6,7 +6,7 @@ use Rattle.model.specs.Query.{analysis}
 use Rattle.model.specs.Refusals.{accepted, firstFailing, ownTests}
 use Rattle.image.specs.Header.{headerOf}
 use Rattle.grammar.specs.Answers.{verdictOf}
-use Rattle.search.proofs.Giving.{offered-all}
+use Rattle.walk.proofs.Giving.{offered-all}
 use Rattle.analyser.proofs.Replies.{accepted-by, own-refused, own-accepted, rest-forms}
 use Rattle.analyser.proofs.indexed.try_analyse.Statement.{statement}
 use Rattle.analyser.proofs.indexed.try_analyse.Tie as tie

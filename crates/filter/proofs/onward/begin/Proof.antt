@@ -7,8 +7,8 @@ use mathlib.Core.Path.{_≡_, sym, ap, _∙_, subst}
 use mathlib.Core.List.{List}
 use lib.ListN.{length, getD, set, length-set}
 use lib.Seq.{getD-set-same, getD-set-other}
-use Rattle.filter.specs.Masks.{backSpreadMask}
-use Rattle.filter.specs.Stack.{Reached, Begins}
+use Rattle.positions.specs.Masks.{backSpreadMask}
+use Rattle.positions.specs.Stack.{Reached, Begins}
 use Rattle.filter.proofs.onward.begin.Statement.{statement}
 use Rattle.filter.proofs.onward.begin.Tie as tie
 

@@ -11,7 +11,7 @@ use Rattle.image.specs.Header.{headerOf}
 use Rattle.lexicon.proofs.Laws.{lexicon-within}
 use Rattle.forms.specs.Forms.{sharedIn, skipsIn}
 use Rattle.filter.specs.Lexicons.{Reaches}
-use Rattle.filter.specs.Stack.{feasibleOf, reachOf, Filled}
+use Rattle.positions.specs.Stack.{feasibleOf, reachOf, Filled}
 use Rattle.filter.proofs.Parts.{slotted}
 use Rattle.filter.proofs.onward.renew.Statement.{statement}
 use Rattle.filter.proofs.onward.renew.Tie as tie

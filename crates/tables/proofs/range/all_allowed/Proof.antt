@@ -7,7 +7,7 @@ use lib.Seq.{slice}
 use Rattle.model.specs.Lists.{every, byte}
 use Rattle.tables.specs.Bounds.{allowed}
 use Rattle.model.proofs.Rest.{part-on, part-fails, part-done}
-use Rattle.tables.proofs.Lists.{fails, passes}
+use Rattle.sets.proofs.Lists.{fails, passes}
 use Rattle.tables.proofs.range.all_allowed.Statement.{statement}
 use Rattle.tables.proofs.range.all_allowed.Tie as tie
 

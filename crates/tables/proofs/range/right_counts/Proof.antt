@@ -3,7 +3,7 @@ use borrow.Author.Needs.{needs}
 use mathlib.Core.Path.{sym, _∙_}
 use Rattle.model.specs.Lists.{within}
 use Rattle.model.proofs.Booleans.{left-true, left-false}
-use Rattle.tables.proofs.Lists.{fails, passes}
+use Rattle.sets.proofs.Lists.{fails, passes}
 use Rattle.tables.proofs.range.right_counts.Statement.{statement}
 use Rattle.tables.proofs.range.right_counts.Tie as tie
 

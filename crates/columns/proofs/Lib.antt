@@ -1,0 +1,5 @@
+pub mod Choice
+pub mod Breadths
+pub mod Unique
+pub mod Passes
+pub mod SeenColumns

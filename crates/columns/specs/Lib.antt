@@ -1,0 +1,2 @@
+pub mod Breadths
+pub mod Passes

@@ -1,0 +1,3 @@
+pub mod WordTests
+pub mod Requests
+pub mod Writable

@@ -1,0 +1,4 @@
+pub mod Over
+pub mod Records
+pub mod Replies
+pub mod Shares
