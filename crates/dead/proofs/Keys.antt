@@ -104,6 +104,7 @@ module _ (image : List ℕ) where
         pairs = getD key 0 0 - 1;
         nulls = getD key 5 0;
         surface = record { letters = getD key 6 0; nulls = getD key 7 0 };
+        spoken = record { letters = getD key 6 0; nulls = getD key 7 0 };
         states = drop 8 key;
       }
 
@@ -122,6 +123,7 @@ module _ (image : List ℕ) where
         pairs = one-less i;
         nulls = place .nulls;
         surface = record { letters = place .surface .letters; nulls = place .surface .nulls };
+        spoken = record { letters = place .surface .letters; nulls = place .surface .nulls };
         states = drop 8 (keyOf image place entries pairs);
       }
 

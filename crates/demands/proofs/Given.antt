@@ -9,15 +9,16 @@ use Rattle.model.specs.Lists.{below, every, joined, sameList}
 use Rattle.model.specs.RuleTables.{fed, accepts}
 use Rattle.model.specs.Grammar.{Grammar}
 use Rattle.model.specs.GrammarOf.{grammarOf}
-use Rattle.model.specs.Readings.{Reading, spelled, fewNulls, wordLength, pairingLength, passes, isPath, word, isReading, isReadingOf}
+use Rattle.model.specs.Readings.{Reading, spelled, fewNulls, wordLength, passes, isPath, word, isReading, isReadingOf}
 use Rattle.model.specs.Query.{Request, analysis, generation, queryOf}
 use Rattle.model.specs.Refusals.{requestTests}
 use Rattle.model.specs.Tree.{readings}
 use Rattle.model.specs.Rows.{Reply, rowBytes}
 use Rattle.model.specs.Calls.{allReadings}
 use Rattle.model.specs.Demand.{Demand3, ProperBeginning, rowsHandedBack, asRows}
-use Rattle.model.proofs.Booleans.{and-out, and-in, out8, same-out, same-in}
+use Rattle.model.proofs.Booleans.{and-out, and-in, same-out, same-in}
 use Rattle.model.proofs.Lists.{below-has, every-at, map-from}
+use Rattle.model.proofs.Readings.{Parts, parts-of}
 use Rattle.model.proofs.Converse.{analysis-iff, generation-iff}
 use Rattle.demands.specs.Words.{Asks}
 use Rattle.demands.proofs.Refusing.{either-of}
@@ -34,27 +35,24 @@ module _ (g : Grammar) where
 
   -- the parts of a reading
   module _ (r : Reading) (t : T (isReading g r)) where
-    parts : T (isPath g (r .path)) × T (pairingLength (r .pairing)) × T (every (λ p. ltb p (g .pairs)) (r .pairing))
-        × T (sameList (spelled (g .lexical) (r .pairing)) (joined (map (g .form) (r .path)))) × T (fewNulls (g .lexical) (r .pairing))
-        × T (wordLength (word g r)) × T (fewNulls (g .surface) (r .pairing)) × T (passes g (r .pairing))
-    unfolding isReading
-    parts = out8 (isPath g (r .path)) (pairingLength (r .pairing)) (every (λ p. ltb p (g .pairs)) (r .pairing)) (sameList (spelled (g .lexical) (r .pairing)) (joined (map (g .form) (r .path)))) (fewNulls (g .lexical) (r .pairing)) (wordLength (word g r)) (fewNulls (g .surface) (r .pairing)) (passes g (r .pairing)) t
+    parts : Parts g r
+    parts = parts-of g r t
 
     pub reading-path : T (isPath g (r .path))
-    reading-path = parts .0
+    reading-path = parts .path-right
 
     pub reading-pairs : T (every (λ p. ltb p (g .pairs)) (r .pairing))
-    reading-pairs = parts .2
+    reading-pairs = parts .pairs-listed
 
     pub reading-forms : spelled (g .lexical) (r .pairing) ≡ joined (map (g .form) (r .path))
-    reading-forms = same-out (spelled (g .lexical) (r .pairing)) (joined (map (g .form) (r .path))) (parts .3)
+    reading-forms = parts .forms-spelled
 
     pub reading-word : T (wordLength (word g r))
-    reading-word = parts .5
+    reading-word = and-out (wordLength (word g r)) (fewNulls (g .surface) (r .pairing)) (parts .surface-right) .0
 
     pub reading-tables : (rule : ℕ) → rule < g .rules → T (accepts (g .next rule) (g .final rule) 1 (fed (g .pairs) (r .pairing)))
     unfolding passes
-    reading-tables rule h = every-at (λ x. accepts (g .next x) (g .final x) 1 (fed (g .pairs) (r .pairing))) (below (g .rules)) (below-has (g .rules) rule h) (parts .7)
+    reading-tables rule h = every-at (λ x. accepts (g .next x) (g .final x) 1 (fed (g .pairs) (r .pairing))) (below (g .rules)) (below-has (g .rules) rule h) (parts .passing)
 
 -- what stands in a proper beginning stands in the whole
 beginning-among : (xs ys : List (List ℕ)) → ProperBeginning xs ys → (x : List ℕ) → List·Memᴰ x xs → List·Memᴰ x ys

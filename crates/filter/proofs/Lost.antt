@@ -10,7 +10,7 @@ use Rattle.model.specs.Lists.{below, given, flatMap}
 use Rattle.model.specs.Grammar.{Grammar}
 use Rattle.model.specs.Readings.{Reading}
 use Rattle.model.specs.Query.{Query}
-use Rattle.model.specs.Tree.{Node, opens, isNil, spells, left, lettersAnd, nullsAnd, allowsSide, levelEnds, countAt, mayAt, goAt, complete}
+use Rattle.model.specs.Tree.{Node, opens, isNil, spells, left, lettersAnd, nullsAnd, allowsSide, levelMay, levelEnds, lineMay, lineEnds, countAt, mayAt, goAt, complete}
 use Rattle.model.proofs.Booleans.{and-out, out3, out5}
 use Rattle.model.proofs.Lists.{below-from}
 use Rattle.listing.specs.Gather.{grow, gather}
@@ -104,14 +104,20 @@ module _ (g : Grammar) (q : Query) (f : Feasible) (after : ℕ → ℕ → Bool)
     unfolding mayAt goAt
     step-pair n p o inside may s =
         let u = out5 (spells (n .rest) (g .lexical p)) (ltb (n .pairs) 40) (leb (nullsAnd (n .nulls) (g .lexical p)) 8) _ _ may in
-        let v = out3 (allowsSide (q .letters) (n .surface .letters) (g .surface p)) (leb (lettersAnd (n .surface .letters) (g .surface p)) 32) (leb (nullsAnd (n .surface .nulls) (g .surface p)) 8) (u .3) in
+        let level = and-out (levelMay (g .surface) (q .letters) (n .surface) p) (lineMay (g .spoken) (q .spoken) (n .spoken) p) (u .3) .0 in
+        let c = n .surface in
+        let v = out3 (allowsSide (q .letters) (c .letters) (g .surface p)) (leb (lettersAnd (c .letters) (g .surface p)) 32) (leb (nullsAnd (c .nulls) (g .surface p)) 8) level in
         hope-pair (g .lexical p) (g .surface p) (n .rest) (n .ended) (n .stop) (n .ways) (n .nulls) (n .surface .letters) o (u .0) (leb→le _ 8 (u .2))
         (fed-from p inside (n .surface .letters) (g .surface p) refl (v .0) (v .1)) s
 
     ends-hope : (n : Node) → T (complete g q n) → HopeAt g q f after n
     unfolding complete
-    ends-hope n t = let u = out5 (isNil (n .rest)) (n .ended) (q .entries .mayEnd (n .entries)) (levelEnds (g .surface) (q .letters) (n .surface)) _ t in
-        go (n .rest) (n .ended) (u .0) (u .1) (and-out (ltb 0 (n .surface .letters)) (q .letters .mayEnd (n .surface .letters)) (u .3) .1)
+    ends-hope n t =
+        let surface = levelEnds (g .surface) (q .letters) (n .surface) in
+        let spoken = lineEnds (g .spoken) (q .spoken) (n .spoken) in
+        let u = out5 (isNil (n .rest)) (n .ended) (q .entries .mayEnd (n .entries)) (surface && spoken) _ t in
+        let level = and-out surface spoken (u .3) .0 in
+        go (n .rest) (n .ended) (u .0) (u .1) (and-out (ltb 0 (n .surface .letters)) (q .letters .mayEnd (n .surface .letters)) level .1)
       where
         go : (rest : List ℕ) (ended : Bool) → T (isNil rest) → T ended → T (q .letters .mayEnd (n .surface .letters)) → Hope g q f after (8 - n .nulls) rest ended (n .stop) (n .ways) (n .surface .letters)
         go [] true a b m = here f (8 - n .nulls) (λ k. T (q .letters .mayEnd k)) (n .surface .letters) m

@@ -1,10 +1,10 @@
--- Analysis of a word: what its sets have to hold, and what is kept of each lexicon to begin with.
+-- A word, or what else may stand at so many places: what its sets have to hold, and what is kept of each lexicon to begin with.
 use Prim.Native.Nat.{ℕ, zero, suc, _*_, _-_, _/_, _%_, _^_, _<_, _≤_}
 use native.Mathlib.Omega.{arith}
 use native.Mathlib.Nat.{pow-suc}
-use mathlib.Core.Bool.{Bool, _&&_, cond}
+use mathlib.Core.Bool.{Bool, cond}
 use mathlib.Core.Logic.{_⊎_, inl, inr}
-use mathlib.Core.Path.{_≡_, refl, sym, ap, _∙_, subst}
+use mathlib.Core.Path.{_≡_, refl, sym, ap, _∙_, subst, fun-ext}
 use mathlib.Core.List.{List}
 use lib.ListN.{length, getD}
 use lib.Pow.{pow-pos}
@@ -14,39 +14,40 @@ use Rattle.model.specs.Lists.{isZero, bit}
 use Rattle.model.specs.Blocks.{header}
 use Rattle.model.specs.Lexicon.{entry, formOf, continuation}
 use Rattle.model.specs.GrammarOf.{grammarOf}
-use Rattle.model.specs.Query.{Pattern, Query, exactly}
+use Rattle.model.specs.Query.{Pattern, Query, exactly, anything}
 use Rattle.model.proofs.Booleans.{and-out, eq→eqb}
 use Rattle.positions.specs.Positions.{Feasible, Inserted}
 use Rattle.filter.specs.Reach.{Covers}
 use Rattle.filter.specs.Lexicons.{afterIn, Reaches}
 use Rattle.positions.specs.Masks.{backSpreadMask}
 use Rattle.positions.specs.Stack.{setOf, deletesOf, feasibleOf, reachOf, Begins}
-use Rattle.forms.specs.Letters.{rowCount, rowLetter}
 use Rattle.forms.specs.Forms.{rowsIn, flagsIn, FormsOf}
 use Rattle.filter.specs.Letters.{Wrote}
 use Rattle.filter.proofs.Backwards.{Means, spread-means}
 use Rattle.filter.proofs.Reach.{Continues, leads-within, inserted-within}
 
--- this word, whatever is asked of the path
-abbrev pub asksWord : List ℕ → Pattern → Query
-asksWord word path = record { entries = path; letters = exactly word }
+-- a word allows letters at its own places alone
+pub exactly-within : (word : List ℕ) (i s : ℕ) → T (exactly word .allows i s) → i < length word
+exactly-within word i s t = ltb→lt i (length word) (and-out (ltb i (length word)) (eqb (getD word i 0) s) t .0)
 
--- the sets that rows by surface letter make of a word's letters
-module _ (image forms word masks : List ℕ) (path : Pattern) (f : FormsOf image forms) (w : Wrote (rowsIn forms) word masks (length word)) where
-  wrote-paired : (p : ℕ) → p < header image .pairs → (i : ℕ) → (grammarOf image .surface p ≡ 0 → ⊥) → T (ltb i (length word) && eqb (getD word i 0) (grammarOf image .surface p)) → T (bit (getD masks (grammarOf image .lexical p) 0) i)
+-- this is asked of the word, whatever is asked of the path
+abbrev pub asksWord : Pattern → Pattern → Query
+asksWord t path = record { entries = path; letters = t; spoken = anything }
+
+-- the sets that rows by surface letter make of what may stand at n places
+module _ (image forms masks : List ℕ) (t path : Pattern) (n : ℕ) (placed : (i s : ℕ) → T (t .allows i s) → i < n) (f : FormsOf image forms) (w : Wrote (rowsIn forms) t masks n) where
+  wrote-paired : (p : ℕ) → p < header image .pairs → (i : ℕ) → (grammarOf image .surface p ≡ 0 → ⊥) → T (t .allows i (grammarOf image .surface p))
+      → T (bit (getD masks (grammarOf image .lexical p) 0) i)
   wrote-paired p inside i some allows =
       let s = grammarOf image .surface p in
-      let u = and-out (ltb i (length word)) (eqb (getD word i 0) s) allows in
-      let same : getD word i 0 ≡ s = eqb→eq (getD word i 0) s (u .1) in
       let r = f .paired p inside some in
-      subst (λ (a : ℕ). T (bit (getD masks a 0) i)) (ap (λ (x : ℕ). rowLetter (rowsIn forms) x (r .0)) same ∙ r .1 .1)
-      (w .stands i (ltb→lt i (length word) (u .0)) (r .0) (subst (λ (x : ℕ). r .0 < rowCount (rowsIn forms) x) (sym same) (r .1 .0)))
+      subst (λ (a : ℕ). T (bit (getD masks a 0) i)) (r .1 .1) (w .stands i (placed i s allows) s allows (r .0) (r .1 .0))
 
   inside-is : {p : ℕ} → p < grammarOf image .pairs → p < header image .pairs
   unfolding grammarOf
   inside-is h = h
 
-  pub word-covers : Covers (grammarOf image) (asksWord word path) (feasibleOf masks (flagsIn forms))
+  pub word-covers : Covers (grammarOf image) (asksWord t path) (feasibleOf masks (flagsIn forms))
   word-covers = record {
     paired = λ p inside i few some allows. wrote-paired p (inside-is inside) i some allows;
     deleted = λ p inside e. not-T (isZero (getD (flagsIn forms) (grammarOf image .lexical p) 0)) (λ z. f .deleted p (inside-is inside) e (eqb→eq (getD (flagsIn forms) (grammarOf image .lexical p) 0) 0 z));
@@ -98,40 +99,42 @@ one-has zero = tt
 one-has (suc j) = let e : 2 ^ suc j / 2 ≡ 2 ^ j = ap (λ (x : ℕ). x / 2) (pow-suc 2 j) ∙ omega arith in subst (λ (x : ℕ). T (bit x j)) (sym e) (one-has j)
 
 -- to begin with: every position up to the word's end for each lexicon, and the end spread backwards
-module _ (image word masks flags reach : List ℕ) (path : Pattern) (most : header image .lexicons ≤ 64) where
+module _ (image masks flags reach : List ℕ) (t path : Pattern) (n : ℕ) (ends : (k : ℕ) → t .mayEnd k ≡ eqb k n) (most : header image .lexicons ≤ 64) where
   abbrev f : Feasible
   f = feasibleOf masks flags
 
   abbrev Begun : Type 0
-  Begun = Begins masks (2 ^ length word) (header image .lexicons) reach
+  Begun = Begins masks (2 ^ n) (header image .lexicons) reach
 
   module _ (begins : Begun) where
-    lexicons : (x : ℕ) → x < header image .lexicons → getD reach x 0 ≡ 2 ^ suc (length word) - 1
-    lexicons x l = begins .lexicons x l ∙ ap (λ (m : ℕ). m - 1) (omega (arith, pow-suc 2 (length word)))
+    lexicons : (x : ℕ) → x < header image .lexicons → getD reach x 0 ≡ 2 ^ suc n - 1
+    lexicons x l = begins .lexicons x l ∙ ap (λ (m : ℕ). m - 1) (omega (arith, pow-suc 2 n))
 
-  ends-at : Means (setOf masks flags) (deletesOf masks flags) (2 ^ length word) (λ k. T (eqb k (length word)))
-  ends-at = record { only = λ i t. eq→eqb i (length word) (one-only (length word) i t); all = λ i t. subst (λ (x : ℕ). T (bit (2 ^ length word) x)) (sym (eqb→eq i (length word) t)) (one-has (length word)) }
+  ends-at : Means (setOf masks flags) (deletesOf masks flags) (2 ^ n) (λ k. T (eqb k n))
+  ends-at = record { only = λ i t. eq→eqb i n (one-only n i t); all = λ i t. subst (λ (x : ℕ). T (bit (2 ^ n) x)) (sym (eqb→eq i n t)) (one-has n) }
 
-  end-means : Means (setOf masks flags) (deletesOf masks flags) (backSpreadMask 8 (setOf masks flags 0) (2 ^ length word)) (Inserted f 8 (λ k. T (eqb k (length word))))
-  end-means = spread-means (setOf masks flags) (deletesOf masks flags) 8 (2 ^ length word) (λ k. T (eqb k (length word))) ends-at
+  end-means : Means (setOf masks flags) (deletesOf masks flags) (backSpreadMask 8 (setOf masks flags 0) (2 ^ n)) (Inserted f 8 (λ k. T (eqb k n)))
+  end-means = spread-means (setOf masks flags) (deletesOf masks flags) 8 (2 ^ n) (λ k. T (eqb k n)) ends-at
 
   -- whatever is kept stands within the word
-  kept-within : Begun → (x : ℕ) → (x < header image .lexicons) ⊎ (x ≡ 255) → (k : ℕ) → T (reachOf reach x k) → k ≤ length word
+  kept-within : Begun → (x : ℕ) → (x < header image .lexicons) ⊎ (x ≡ 255) → (k : ℕ) → T (reachOf reach x k) → k ≤ n
   kept-within b x (inl l) k t =
       let end : x ≡ 255 → ⊥ = λ z. omega arith in
-      ones-only (length word) k (subst (λ (m : ℕ). T (bit m k)) (lexicons b x l) (subst (λ (c : Bool). T (bit (getD reach (cond c 64 x) 0) k)) (ne-eqb x 255 end) t))
+      ones-only n k (subst (λ (m : ℕ). T (bit m k)) (lexicons b x l) (subst (λ (c : Bool). T (bit (getD reach (cond c 64 x) 0) k)) (ne-eqb x 255 end) t))
   kept-within b x (inr e) k t =
-      inserted-within f (length word) 8 (λ k. T (eqb k (length word))) (λ k z. omega (arith, eqb→eq k (length word) z)) k
+      inserted-within f n 8 (λ k. T (eqb k n)) (λ k z. omega (arith, eqb→eq k n z)) k
       (end-means .only k (subst (λ (m : ℕ). T (bit m k)) (b .ends) (subst (λ (y : ℕ). T (reachOf reach y k)) e t)))
 
-  pub word-reaches : Begun → Continues image (asksWord word path) f → Reaches image (asksWord word path) f (reachOf reach)
+  pub word-reaches : Begun → Continues image (asksWord t path) f → Reaches image (asksWord t path) f (reachOf reach)
   word-reaches b c = record {
     continues = c;
-    at-end = λ i s. subst (λ (m : ℕ). T (bit m i)) (sym (b .ends)) (end-means .all i s);
-    onward = λ x l e inside has i s. place x l i (leads-within f (length word) (formOf (entry image e)) (λ k. T (afterIn image (asksWord word path) f (reachOf reach) e k)) (λ k t. kept-within b (continuation (entry image e)) (c e inside) k t) i s);
+    at-end = λ i s. subst (λ (m : ℕ). T (bit m i)) (sym (b .ends)) (end-means .all i (subst (λ (h : ℕ → Bool). Inserted f 8 (λ k. T (h k)) i) (fun-ext ends) s));
+    onward = λ x l e inside has i s.
+        let on : ℕ → Type 0 = λ k. T (afterIn image (asksWord t path) f (reachOf reach) e k) in
+        place x l i (leads-within f n (formOf (entry image e)) on (λ k t. kept-within b (continuation (entry image e)) (c e inside) k t) i s);
   }
     where
-      place : (x : ℕ) → x < header image .lexicons → (i : ℕ) → i ≤ length word → T (reachOf reach x i)
+      place : (x : ℕ) → x < header image .lexicons → (i : ℕ) → i ≤ n → T (reachOf reach x i)
       place x l i h =
           let end : x ≡ 255 → ⊥ = λ z. omega arith in
-          subst (λ (c : Bool). T (bit (getD reach (cond c 64 x) 0) i)) (sym (ne-eqb x 255 end)) (subst (λ (m : ℕ). T (bit m i)) (sym (lexicons b x l)) (ones-has (length word) i h))
+          subst (λ (c : Bool). T (bit (getD reach (cond c 64 x) 0) i)) (sym (ne-eqb x 255 end)) (subst (λ (m : ℕ). T (bit m i)) (sym (lexicons b x l)) (ones-has n i h))

@@ -2,7 +2,7 @@
 use Prim.Native.Nat.{ℕ, _+_, _%_, _<_, _≤_}
 use native.Mathlib.Omega.{arith}
 use mathlib.Core.Bool.{Bool, true, false, _&&_}
-use mathlib.Core.Path.{_≡_, refl, ap}
+use mathlib.Core.Path.{_≡_, refl, ap, _∙_}
 use mathlib.Core.List.{List, map}
 use lib.ListN.{length}
 use lib.Dec.{T, leb, ltb, eqb}
@@ -15,6 +15,7 @@ use Rattle.model.specs.Readings.{nulls, spelled, fewNulls, wordLength, pairingL
 use Rattle.model.specs.Query.{entryNumbers}
 use Rattle.model.proofs.Booleans.{and-out, and-in, true-of}
 use Rattle.model.proofs.Booleans.{within-below, within-above, within-true}
+use Rattle.model.proofs.Spoken.{two-level, image-two-level}
 use Rattle.rules.specs.Paths.{formsOf}
 use Rattle.judge.specs.Reading.{Listed, levelsRight, judgedReading}
 use Rattle.rules.proofs.PathLaws.{lengthRight}
@@ -96,7 +97,6 @@ module _ (image path pairing : List ℕ) (t11 : T (lengthRight path)) (t12 : T (
   pairs-listed = true-of (every (λ p. ltb p (header image .pairs)) pairing) is-listed
 
   pub reading-is : isReading (grammarOf image) (judgedReading path pairing) ≡ (levelsRight image path pairing && passes (grammarOf image) pairing)
-  unfolding isReading
   reading-is =
       let long = true-of (pairingLength pairing) (and-out (pairingLength pairing) (every (λ p. ltb p (header image .pairs)) pairing) t13 .0) in
-      rw (is-path, long, pairs-listed) refl
+      two-level (grammarOf image) (image-two-level image) (judgedReading path pairing) ∙ rw (is-path, long, pairs-listed) refl

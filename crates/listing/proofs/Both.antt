@@ -5,11 +5,11 @@ use mathlib.Core.Logic.{_↔_}
 use mathlib.Core.List.{List, map, List·Memᴰ}
 use lib.Dec.{T}
 use Rattle.model.specs.Grammar.{Grammar, OneWay}
-use Rattle.model.specs.Readings.{Reading, isReading, word, steps, Ascending}
-use Rattle.model.specs.Query.{Query, fits, exactly, answers, entryNumbers}
+use Rattle.model.specs.Readings.{Reading, isReading, word, speech, steps, Ascending}
+use Rattle.model.specs.Query.{Query, answers, entryNumbers}
 use Rattle.model.specs.Tree.{readings}
-use Rattle.model.proofs.Booleans.{and-out, and-in}
-use Rattle.model.proofs.Converse.{exactly-iff}
+use Rattle.model.proofs.Readings.{answers-out, answers-in}
+use Rattle.model.proofs.Converse.{exactly-iff, anything-fits}
 use Rattle.model.proofs.Listing.{listing-iff}
 use Rattle.model.proofs.Endings.{plain-listing}
 use Rattle.listing.specs.declared.asked.PathAsked.{PathAsked}
@@ -21,11 +21,11 @@ module _ (g : Grammar) (path w : List ℕ) where
   both = queryBy (record { path = PathAsked.Exactly; word = WordAsked.Exactly }) path w
 
   answers-both : (r : Reading) → T (answers g both r) ↔ ((r .path ≡ entryNumbers path) × (word g r ≡ w))
-  unfolding answers pathPattern wordPattern
+  unfolding pathPattern wordPattern
   answers-both r =
       let es = entryNumbers path in (
-        λ t. let a = and-out (fits (exactly es) 0 (r .path)) (fits (exactly w) 0 (word g r)) t in (exactly-iff es (r .path) .0 (a .0), exactly-iff w (word g r) .0 (a .1)),
-        λ e. and-in (fits (exactly es) 0 (r .path)) (fits (exactly w) 0 (word g r)) (exactly-iff es (r .path) .1 (e .0)) (exactly-iff w (word g r) .1 (e .1)),
+        λ t. let a = answers-out g r both t in (exactly-iff es (r .path) .0 (a .0), exactly-iff w (word g r) .0 (a .1)),
+        λ e. answers-in g r both (exactly-iff es (r .path) .1 (e .0)) (exactly-iff w (word g r) .1 (e .1)) (anything-fits 0 (speech g r)),
       )
 
   pub both-iff : OneWay g → (l : List Reading) → (((r : Reading) → List·Memᴰ r l ↔ (T (isReading g r) × ((r .path ≡ entryNumbers path) × (word g r ≡ w)))) × Ascending (map (steps g) l)) ↔ (l ≡ readings g both)

@@ -79,6 +79,7 @@ module _ (image : List ℕ) (h : Header) (a : Accepted image h) (e : ℕ) (insid
           pairs = p;
           nulls = place .nulls;
           surface = levelOf (place .surface);
+          spoken = levelOf (place .surface);
           states = take (header image .rules) (place .states);
         }
 

@@ -3,18 +3,18 @@ use Prim.Native.Nat.{ℕ, zero, suc, _-_, _<_, _≤_}
 use native.Mathlib.Omega.{arith}
 use native.Mathlib.Decide.{decLt}
 use mathlib.Core.Bool.{Bool, true, false, _&&_, false≢true}
-use mathlib.Core.Path.{_≡_, refl, sym, ap₂, _∙_, subst}
+use mathlib.Core.Path.{_≡_, refl, sym, ap, ap₂, _∙_, subst}
 use mathlib.Core.List.{List, [], _∷_}
 use lib.ListN.{length, getD, take, drop}
 use lib.Seq.{drop-cons}
-use lib.Dec.{T, leb, ltb, eqb}
-use borrow.Author.Tests.{lt-ltb}
+use lib.Dec.{T, leb, ltb, eqb, ltb→lt}
+use borrow.Author.Tests.{lt-ltb, le-leb}
 use Rattle.model.specs.Lists.{every, within}
 use Rattle.model.specs.Blocks.{Header, header}
 use Rattle.model.specs.GrammarOf.{grammarOf}
-use Rattle.model.specs.Query.{Pattern, Query}
-use Rattle.model.specs.Tree.{spells, left, lettersAnd, nullsAnd, isNil, mayAt, goAt, complete}
-use Rattle.model.proofs.Booleans.{and-out, true-of}
+use Rattle.model.specs.Query.{Pattern, Query, anything}
+use Rattle.model.specs.Tree.{Level, spells, left, lettersAnd, nullsAnd, allowsSide, levelMay, lineMay, isNil, mayAt, goAt, complete}
+use Rattle.model.proofs.Booleans.{and-out, true-of, of-true, right-true, within-true}
 use Rattle.image.specs.Accepted.{Accepted}
 use Rattle.image.proofs.Records.{total-most}
 use Rattle.letters.proofs.Laws.{pairAt}
@@ -77,6 +77,27 @@ levelLets image t place p = levelMayBy t (levelOf (place .surface)) (pairAt imag
 abbrev pub rulesLet : List ℕ → Place → ℕ → Bool
 rulesLet image place p = aliveOf (grammarOf image) (stepOf (grammarOf image) (place .states) p)
 
+allows-anything : (i x : ℕ) → allowsSide anything i x ≡ true
+allows-anything i zero = refl
+allows-anything i (suc x) = refl
+
+-- where nothing is asked of the spoken line, the surface level decides whether a pair may be taken
+spoken-free : (surface spoken : ℕ → ℕ) (t u : Pattern) → u ≡ anything → (c d : Level) (p : ℕ) → (levelMay surface t c p && lineMay spoken u d p) ≡ levelMay surface t c p
+spoken-free surface spoken t u free c d p =
+    let allowed : lineMay spoken u d p ≡ true = ap (λ (v : Pattern). allowsSide v (d .letters) (spoken p)) free ∙ allows-anything (d .letters) (spoken p) in
+    right-true (levelMay surface t c p) (lineMay spoken u d p) allowed
+
+-- in a grammar of two levels the spoken line ends where the surface does: its bounds are kept
+spoken-ends : (l n : ℕ) (m e : Bool) → l ≤ 32 → n ≤ 8 → e ≡ true → (ltb 0 l && m && (within 1 32 l && leb n 8 && e)) ≡ (ltb 0 l && m)
+spoken-ends l n m e h k t = go (ltb 0 l) refl
+  where
+    go : (b : Bool) → ltb 0 l ≡ b → (b && m && (within 1 32 l && leb n 8 && e)) ≡ (b && m)
+    go false q = refl
+    go true q =
+        let some = ltb→lt 0 l (of-true (ltb 0 l) q) in
+        let ends : (within 1 32 l && leb n 8 && e) ≡ true = ap₂ (λ (a b : Bool). a && b && e) (within-true 1 32 l (omega arith) h) (le-leb n 8 k) ∙ t in
+        right-true m (within 1 32 l && leb n 8 && e) ends
+
 -- the place after pair p, part by part
 pub record Moved (image : List ℕ) (place : Place) (p : ℕ) (after : Place) : Type 0 where
   pub from-is : after .from ≡ lettersAnd (place .from) (pairAt image p .lexical)
@@ -94,10 +115,14 @@ pub record SpellsOn (image : List ℕ) (place : Place) (p : ℕ) : Type 0 where
   pub stands : Standing image place
   pub spells-on : T (spells (restOf image place) (pairAt image p .lexical))
 
-module _ {image : List ℕ} {place : Place} {p : ℕ} (q : Query) (here : SpellsOn image place p) where
+module _ {image : List ℕ} {place : Place} {p : ℕ} (q : Query) (here : SpellsOn image place p) (free : q .spoken ≡ anything) where
   pair-tests : (n m : ℕ) → m < 40 → mayAt (grammarOf image) q false (nodeOf image place n m) p ≡ (nullsLet image place p && levelLets image (q .letters) place p && rulesLet image place p)
   unfolding mayAt nodeOf grammarOf levelMayBy
-  pair-tests n m h = rw (true-of (spells (restOf image place) (pairAt image p .lexical)) (here .spells-on), lt-ltb m 40 h) refl
+  pair-tests n m h =
+      let side : ℕ → ℕ = λ p. pairAt image p .surface in
+      let level = levelOf (place .surface) in
+      rw (true-of (spells (restOf image place) (pairAt image p .lexical)) (here .spells-on), lt-ltb m 40 h)
+      (ap (λ (b : Bool). nullsLet image place p && b && rulesLet image place p) (spoken-free side side (q .letters) (q .spoken) free level level p))
 
   -- not taken, by the first test that fails, whatever place is answered then
   refused : (nullsLet image place p && levelLets image (q .letters) place p && rulesLet image place p) ≡ false → {after : Place} → Took image q place p false after
@@ -131,6 +156,7 @@ module _ {image : List ℕ} {place : Place} {p : ℕ} (q : Query) (here : Spells
           pairs = suc m;
           nulls = moved .nulls-are i;
           surface = moved .level-is i;
+          spoken = moved .level-is i;
           states = moved .states-are i;
         }
 
@@ -150,10 +176,15 @@ module _ {image : List ℕ} {place : Place} {p : ℕ} (q : Query) (here : Spells
     took a b c = record { may-is = λ n m k. sym (pair-tests n m k ∙ rw (a, b, c) refl); node-is = λ f. after-node; stands = λ f. after-stands }
 
 -- the tests that are left for the end of a reading, where every letter is paired and the path has ended
-module _ (image : List ℕ) (q : Query) (place : Place) (n m : ℕ) (here : (place .from ≡ place .to) × (place .last ≡ ended)) where
+module _ (image : List ℕ) (q : Query) (place : Place) (n m : ℕ) (here : (place .from ≡ place .to) × (place .last ≡ ended))
+    (free : q .spoken ≡ anything) (bounded : Bounded (place .surface)) where
   nothing-left : isNil (restOf image place) ≡ true
   nothing-left = let z : place .to - place .from ≡ 0 = omega (arith, here .0) in rw z refl
 
   pub end-tests : complete (grammarOf image) q (nodeOf image place n m) ≡ (q .entries .mayEnd n && (ltb 0 (place .surface .letters) && q .letters .mayEnd (place .surface .letters)) && finishOf (grammarOf image) (place .states))
   unfolding complete nodeOf grammarOf
-  end-tests = rw (nothing-left, here .1) refl
+  end-tests =
+      let l = place .surface .letters in
+      let line = spoken-ends l (place .surface .nulls) (q .letters .mayEnd l) (q .spoken .mayEnd l) (bounded .letters-in) (bounded .nulls-in) (ap (λ (v : Pattern). v .mayEnd l) free) in
+      rw (nothing-left, here .1)
+      (ap (λ (b : Bool). q .entries .mayEnd n && b && finishOf (grammarOf image) (place .states)) line)

@@ -18,7 +18,7 @@ wordPattern WordAsked.Exactly word = exactly word
 
 -- this word, whatever is asked of the path
 abbrev pub wordQuery : WordAsked → List ℕ → Pattern → Query
-wordQuery asked word path = record { entries = path; letters = wordPattern asked word }
+wordQuery asked word path = record { entries = path; letters = wordPattern asked word; spoken = anything }
 
 abbrev pub queryBy : Asked → List ℕ → List ℕ → Query
 queryBy asked path word = wordQuery (asked .word) word (pathPattern (asked .path) path)

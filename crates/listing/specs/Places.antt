@@ -50,6 +50,7 @@ nodeOf image p entries pairs =
       pairs = pairs;
       nulls = p .nulls;
       surface = levelOf (p .surface);
+      spoken = levelOf (p .surface);  -- a two-level grammar's: the same line
       states = take (header image .rules) (p .states);
     }
 

@@ -1,6 +1,6 @@
 -- Tests joined by &&, taken apart and put together; tests of numbers and lists.
 use Prim.Native.Nat.{ℕ, _<_, _≤_}
-use mathlib.Core.Bool.{Bool, true, false, _&&_, _||_, not}
+use mathlib.Core.Bool.{Bool, true, false, _&&_, _||_, not, and-comm}
 use mathlib.Core.Path.{_≡_, refl, ap, subst}
 use mathlib.Core.List.{List, [], _∷_}
 use lib.Dec.{T, leb, eqb, eqb→eq, eqb-refl, leb→le, le→leb}
@@ -24,6 +24,10 @@ and-exchange false b c d = refl
 and-exchange true true c d = refl
 and-exchange true false true d = refl
 and-exchange true false false d = refl
+
+pub and-swap : (a b c : Bool) → (a && b && c) ≡ (a && c && b)
+and-swap false b c = refl
+and-swap true b c = and-comm b c
 
 pub left-or : (a b : Bool) → T a → T (a || b)
 left-or true b t = tt

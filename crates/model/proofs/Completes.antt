@@ -11,10 +11,10 @@ use Rattle.model.specs.Lexicon.{linked}
 use Rattle.model.specs.Grammar.{Grammar}
 use Rattle.model.specs.Readings.{nulls, withoutNulls, spelled}
 use Rattle.model.specs.Query.{Query, fits}
-use Rattle.model.specs.Tree.{Node, opens, isNil, spells, left, nullsAnd, levelMay, levelEnds, stepAll, alive, finish, countAt, mayAt, goAt, complete}
+use Rattle.model.specs.Tree.{Node, opens, isNil, spells, left, nullsAnd, levelMay, levelEnds, lineMay, lineEnds, stepAll, alive, finish, countAt, mayAt, goAt, complete}
 use Rattle.model.proofs.Booleans.{and-out, and-in, out3, in3, out5, in5, eq→eqb, not-out, true-of, of-true}
 use Rattle.model.proofs.Rules.{passesFrom, passes-alive, passes-from, passes-to, finish-from, finish-to}
-use Rattle.model.proofs.Levels.{LevelSane, LevelDone, level-to, level-from, level-end-to, level-end-from, level-sane, nulls-step}
+use Rattle.model.proofs.Levels.{LevelSane, LevelDone, level-to, level-from, level-end-to, level-end-from, level-sane, line-step-to, line-step-from, line-end-to, line-end-from, nulls-step}
 
 -- the lexical side of a pair, and the letters left
 spells-from : (a : ℕ) (rest xs us : List ℕ) → (rest ≡ [] → us ≡ []) → withoutNulls (a ∷ xs) ≡ rest ++ us → T (spells rest a) × (withoutNulls xs ≡ left rest a ++ us)
@@ -69,6 +69,7 @@ pub record Completes (g : Grammar) (q : Query) (n : Node) (es ps : List ℕ) : T
   pub forms-spelled : spelled (g .lexical) ps ≡ n .rest ++ joined (map (g .form) es)
   pub nulls-in : n .nulls + nulls (map (g .lexical) ps) ≤ 8
   pub surface-done : LevelDone (g .surface) (q .letters) (n .surface) ps
+  pub spoken-done : LevelDone (g .spoken) (q .spoken) (n .spoken) ps
   pub passing : T (passesFrom (g .rules) (g .next) (g .final) (g .pairs) (n .states) ps)
   pub path-asked : T (fits (q .entries) (n .entries) es)
 
@@ -90,6 +91,7 @@ module _ (g : Grammar) (q : Query) (n : Node) where
         forms-spelled = rw ((opens-true n o) .0) (c .forms-spelled);
         nulls-in = c .nulls-in;
         surface-done = c .surface-done;
+        spoken-done = c .spoken-done;
         passing = c .passing;
         path-asked = and-in (q .entries .allows (n .entries) e) (fits (q .entries) (suc (n .entries)) es) (m .2) (c .path-asked);
       }
@@ -111,6 +113,7 @@ module _ (g : Grammar) (q : Query) (n : Node) where
           forms-spelled = rw ((opens-true n o) .0) at (c .forms-spelled);
           nulls-in = c .nulls-in;
           surface-done = c .surface-done;
+          spoken-done = c .spoken-done;
           passing = c .passing;
           path-asked = f .1;
         },
@@ -127,6 +130,7 @@ module _ (g : Grammar) (q : Query) (n : Node) where
     forms-spelled = c .forms-spelled;
     nulls-in = c .nulls-in;
     surface-done = c .surface-done;
+    spoken-done = c .spoken-done;
     passing = c .passing;
     path-asked = c .path-asked;
   }
@@ -144,6 +148,7 @@ module _ (g : Grammar) (q : Query) (n : Node) where
       forms-spelled = c .forms-spelled;
       nulls-in = c .nulls-in;
       surface-done = c .surface-done;
+      spoken-done = c .spoken-done;
       passing = c .passing;
       path-asked = c .path-asked;
     },
@@ -153,25 +158,39 @@ module _ (g : Grammar) (q : Query) (n : Node) where
   pub no-entry : (es ps : List ℕ) → opens n ≡ false → Completes g q n es ps → n .rest ≡ [] → es ≡ []
   no-entry es ps o c e = nil-from es (rw (opens-false n o e) at (c .is-linked))
 
+  -- what the two lines ask of a pair, and of the end
+  abbrev surfaceMay : ℕ → Bool
+  surfaceMay p = levelMay (g .surface) (q .letters) (n .surface) p
+
+  abbrev spokenMay : ℕ → Bool
+  spokenMay p = lineMay (g .spoken) (q .spoken) (n .spoken) p
+
+  abbrev surfaceEnds : Bool
+  surfaceEnds = levelEnds (g .surface) (q .letters) (n .surface)
+
+  abbrev spokenEnds : Bool
+  spokenEnds = lineEnds (g .spoken) (q .spoken) (n .spoken)
+
   -- a pair: its five tests
   abbrev live : ℕ → Bool
   live p = alive (g .rules) (g .next) (g .final) (stepAll (g .rules) (g .next) (g .final) (n .states) p)
 
   Asks : ℕ → Type 0
-  Asks p = T (spells (n .rest) (g .lexical p)) × T (ltb (n .pairs) 40) × T (leb (nullsAnd (n .nulls) (g .lexical p)) 8) × T (levelMay (g .surface) (q .letters) (n .surface) p) × T (live p)
+  Asks p = T (spells (n .rest) (g .lexical p)) × T (ltb (n .pairs) 40) × T (leb (nullsAnd (n .nulls) (g .lexical p)) 8) × T (surfaceMay p && spokenMay p) × T (live p)
 
   may-from : (p : ℕ) → T (mayAt g q false n p) → Asks p
   unfolding mayAt Asks
-  may-from p t = out5 (spells (n .rest) (g .lexical p)) (ltb (n .pairs) 40) (leb (nullsAnd (n .nulls) (g .lexical p)) 8) (levelMay (g .surface) (q .letters) (n .surface) p) (live p) t
+  may-from p t = out5 (spells (n .rest) (g .lexical p)) (ltb (n .pairs) 40) (leb (nullsAnd (n .nulls) (g .lexical p)) 8) (surfaceMay p && spokenMay p) (live p) t
 
   may-to : (p : ℕ) → Asks p → T (mayAt g q false n p)
   unfolding mayAt Asks
-  may-to p t = in5 (spells (n .rest) (g .lexical p)) (ltb (n .pairs) 40) (leb (nullsAnd (n .nulls) (g .lexical p)) 8) (levelMay (g .surface) (q .letters) (n .surface) p) (live p) (t .0) (t .1) (t .2) (t .3) (t .4)
+  may-to p t = in5 (spells (n .rest) (g .lexical p)) (ltb (n .pairs) 40) (leb (nullsAnd (n .nulls) (g .lexical p)) 8) (surfaceMay p && spokenMay p) (live p) (t .0) (t .1) (t .2) (t .3) (t .4)
 
   pub pair-to : (p : ℕ) (es ps : List ℕ) → T (alive (g .rules) (g .next) (g .final) (n .states)) → p < countAt g q false n → T (mayAt g q false n p) → Completes g q (goAt g q false n p) es ps → Completes g q n es (p ∷ ps)
   unfolding countAt goAt Asks
   pair-to p es ps a hi t c =
       let m = may-from p t in
+      let l = and-out (surfaceMay p) (spokenMay p) (m .3) in
       record {
         is-linked = c .is-linked;
         entries-in = c .entries-in;
@@ -179,7 +198,8 @@ module _ (g : Grammar) (q : Query) (n : Node) where
         listed = and-in (ltb p (g .pairs)) (every (λ p. ltb p (g .pairs)) ps) (lt→ltb p (g .pairs) hi) (c .listed);
         forms-spelled = spells-to (g .lexical p) (n .rest) (map (g .lexical) ps) (joined (map (g .form) es)) (m .0) (c .forms-spelled);
         nulls-in = omega (arith, c .nulls-in, nulls-step (n .nulls) (g .lexical p) (map (g .lexical) ps));
-        surface-done = level-to (g .surface) (q .letters) (n .surface) p ps (m .3) (c .surface-done);
+        surface-done = level-to (g .surface) (q .letters) (n .surface) p ps (l .0) (c .surface-done);
+        spoken-done = line-step-to (g .spoken) (q .spoken) (n .spoken) p ps (l .1) (c .spoken-done);
         passing = passes-to (g .rules) (g .next) (g .final) (g .pairs) p (n .states) ps a (c .passing);
         path-asked = c .path-asked;
       }
@@ -190,12 +210,14 @@ module _ (g : Grammar) (q : Query) (n : Node) where
       let l = and-out (ltb p (g .pairs)) (every (λ p. ltb p (g .pairs)) ps) (c .listed) in
       let s = spells-from (g .lexical p) (n .rest) (map (g .lexical) ps) (joined (map (g .form) es)) (λ e. ap (λ (l : List ℕ). joined (map (g .form) l)) (no-entry es (p ∷ ps) o c e)) (c .forms-spelled) in
       let v = level-from (g .surface) (q .letters) (n .surface) p ps (c .surface-done) in
+      let w = line-step-from (g .spoken) (q .spoken) (n .spoken) p ps (c .spoken-done) in
       let x = nulls-step (n .nulls) (g .lexical p) (map (g .lexical) ps) in
       let z = passes-from (g .rules) (g .next) (g .final) (g .pairs) p (n .states) ps (c .passing) in
+      let lives : T (live p) = passes-alive (g .rules) (g .next) (g .final) (g .pairs) (stepAll (g .rules) (g .next) (g .final) (n .states) p) ps z in
       let k : n .pairs < 40 = omega (arith, c .pairs-in) in
       let y : nullsAnd (n .nulls) (g .lexical p) + nulls (map (g .lexical) ps) ≤ 8 = omega (arith, c .nulls-in, x) in (
         ltb→lt p (g .pairs) (l .0),
-        may-to p (s .0, lt→ltb (n .pairs) 40 k, le→leb (nullsAnd (n .nulls) (g .lexical p)) 8 (omega arith), v .0, passes-alive (g .rules) (g .next) (g .final) (g .pairs) (stepAll (g .rules) (g .next) (g .final) (n .states) p) ps z),
+        may-to p (s .0, lt→ltb (n .pairs) 40 k, le→leb (nullsAnd (n .nulls) (g .lexical p)) 8 (omega arith), and-in (surfaceMay p) (spokenMay p) (v .0) (w .0), lives),
         record {
           is-linked = c .is-linked;
           entries-in = c .entries-in;
@@ -204,6 +226,7 @@ module _ (g : Grammar) (q : Query) (n : Node) where
           forms-spelled = s .1;
           nulls-in = y;
           surface-done = v .1;
+          spoken-done = w .1;
           passing = z;
           path-asked = c .path-asked;
         },
@@ -216,7 +239,8 @@ module _ (g : Grammar) (q : Query) (n : Node) where
   pub end-to : Sane g n → T (complete g q n) → Completes g q n [] []
   unfolding complete linked
   end-to s t =
-      let m = out5 (isNil (n .rest)) (n .ended) (q .entries .mayEnd (n .entries)) (levelEnds (g .surface) (q .letters) (n .surface)) finishes t in
+      let m = out5 (isNil (n .rest)) (n .ended) (q .entries .mayEnd (n .entries)) (surfaceEnds && spokenEnds) finishes t in
+      let l = and-out surfaceEnds spokenEnds (m .3) in
       record {
         is-linked = rw (true-of (n .ended) (m .1)) tt;
         entries-in = omega (arith, s .entries-in);
@@ -224,14 +248,15 @@ module _ (g : Grammar) (q : Query) (n : Node) where
         listed = tt;
         forms-spelled = rw (nil-from (n .rest) (m .0)) refl;
         nulls-in = omega (arith, s .nulls-in);
-        surface-done = level-end-to (g .surface) (q .letters) (n .surface) (s .surface-sane) (m .3);
+        surface-done = level-end-to (g .surface) (q .letters) (n .surface) (s .surface-sane) (l .0);
+        spoken-done = line-end-to (g .spoken) (q .spoken) (n .spoken) (l .1);
         passing = finish-to (g .rules) (g .next) (g .final) (g .pairs) (n .states) (s .alive-states) (m .4);
         path-asked = m .2;
       }
 
   pub end-ended : T (complete g q n) → n .ended ≡ true
   unfolding complete
-  end-ended t = true-of (n .ended) ((out5 (isNil (n .rest)) (n .ended) (q .entries .mayEnd (n .entries)) (levelEnds (g .surface) (q .letters) (n .surface)) finishes t) .1)
+  end-ended t = true-of (n .ended) ((out5 (isNil (n .rest)) (n .ended) (q .entries .mayEnd (n .entries)) (surfaceEnds && spokenEnds) finishes t) .1)
 
   pub end-rest : (es : List ℕ) → Completes g q n es [] → n .rest ≡ []
   end-rest es c = append-nil-from (n .rest) (joined (map (g .form) es)) (sym (c .forms-spelled))
@@ -239,8 +264,12 @@ module _ (g : Grammar) (q : Query) (n : Node) where
   pub end-from : opens n ≡ false → Completes g q n [] [] → T (complete g q n)
   unfolding complete linked
   end-from o c =
-      in5 (isNil (n .rest)) (n .ended) (q .entries .mayEnd (n .entries)) (levelEnds (g .surface) (q .letters) (n .surface)) finishes
-      (rw (end-rest [] c) tt) (rw (opens-false n o (end-rest [] c)) tt) (c .path-asked) (level-end-from (g .surface) (q .letters) (n .surface) (c .surface-done)) (finish-from (g .rules) (g .next) (g .final) (g .pairs) (n .states) (c .passing))
+      in5 (isNil (n .rest)) (n .ended) (q .entries .mayEnd (n .entries)) (surfaceEnds && spokenEnds) finishes
+      (rw (end-rest [] c) tt)
+      (rw (opens-false n o (end-rest [] c)) tt)
+      (c .path-asked)
+      (and-in surfaceEnds spokenEnds (level-end-from (g .surface) (q .letters) (n .surface) (c .surface-done)) (line-end-from (g .spoken) (q .spoken) (n .spoken) (c .spoken-done)))
+      (finish-from (g .rules) (g .next) (g .final) (g .pairs) (n .states) (c .passing))
 
   -- the bounds hold after a step
   pub sane-step : (b : Bool) (x : ℕ) → Sane g n → T (mayAt g q b n x) → Sane g (goAt g q b n x)
@@ -252,5 +281,12 @@ module _ (g : Grammar) (q : Query) (n : Node) where
       record { alive-states = s .alive-states; entries-in = omega arith; pairs-in = s .pairs-in; nulls-in = s .nulls-in; surface-sane = s .surface-sane }
   sane-step false p s t =
       let m = may-from p t in
+      let l = and-out (surfaceMay p) (spokenMay p) (m .3) in
       let k = ltb→lt (n .pairs) 40 (m .1) in
-      record { alive-states = m .4; entries-in = s .entries-in; pairs-in = omega arith; nulls-in = leb→le (nullsAnd (n .nulls) (g .lexical p)) 8 (m .2); surface-sane = level-sane (g .surface) (q .letters) (n .surface) p (m .3) }
+      record {
+        alive-states = m .4;
+        entries-in = s .entries-in;
+        pairs-in = omega arith;
+        nulls-in = leb→le (nullsAnd (n .nulls) (g .lexical p)) 8 (m .2);
+        surface-sane = level-sane (g .surface) (q .letters) (n .surface) p (l .0);
+      }

@@ -1,7 +1,6 @@
 -- Demand 2's converse: a reading is among a word's readings exactly when it is among those of its path and spells that word.
 use Prim.Native.Nat.{ℕ, suc, _≤_, _<_}
-use mathlib.Core.Bool.{Bool, _&&_}
-use mathlib.Core.Path.{_≡_, refl, sym, ap, _∙_, subst}
+use mathlib.Core.Path.{_≡_, sym, ap, _∙_}
 use mathlib.Core.Logic.{_↔_}
 use mathlib.Core.List.{List, [], _∷_, List·Memᴰ, head-eq-of-cons-eq, tail-eq-of-cons-eq}
 use lib.ListN.{length, getD, drop, length-drop}
@@ -9,10 +8,11 @@ use lib.Seq.{drop-cons, drop-length}
 use lib.Dec.{T, ltb, eqb, ltb→lt, lt→ltb, eqb→eq}
 use native.Mathlib.Omega.{arith}
 use Rattle.model.specs.Grammar.{Grammar}
-use Rattle.model.specs.Readings.{Reading, isReading, isReadingOf, word}
-use Rattle.model.specs.Query.{Pattern, Query, fits, exactly, anything, answers, analysis, generation, queryOf, entryNumbers}
+use Rattle.model.specs.Readings.{Reading, isReading, isReadingOf, word, speech}
+use Rattle.model.specs.Query.{fits, exactly, anything, answers, analysis, generation, queryOf, entryNumbers}
 use Rattle.model.specs.Tree.{readings}
 use Rattle.model.proofs.Booleans.{and-out, and-in, out3, in3, eq→eqb, same-out, same-in}
+use Rattle.model.proofs.Readings.{answers-out, answers-in}
 use Rattle.model.proofs.Listing.{listing}
 
 -- the two patterns
@@ -36,44 +36,46 @@ module _ (w : List ℕ) where
   pub exactly-iff : (xs : List ℕ) → T (fits (exactly w) 0 xs) ↔ (xs ≡ w)
   exactly-iff xs = (exactly-from xs 0 (omega arith), exactly-to xs 0 (omega arith))
 
-anything-fits : (i : ℕ) (xs : List ℕ) → T (fits anything i xs)
+pub anything-fits : (i : ℕ) (xs : List ℕ) → T (fits anything i xs)
 anything-fits i [] = tt
 anything-fits i (x ∷ xs) = anything-fits (suc i) xs
 
 module _ (g : Grammar) where
-  reading-of : (w : List ℕ) (r : Reading) → T (isReadingOf g w r) ↔ (T (isReading g r) × (word g r ≡ w))
+  pub reading-of : (w : List ℕ) (r : Reading) → T (isReadingOf g w r) ↔ (T (isReading g r) × (word g r ≡ w))
   unfolding isReadingOf
   reading-of w r = (
     λ t. let u = and-out (isReading g r) _ t in (u .0, same-out (word g r) w (u .1)),
     λ t. and-in (isReading g r) _ (t .0) (same-in (word g r) w (t .1)),
   )
 
+  -- what analysis and generation ask of a reading
+  analysis-answers : (w : List ℕ) (r : Reading) → T (answers g (queryOf (analysis w)) r) ↔ (word g r ≡ w)
+  unfolding queryOf
+  analysis-answers w r = let q = queryOf (analysis w) in (
+    λ t. exactly-iff w (word g r) .0 (answers-out g r q t .1),
+    λ e. answers-in g r q (anything-fits 0 (r .path)) (exactly-iff w (word g r) .1 e) (anything-fits 0 (speech g r)),
+  )
+
+  generation-answers : (path : List ℕ) (r : Reading) → T (answers g (queryOf (generation path)) r) ↔ (r .path ≡ entryNumbers path)
+  unfolding queryOf
+  generation-answers path r = let q = queryOf (generation path) in (
+    λ t. exactly-iff (entryNumbers path) (r .path) .0 (answers-out g r q t .0),
+    λ e. answers-in g r q (exactly-iff (entryNumbers path) (r .path) .1 e) (anything-fits 0 (word g r)) (anything-fits 0 (speech g r)),
+  )
+
   -- analysis lists exactly the readings of the word
   pub analysis-iff : (w : List ℕ) (r : Reading) → List·Memᴰ r (readings g (queryOf (analysis w))) ↔ T (isReadingOf g w r)
-  unfolding queryOf answers
-  analysis-iff w r =
-      let q : Query = queryOf (analysis w) in (
-        λ h.
-            let t = (listing g q) .only r h in
-            let a = and-out (fits anything 0 (r .path)) (fits (exactly w) 0 (word g r)) (t .1) in
-            (reading-of w r) .1 (t .0, (exactly-iff w (word g r)) .0 (a .1)),
-        λ t.
-            let u = (reading-of w r) .0 t in
-            (listing g q) .every-one r (u .0) (and-in (fits anything 0 (r .path)) (fits (exactly w) 0 (word g r)) (anything-fits 0 (r .path)) ((exactly-iff w (word g r)) .1 (u .1))),
-      )
+  analysis-iff w r = let all = listing g (queryOf (analysis w)) in (
+    λ h. let t = all .only r h in reading-of w r .1 (t .0, analysis-answers w r .0 (t .1)),
+    λ t. let u = reading-of w r .0 t in all .every-one r (u .0) (analysis-answers w r .1 (u .1)),
+  )
 
   -- generation lists exactly the readings with the path
   pub generation-iff : (path : List ℕ) (r : Reading) → List·Memᴰ r (readings g (queryOf (generation path))) ↔ (T (isReading g r) × (r .path ≡ entryNumbers path))
-  unfolding queryOf answers
-  generation-iff path r =
-      let q : Query = queryOf (generation path) in
-      let es = entryNumbers path in (
-        λ h.
-            let t = (listing g q) .only r h in
-            let a = and-out (fits (exactly es) 0 (r .path)) (fits anything 0 (word g r)) (t .1) in
-            (t .0, (exactly-iff es (r .path)) .0 (a .0)),
-        λ t. (listing g q) .every-one r (t .0) (and-in (fits (exactly es) 0 (r .path)) (fits anything 0 (word g r)) ((exactly-iff es (r .path)) .1 (t .1)) (anything-fits 0 (word g r))),
-      )
+  generation-iff path r = let all = listing g (queryOf (generation path)) in (
+    λ h. let t = all .only r h in (t .0, generation-answers path r .0 (t .1)),
+    λ t. all .every-one r (t .0) (generation-answers path r .1 (t .1)),
+  )
 
   -- for the bytes of the reading's own path
   pub converse : (w path : List ℕ) (r : Reading) → entryNumbers path ≡ r .path

@@ -10,7 +10,7 @@ use native.Mathlib.Omega.{arith}
 use Rattle.model.specs.Lists.{every, joined, sameList}
 use Rattle.model.specs.Grammar.{Grammar, OneWay}
 use Rattle.model.specs.GrammarOf.{grammarOf}
-use Rattle.model.specs.Readings.{Reading, withoutNulls, spelled, afterLetter, upTo, beyond, endingList, stepList, endingSteps, steps, Before, Ascending, isReading, isPath, isLinked, pairingLength, fewNulls, wordLength, word, passes}
+use Rattle.model.specs.Readings.{Reading, withoutNulls, spelled, afterLetter, upTo, beyond, endingList, stepList, endingSteps, steps, Before, Ascending, isReading, isPath, isLinked, pairingLength, fewNulls, isLine, passes}
 use Rattle.model.specs.Lexicon.{inLexicon, entry, continuation, linked, pathLength}
 use Rattle.model.specs.Query.{Query}
 use Rattle.model.specs.Tree.{readings}
@@ -80,7 +80,7 @@ module _ (g : Grammar) where
   parts : (r : Reading) → T (isReading g r) → T (isLinked g (r .path)) × (letters (r .pairing) ≡ total (r .path))
   unfolding isReading isPath
   parts r t =
-      let m = out8 (isPath g (r .path)) (pairingLength (r .pairing)) (every (λ p. ltb p (g .pairs)) (r .pairing)) (sameList (spelled (g .lexical) (r .pairing)) (joined (map (g .form) (r .path)))) (fewNulls (g .lexical) (r .pairing)) (wordLength (word g r)) (fewNulls (g .surface) (r .pairing)) (passes g (r .pairing)) t in
+      let m = out8 (isPath g (r .path)) (pairingLength (r .pairing)) (every (λ p. ltb p (g .pairs)) (r .pairing)) (sameList (spelled (g .lexical) (r .pairing)) (joined (map (g .form) (r .path)))) (fewNulls (g .lexical) (r .pairing)) (isLine (g .surface) (r .pairing)) (isLine (g .spoken) (r .pairing)) (passes g (r .pairing)) t in
       ((and-out (pathLength (r .path)) (isLinked g (r .path)) (m .0)) .1, ap length (same-out (spelled (g .lexical) (r .pairing)) (joined (map (g .form) (r .path))) (m .3)))
 
   plain-ascending : OneWay g → (l : List Reading) → ((r : Reading) → List·Memᴰ r l → T (isReading g r)) → Ascending (map (endingSteps g) l) → Ascending (map (steps g) l)

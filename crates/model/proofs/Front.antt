@@ -1,25 +1,26 @@
 -- The front of a word: a rule that fails on the boundary pair there leaves no reading, and rules that stay in state 1 there read as if they were fed the
 -- boundary pair at the end alone.
 use Prim.Native.Nat.{ℕ, _<_}
-use mathlib.Core.Bool.{false, _&&_, not}
+use mathlib.Core.Bool.{false, not}
 use mathlib.Core.Path.{_≡_, ap, _∙_, subst}
-use mathlib.Core.List.{List, [], _∷_, _++_, map}
+use mathlib.Core.List.{List, [], _∷_, _++_}
 use lib.ListN.{getD}
-use lib.Dec.{T, ltb}
-use Rattle.model.specs.Lists.{below, every, joined, sameList, isZero}
+use lib.Dec.{T}
+use Rattle.model.specs.Lists.{below, every, isZero}
 use Rattle.model.specs.RuleTables.{accepts, fed}
 use Rattle.model.specs.Grammar.{Grammar}
 use Rattle.model.specs.GrammarOf.{grammarOf}
-use Rattle.model.specs.Readings.{Reading, spelled, fewNulls, wordLength, pairingLength, passes, isPath, word, isReading}
+use Rattle.model.specs.Readings.{Reading, passes, isReading}
 use Rattle.model.specs.Query.{Query, Request, queryOf, entryNumbers}
 use Rattle.model.specs.Tree.{alive, begun, readings}
 use Rattle.model.specs.Refusals.{Verdict, firstFailing, judgeTests}
 use Rattle.model.specs.Rows.{Reply, replyTo}
 use Rattle.model.specs.Calls.{replyAfter, requestVerdict, allReadings, listingReply}
 use Rattle.model.specs.Beside.{Judgement, judgementAfter, judged}
-use Rattle.model.proofs.Booleans.{right-false, false-of}
+use Rattle.model.proofs.Booleans.{false-of}
 use Rattle.model.proofs.Lists.{below-has, below-from, every-same, every-at}
 use Rattle.model.proofs.Rules.{start-alive, begun-at}
+use Rattle.model.proofs.Readings.{parts-of}
 use Rattle.model.proofs.Listing.{listing, listing-unique}
 
 module _ (g : Grammar) where
@@ -49,10 +50,7 @@ module _ (g : Grammar) where
         (λ t. subst T dead-state (every-at (λ r. not (isZero (getD states r 0))) (below (g .rules)) (below-has (g .rules) r rule) (start-alive (g .rules) (g .next) (g .final) (g .pairs) ps t)))
 
     pub dead-reading : (x : Reading) → isReading g x ≡ false
-    unfolding isReading
-    dead-reading x =
-        let levels = isPath g (x .path) && pairingLength (x .pairing) && every (λ p. ltb p (g .pairs)) (x .pairing) && sameList (spelled (g .lexical) (x .pairing)) (joined (map (g .form) (x .path))) && fewNulls (g .lexical) (x .pairing) && wordLength (word g x) && fewNulls (g .surface) (x .pairing) in
-        right-false levels (passes g (x .pairing)) (dead-passes (x .pairing))
+    dead-reading x = false-of (isReading g x) (λ t. subst T (dead-passes (x .pairing)) (parts-of g x t .passing))
 
     pub dead-readings : (q : Query) → readings g q ≡ []
     dead-readings q = listing-unique (readings g q) [] (listing g q) (record { only = λ x. elim [ ]; every-one = λ x t a. absurd (subst T (dead-reading x) t); in-order = tt })

@@ -5,12 +5,14 @@ pub mod Walk
 pub mod Rules
 pub mod Levels
 pub mod Steps
+pub mod Readings
 pub mod Completes
 pub mod Listing
 pub mod Endings
 pub mod Front
 pub mod Unspelled
 pub mod Converse
+pub mod Spoken
 pub mod Rest
 pub mod Tests
 pub mod Spelling

@@ -6,21 +6,22 @@ use mathlib.Core.Path.{_≡_, refl, sym, ap, _∙_, subst}
 use mathlib.Core.Logic.{_↔_}
 use mathlib.Core.List.{List, [], _∷_, map, List·Memᴰ, List·Memᴰ·head, List·Memᴰ·tail, Memᴰ·map, Memᴰ·cast}
 use lib.ListN.{length}
-use lib.Dec.{T, ltb, leb→le, le→leb}
+use lib.Dec.{T, leb→le, le→leb}
 use native.Mathlib.Omega.{arith}
-use Rattle.model.specs.Lists.{every, given, joined, sameList}
+use Rattle.model.specs.Lists.{given}
 use Rattle.model.specs.Grammar.{Grammar}
 use Rattle.model.specs.Lexicon.{linked, pathLength}
-use Rattle.model.specs.Readings.{Reading, nulls, spelled, fewNulls, wordLength, pairingLength, passes, isPath, isLinked, word, isReading, steps, endingSteps, Ascending}
-use Rattle.model.specs.Query.{Query, fits, answers}
+use Rattle.model.specs.Readings.{Reading, nulls, spelled, fewNulls, wordLength, passes, isPath, isLinked, word, isReading, steps, endingSteps, Ascending}
+use Rattle.model.specs.Query.{Query, answers}
 use Rattle.model.specs.Walk.{Accepts, walk}
 use Rattle.model.specs.Tree.{Node, opens, alive, countAt, mayAt, goAt, tree, start, put, readingAt, readings}
-use Rattle.model.proofs.Booleans.{and-out, and-in, of-true, out8, in8, within-out, within-in, same-out, same-in}
+use Rattle.model.proofs.Booleans.{and-out, and-in, of-true, within-out, within-in}
 use Rattle.model.proofs.Lists.{map-from}
 use Rattle.model.proofs.Order.{Once, ascending-once, ascending-unique}
 use Rattle.model.proofs.Walk.{walk-from, walk-has, walk-ascending}
 use Rattle.model.proofs.Rules.{passes-alive, start-to, start-from}
 use Rattle.model.proofs.Levels.{line-from, line-to}
+use Rattle.model.proofs.Readings.{parts-of, of-parts, answers-out, answers-in}
 use Rattle.model.proofs.Steps.{stepsToCome, steps-zero, steps-end, steps-enter, steps-pair, steps-none, steps-length, left-length}
 use Rattle.model.proofs.Completes.{Sane, Completes, nil-from, opens-true, opens-false, stop-to, stop-from, end-ended, enter-to, enter-from, pair-to, pair-from, no-entry, end-to, end-rest, end-from, sane-step}
 
@@ -145,25 +146,26 @@ module _ (g : Grammar) (q : Query) where
   sane-start a = record { alive-states = a; entries-in = omega arith; pairs-in = omega arith; nulls-in = omega arith; surface-sane = record { letters-in = omega arith; nulls-in = omega arith } }
 
   completes-from : (r : Reading) → T (isReading g r) → T (answers g q r) → Completes g q (start g q) (r .path) (r .pairing)
-  unfolding isReading isPath passes answers start
+  unfolding isPath passes start
   completes-from r t a =
       let es = r .path in
       let ps = r .pairing in
-      let m = out8 (isPath g es) (pairingLength ps) (every (λ p. ltb p (g .pairs)) ps) (sameList (spelled (g .lexical) ps) (joined (map (g .form) es))) (fewNulls (g .lexical) ps) (wordLength (word g r)) (fewNulls (g .surface) ps) (passes g ps) t in
-      let p = and-out (pathLength es) (isLinked g es) (m .0) in
-      let f = and-out (fits (q .entries) 0 es) (fits (q .letters) 0 (word g r)) a in
+      let m = parts-of g r t in
+      let f = answers-out g r q a in
+      let p = and-out (pathLength es) (isLinked g es) (m .path-right) in
       let h1 = within-out 1 16 (length es) (p .0) in
-      let h2 = within-out 1 40 (length ps) (m .1) in
-      let h3 = leb→le (nulls (map (g .lexical) ps)) 8 (m .4) in
+      let h2 = within-out 1 40 (length ps) (m .pairs-few) in
+      let h3 = leb→le (nulls (map (g .lexical) ps)) 8 (m .nulls-few) in
       record {
         is-linked = p .1;
         entries-in = omega arith;
         pairs-in = omega arith;
-        listed = m .2;
-        forms-spelled = same-out (spelled (g .lexical) ps) (joined (map (g .form) es)) (m .3);
+        listed = m .pairs-listed;
+        forms-spelled = m .forms-spelled;
         nulls-in = omega arith;
-        surface-done = line-from (g .surface) (q .letters) ps (m .5) (m .6) (f .1);
-        passing = start-to (g .rules) (g .next) (g .final) (g .pairs) ps (m .7);
+        surface-done = line-from (g .surface) (q .letters) ps (m .surface-right) (f .1);
+        spoken-done = line-from (g .spoken) (q .spoken) ps (m .spoken-right) (f .2);
+        passing = start-to (g .rules) (g .next) (g .final) (g .pairs) ps (m .passing);
         path-asked = f .0;
       }
 
@@ -177,22 +179,24 @@ module _ (g : Grammar) (q : Query) where
   pairing-some (p ∷ ps) h = omega arith
 
   completes-to : (r : Reading) → Completes g q (start g q) (r .path) (r .pairing) → T (isReading g r) × T (answers g q r)
-  unfolding isReading isPath passes answers start
+  unfolding isPath passes start
   completes-to r c =
       let es = r .path in
       let ps = r .pairing in
-      let w = line-to (g .surface) (q .letters) ps (c .surface-done) in
-      let h = (within-out 1 32 (length (word g r)) (w .0)) .0 in (
-        in8 (isPath g es) (pairingLength ps) (every (λ p. ltb p (g .pairs)) ps) (sameList (spelled (g .lexical) ps) (joined (map (g .form) es))) (fewNulls (g .lexical) ps) (wordLength (word g r)) (fewNulls (g .surface) ps) (passes g ps)
-            (and-in (pathLength es) (isLinked g es) (within-in 1 16 (length es) (path-some es (c .is-linked)) (omega (arith, c .entries-in))) (c .is-linked))
-            (within-in 1 40 (length ps) (pairing-some ps h) (omega (arith, c .pairs-in)))
-            (c .listed)
-            (same-in (spelled (g .lexical) ps) (joined (map (g .form) es)) (c .forms-spelled))
-            (le→leb (nulls (map (g .lexical) ps)) 8 (omega (arith, c .nulls-in)))
-            (w .0)
-            (w .1)
-            (start-from (g .rules) (g .next) (g .final) (g .pairs) ps (c .passing)),
-        and-in (fits (q .entries) 0 es) (fits (q .letters) 0 (word g r)) (c .path-asked) (c .surface-done .asked),
+      let surface = line-to (g .surface) (q .letters) ps (c .surface-done) in
+      let some = within-out 1 32 (length (word g r)) (and-out (wordLength (word g r)) (fewNulls (g .surface) ps) surface .0) .0 in (
+        of-parts g r
+            (record {
+              path-right = and-in (pathLength es) (isLinked g es) (within-in 1 16 (length es) (path-some es (c .is-linked)) (omega (arith, c .entries-in))) (c .is-linked);
+              pairs-few = within-in 1 40 (length ps) (pairing-some ps some) (omega (arith, c .pairs-in));
+              pairs-listed = c .listed;
+              forms-spelled = c .forms-spelled;
+              nulls-few = le→leb (nulls (map (g .lexical) ps)) 8 (omega (arith, c .nulls-in));
+              surface-right = surface;
+              spoken-right = line-to (g .spoken) (q .spoken) ps (c .spoken-done);
+              passing = start-from (g .rules) (g .next) (g .final) (g .pairs) ps (c .passing);
+            }),
+        answers-in g r q (c .path-asked) (c .surface-done .asked) (c .spoken-done .asked),
       )
 
   -- what the walk from the start lists, as readings

@@ -8,20 +8,21 @@ use mathlib.Core.Logic.{_↔_}
 use mathlib.Core.List.{List, [], _∷_, _++_, map, List·Memᴰ, List·Memᴰ·head, List·Memᴰ·tail, Memᴰ·map, Memᴰ·append-left, Memᴰ·append-right}
 use lib.ListN.{getD}
 use lib.Dec.{T, ltb, eqb, eqb→eq, ltb→lt}
-use Rattle.model.specs.Lists.{below, every, joined, within, sameList}
+use Rattle.model.specs.Lists.{below, every, joined, within}
 use Rattle.model.specs.Blocks.{header}
 use Rattle.model.specs.RuleTables.{Pair, pair, pairs, boundaryPair}
 use Rattle.model.specs.Lexicon.{entry, formOf}
 use Rattle.model.specs.Grammar.{Grammar}
 use Rattle.model.specs.GrammarOf.{grammarOf}
-use Rattle.model.specs.Readings.{Reading, spelled, withoutNulls, fewNulls, wordLength, pairingLength, passes, isPath, word, isReading}
+use Rattle.model.specs.Readings.{Reading, withoutNulls, isReading}
 use Rattle.model.specs.Query.{Request, queryOf}
 use Rattle.model.specs.Refusals.{Verdict, accepted, refused, unless, firstFailing, isLexical, rightForms, formatTests, imageTests, imageVerdict, pathTests, pairingTests, ownTests, requestTests, judgeTests, viewTests, pointTests, spellingTests}
 use Rattle.model.specs.Calls.{allReadings}
 use Rattle.model.specs.Unspelled.{Unspelled}
-use Rattle.model.proofs.Booleans.{out8, same-out, eq→eqb, false-of}
+use Rattle.model.proofs.Booleans.{eq→eqb, false-of}
 use Rattle.model.proofs.Lists.{below-has, below-from, member-at, every-at, every-miss, any-from, any-has, map-from, length-map-below, getD-map-below}
 use Rattle.model.proofs.Tests.{clash, tests-append, tests-refused, tests-accepted, tests-number}
+use Rattle.model.proofs.Readings.{parts-of}
 use Rattle.model.proofs.Listing.{listing}
 
 module _ (image : List ℕ) where
@@ -125,14 +126,12 @@ joined-has (m ∷ ls) {l} {a} (List·Memᴰ·head e) k = Memᴰ·append-left (jo
 joined-has (m ∷ ls) {l} {a} (List·Memᴰ·tail h) k = Memᴰ·append-right m (joined-has ls h k)
 
 pub letters-paired : (g : Grammar) (r : Reading) (e a : ℕ) → T (isReading g r) → List·Memᴰ e (r .path) → List·Memᴰ a (g .form e) → (p : ℕ) × List·Memᴰ p (r .pairing) × (p < g .pairs) × (g .lexical p ≡ a)
-unfolding isReading
 letters-paired g r e a t in-path in-form =
     let ps = r .pairing in
-    let u = out8 (isPath g (r .path)) (pairingLength ps) (every (λ p. ltb p (g .pairs)) ps) (sameList (spelled (g .lexical) ps) (joined (map (g .form) (r .path)))) (fewNulls (g .lexical) ps) (wordLength (word g r)) (fewNulls (g .surface) ps) (passes g ps) t in
-    let s = same-out (spelled (g .lexical) ps) (joined (map (g .form) (r .path))) (u .3) in
-    let m = without-from (map (g .lexical) ps) (subst (List·Memᴰ a) (sym s) (joined-has (map (g .form) (r .path)) (Memᴰ·map (g .form) in-path) in-form)) in
+    let u = parts-of g r t in
+    let m = without-from (map (g .lexical) ps) (subst (List·Memᴰ a) (sym (u .forms-spelled)) (joined-has (map (g .form) (r .path)) (Memᴰ·map (g .form) in-path) in-form)) in
     let v = map-from (g .lexical) ps m in
-    (v .0, v .1, ltb→lt (v .0) (g .pairs) (every-at (λ p. ltb p (g .pairs)) ps (v .1) (u .2)), sym (v .2))
+    (v .0, v .1, ltb→lt (v .0) (g .pairs) (every-at (λ p. ltb p (g .pairs)) ps (v .1) (u .pairs-listed)), sym (v .2))
 
 -- "simply never found": no row is lost with the entry
 module _ (image : List ℕ) (e : ℕ) (u : Unspelled image e) where

@@ -1,4 +1,4 @@
--- What a listing is asked for: which path, which word. Analysis and generation are two cases of it.
+-- What a listing is asked for: which path, which word, and how it is spoken. Analysis and generation are two cases of it.
 use Prim.Native.Nat.{ℕ, suc}
 use mathlib.Core.Bool.{Bool, true, _&&_}
 use mathlib.Core.List.{List, [], _∷_}
@@ -6,7 +6,7 @@ use lib.ListN.{length, getD}
 use lib.Dec.{ltb, eqb}
 use Rattle.model.specs.Lists.{numbers}
 use Rattle.model.specs.Grammar.{Grammar}
-use Rattle.model.specs.Readings.{Reading, word}
+use Rattle.model.specs.Readings.{Reading, word, speech}
 
 -- what is asked of a list of numbers: may this number stand at this place, and may the list end at this length
 pub record Pattern : Type 0 where
@@ -26,10 +26,11 @@ anything = record { allows = λ i x. true; mayEnd = λ n. true }
 
 pub record Query : Type 0 where
   pub entries : Pattern
-  pub letters : Pattern
+  pub letters : Pattern  -- of the surface
+  pub spoken : Pattern
 
 unfoldable pub answers : Grammar → Query → Reading → Bool
-answers g q r = fits (q .entries) 0 (r .path) && fits (q .letters) 0 (word g r)
+answers g q r = fits (q .entries) 0 (r .path) && (fits (q .letters) 0 (word g r) && fits (q .spoken) 0 (speech g r))
 
 -- "Analysis takes a word as letter bytes, generation a path as bytes, two to an entry number."
 pub data Request : Type 0 where
@@ -40,5 +41,5 @@ entryNumbers bytes = numbers bytes
 
 -- "A path's readings are those, with that path, of every word of 1-32 letters."
 unfoldable pub queryOf : Request → Query
-queryOf (analysis word) = record { entries = anything; letters = exactly word }
-queryOf (generation path) = record { entries = exactly (entryNumbers path); letters = anything }
+queryOf (analysis word) = record { entries = anything; letters = exactly word; spoken = anything }
+queryOf (generation path) = record { entries = exactly (entryNumbers path); letters = anything; spoken = anything }

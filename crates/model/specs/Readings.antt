@@ -38,6 +38,11 @@ fewNulls side ps = leb (nulls (map side ps)) 8
 abbrev pub wordLength : List ℕ → Bool
 wordLength w = within 1 32 (length w)
 
+-- what a reading asks of a line, surface or spoken, given by the side of each pair. Document 02, (l): "Each level has at most 8 nulls, and the surface and spoken
+-- words 1-32 letters each."
+abbrev pub isLine : (ℕ → ℕ) → List ℕ → Bool
+isLine side ps = wordLength (spelled side ps) && fewNulls side ps
+
 -- "a pairing of 1-40 pairs"
 abbrev pub pairingLength : List ℕ → Bool
 pairingLength ps = within 1 40 (length ps)
@@ -62,18 +67,24 @@ module _ (g : Grammar) where
   abbrev pub word : Reading → List ℕ
   word r = spelled (g .surface) (r .pairing)
 
-  -- "A reading .. is a path and a pairing of 1-40 pairs: lexical sides without nulls are the joined forms, surface sides without nulls are the word,
-  -- at most 8 pairs have a lexical null, at most 8 a surface null, and the pairing passes." Here of the word that it spells.
-  unfoldable pub isReading : Reading → Bool
-  isReading r =
+  -- and the word that it is spoken as
+  abbrev pub speech : Reading → List ℕ
+  speech r = spelled (g .spoken) (r .pairing)
+
+  -- the path, and the pairing with it: "a pairing of 1-40 pairs: lexical sides without nulls are the joined forms, .. at most 8 pairs have a lexical null"
+  abbrev pub spellsPath : Reading → Bool
+  spellsPath r =
       isPath (r .path)
       && pairingLength (r .pairing)
       && every (λ p. ltb p (g .pairs)) (r .pairing)
       && sameList (spelled (g .lexical) (r .pairing)) (joined (map (g .form) (r .path)))
       && fewNulls (g .lexical) (r .pairing)
-      && wordLength (word r)
-      && fewNulls (g .surface) (r .pairing)
-      && passes (r .pairing)
+
+  -- "A reading .. is a path and a pairing of 1-40 pairs: lexical sides without nulls are the joined forms, surface sides without nulls are the word,
+  -- at most 8 pairs have a lexical null, at most 8 a surface null, and the pairing passes." Here of the word that it spells; and, by document 02, (l), the
+  -- same of the spoken line. In a grammar of two levels that is the surface again, and nothing more is asked (`two-level` in proofs/Spoken.antt).
+  unfoldable pub isReading : Reading → Bool
+  isReading r = spellsPath r && isLine (g .surface) (r .pairing) && isLine (g .spoken) (r .pairing) && passes (r .pairing)
 
   -- "A reading of a word"
   unfoldable pub isReadingOf : List ℕ → Reading → Bool

@@ -5,7 +5,7 @@ use mathlib.Core.Bool.{Bool, true, false, _&&_, not}
 use mathlib.Core.List.{List, [], _∷_, map}
 use lib.ListN.{getD}
 use lib.Dec.{leb, ltb, eqb}
-use Rattle.model.specs.Lists.{below, every, given, isZero}
+use Rattle.model.specs.Lists.{below, every, given, within, isZero}
 use Rattle.model.specs.Grammar.{Grammar}
 use Rattle.model.specs.Readings.{Reading}
 use Rattle.model.specs.Query.{Pattern, Query}
@@ -26,6 +26,7 @@ pub record Node : Type 0 where
   pub pairs : ℕ
   pub nulls : ℕ  -- lexical
   pub surface : Level
+  pub spoken : Level
   pub states : List ℕ  -- of rule 0, 1, ..
 
 abbrev pub isNil : List ℕ → Bool
@@ -61,14 +62,22 @@ allowsSide t i (suc a) = t .allows i (suc a)
 
 -- a level, given by the side of each pair, asked for a pattern
 module _ (side : ℕ → ℕ) (t : Pattern) where
+  abbrev pub lineMay : Level → ℕ → Bool
+  lineMay c p = allowsSide t (c .letters) (side p)
+
+  -- the surface keeps its bounds at every pair
   abbrev pub levelMay : Level → ℕ → Bool
-  levelMay c p = allowsSide t (c .letters) (side p) && leb (lettersAnd (c .letters) (side p)) 32 && leb (nullsAnd (c .nulls) (side p)) 8
+  levelMay c p = lineMay c p && leb (lettersAnd (c .letters) (side p)) 32 && leb (nullsAnd (c .nulls) (side p)) 8
 
   abbrev pub levelGo : Level → ℕ → Level
   levelGo c p = record { letters = lettersAnd (c .letters) (side p); nulls = nullsAnd (c .nulls) (side p) }
 
   abbrev pub levelEnds : Level → Bool
   levelEnds c = ltb 0 (c .letters) && t .mayEnd (c .letters)
+
+  -- the spoken line is counted as the surface is, but its counts are looked at only where the reading ends
+  abbrev pub lineEnds : Level → Bool
+  lineEnds c = within 1 32 (c .letters) && leb (c .nulls) 8 && t .mayEnd (c .letters)
 
 -- all rules side by side, by their next and final states
 module _ (rules : ℕ) (next : ℕ → ℕ → ℕ → ℕ) (final : ℕ → ℕ → Bool) where
@@ -100,26 +109,70 @@ module _ (g : Grammar) (q : Query) where
       spells (n .rest) (g .lexical p)
       && ltb (n .pairs) 40
       && leb (nullsAnd (n .nulls) (g .lexical p)) 8
-      && levelMay (g .surface) (q .letters) (n .surface) p
+      && (levelMay (g .surface) (q .letters) (n .surface) p && lineMay (g .spoken) (q .spoken) (n .spoken) p)
       && live
 
   unfoldable pub goAt : Bool → Node → ℕ → Node
-  goAt true n zero = record { rest = n .rest; ways = λ e. false; stop = false; ended = true; entries = n .entries; pairs = n .pairs; nulls = n .nulls; surface = n .surface; states = n .states }
-  goAt true n (suc e) = record { rest = g .form e; ways = g .follows e; stop = g .ends e; ended = false; entries = suc (n .entries); pairs = n .pairs; nulls = n .nulls; surface = n .surface; states = n .states }
-  goAt false n p = record { rest = left (n .rest) (g .lexical p); ways = n .ways; stop = n .stop; ended = n .ended; entries = n .entries; pairs = suc (n .pairs); nulls = nullsAnd (n .nulls) (g .lexical p); surface = levelGo (g .surface) (q .letters) (n .surface) p; states = stepAll (g .rules) (g .next) (g .final) (n .states) p }
+  goAt true n zero = record {
+    rest = n .rest;
+    ways = λ e. false;
+    stop = false;
+    ended = true;
+    entries = n .entries;
+    pairs = n .pairs;
+    nulls = n .nulls;
+    surface = n .surface;
+    spoken = n .spoken;
+    states = n .states;
+  }
+  goAt true n (suc e) = record {
+    rest = g .form e;
+    ways = g .follows e;
+    stop = g .ends e;
+    ended = false;
+    entries = suc (n .entries);
+    pairs = n .pairs;
+    nulls = n .nulls;
+    surface = n .surface;
+    spoken = n .spoken;
+    states = n .states;
+  }
+  goAt false n p = record {
+    rest = left (n .rest) (g .lexical p);
+    ways = n .ways;
+    stop = n .stop;
+    ended = n .ended;
+    entries = n .entries;
+    pairs = suc (n .pairs);
+    nulls = nullsAnd (n .nulls) (g .lexical p);
+    surface = levelGo (g .surface) (q .letters) (n .surface) p;
+    spoken = levelGo (g .spoken) (q .spoken) (n .spoken) p;
+    states = stepAll (g .rules) (g .next) (g .final) (n .states) p;
+  }
 
   unfoldable pub complete : Node → Bool
   complete n =
       isNil (n .rest) && n .ended
       && q .entries .mayEnd (n .entries)
-      && levelEnds (g .surface) (q .letters) (n .surface)
+      && (levelEnds (g .surface) (q .letters) (n .surface) && lineEnds (g .spoken) (q .spoken) (n .spoken))
       && finish (g .rules) (g .next) (g .final) (n .states) (g .pairs)
 
   abbrev pub tree : Machine Node
   tree = record { count = λ n. countAt (opens n) n; may = λ n. mayAt (opens n) n; go = λ n. goAt (opens n) n; ends = complete }
 
   unfoldable pub start : Node
-  start = record { rest = []; ways = g .begins; stop = false; ended = false; entries = 0; pairs = 0; nulls = 0; surface = record { letters = 0; nulls = 0 }; states = begun (g .rules) (g .next) (g .final) (g .pairs) }
+  start = record {
+    rest = [];
+    ways = g .begins;
+    stop = false;
+    ended = false;
+    entries = 0;
+    pairs = 0;
+    nulls = 0;
+    surface = record { letters = 0; nulls = 0 };
+    spoken = record { letters = 0; nulls = 0 };
+    states = begun (g .rules) (g .next) (g .final) (g .pairs);
+  }
 
   -- a step list's entries and pairs
   abbrev pub put : Bool → ℕ → Reading → Reading

@@ -2,15 +2,15 @@
 use Prim.Native.Nat.{ℕ, _<_, _≤_}
 use native.Mathlib.Omega.{arith}
 use mathlib.Core.Bool.{Bool}
-use mathlib.Core.List.{List, _∷_, map, List·Memᴰ·head, List·Memᴰ·tail}
+use mathlib.Core.List.{List, _∷_, List·Memᴰ·head, List·Memᴰ·tail}
 use lib.ListN.{length}
 use lib.Dec.{T, ltb, ltb→lt}
-use Rattle.model.specs.Lists.{every, joined, sameList}
 use Rattle.model.specs.Lexicon.{linked, pathLength}
 use Rattle.model.specs.Grammar.{Grammar}
-use Rattle.model.specs.Readings.{Reading, isReading, isPath, isLinked, pairingLength, spelled, fewNulls, wordLength, word, passes}
-use Rattle.model.proofs.Booleans.{and-out, out3, out8, within-out}
+use Rattle.model.specs.Readings.{Reading, isReading, isPath, isLinked}
+use Rattle.model.proofs.Booleans.{and-out, out3, within-out}
 use Rattle.model.proofs.Lists.{every-at}
+use Rattle.model.proofs.Readings.{parts-of}
 use Rattle.print.proofs.Text.{TwoBytes}
 
 pub record Small (r : Reading) : Type 0 where
@@ -26,15 +26,15 @@ module _ (g : Grammar) (entries-few : g .entries < 65536) (pairs-few : g .pairs 
   linked-small may stop (e ∷ es) t n (List·Memᴰ·tail m) = linked-small (g .follows e) (g .ends e) es (out3 (may e) (ltb e (g .entries)) (linked (g .entries) (g .follows) (g .ends) (g .follows e) (g .ends e) es) t .2) n m
 
   pub reading-small : (r : Reading) → T (isReading g r) → Small r
-  unfolding isReading isPath
+  unfolding isPath
   reading-small r t =
       let es = r .path in
       let ps = r .pairing in
-      let u = out8 (isPath g es) (pairingLength ps) (every (λ p. ltb p (g .pairs)) ps) (sameList (spelled (g .lexical) ps) (joined (map (g .form) es))) (fewNulls (g .lexical) ps) (wordLength (word g r)) (fewNulls (g .surface) ps) (passes g ps) t in
-      let path = and-out (pathLength es) (isLinked g es) (u .0) in
+      let u = parts-of g r t in
+      let path = and-out (pathLength es) (isLinked g es) (u .path-right) in
       record {
         entries-most = within-out 1 16 (length es) (path .0) .1;
-        pairs-most = within-out 1 40 (length ps) (u .1) .1;
+        pairs-most = within-out 1 40 (length ps) (u .pairs-few) .1;
         entries-small = linked-small (g .begins) _ es (path .1);
-        pairs-small = λ p m. omega (arith, ltb→lt p (g .pairs) (every-at (λ p. ltb p (g .pairs)) ps m (u .2)));
+        pairs-small = λ p m. omega (arith, ltb→lt p (g .pairs) (every-at (λ p. ltb p (g .pairs)) ps m (u .pairs-listed)));
       }

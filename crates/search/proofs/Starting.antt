@@ -71,6 +71,7 @@ module _ {image index : List ℕ} {h : Header} {states : List ℕ} {trail : Trai
     pairs = 0;
     nulls = 0;
     surface = record { letters = 0; nulls = 0 };
+    spoken = record { letters = 0; nulls = 0 };
     states = front .states-are refl i;
   }
 

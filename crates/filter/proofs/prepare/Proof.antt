@@ -4,13 +4,14 @@ use native.Mathlib.Omega.{arith}
 use native.Mathlib.Decide.{decLt}
 use borrow.Author.Needs.{needs}
 use mathlib.Core.Logic.{_⊎_, inl, inr, ⊎-elim}
-use mathlib.Core.Path.{_≡_, sym, ap, subst}
+use mathlib.Core.Path.{_≡_, refl, sym, ap, subst}
 use mathlib.Core.List.{List}
 use lib.ListN.{length, getD, replicate, getD-replicate, List·getD-eq-default}
 use lib.Pow.{pow-pos, pow-mono}
 use Rattle.model.specs.Blocks.{Header, header}
 use Rattle.model.specs.Lexicon.{entry, continuation}
 use Rattle.model.specs.Refusals.{rightEntries}
+use Rattle.model.specs.Query.{Pattern, exactly}
 use Rattle.model.proofs.Booleans.{of-true}
 use Rattle.image.specs.Accepted.{Accepted}
 use Rattle.lexicon.proofs.Laws.{continuation-right}
@@ -20,7 +21,7 @@ use Rattle.filter.specs.Letters.{Wrote}
 use Rattle.listing.specs.Asked.{wordPattern}
 use Rattle.positions.specs.Stack.{Filled, Begins}
 use Rattle.filter.proofs.Parts.{part-long}
-use Rattle.filter.proofs.Words.{asksWord, word-covers, word-reaches}
+use Rattle.filter.proofs.Words.{exactly-within, asksWord, word-covers, word-reaches}
 use Rattle.filter.proofs.prepare.Statement.{statement}
 use Rattle.filter.proofs.prepare.Tie as tie
 
@@ -32,7 +33,7 @@ none e a = rw e (go (decLt a 128))
     go (yes h) = omega (arith, getD-replicate {A = ℕ} 128 a 0 0 h)
     go (no h) = omega (arith, List·getD-eq-default {A = ℕ} (replicate 128 0) 0 {n = a} (omega arith))
 
-filled : {image forms rows word masks : List ℕ} {n : ℕ} → FormsOf image forms → Wrote rows word masks n → Filled masks (flagsIn forms)
+filled : {image forms rows masks : List ℕ} {t : Pattern} {n : ℕ} → FormsOf image forms → Wrote rows t masks n → Filled masks (flagsIn forms)
 filled {image} {forms} f w = record { long = w .long; flags-long = part-long forms 30976 128 (omega (arith, f .long)); letters-in = w .few }
 
 -- an entry goes on with a lexicon, or ends
@@ -89,12 +90,15 @@ returns c = λ path.
     let masks = w .last .1 .1 .0 in
     let flags = flagsIn (s .args .forms .now) in
     let reach = b .last .1 .1 .1 .0 in
+    let wrote = subst (λ (l : List ℕ). Wrote l (exactly word) masks (length word)) (rows .ensures) (w .ensures .1) in
+    let begun = lexicons-are (s .pre .0) (subst (λ (n : ℕ). Begins masks n (s .args .h .lexicons) reach) (w .ensures .0) (b .ensures .0)) in
     record {
       forms-of = forms;
       filled = filled forms (w .ensures .1);
       reached = done .reached;
-      covers = word-covers image (s .args .forms .now) word masks path forms (subst (λ (l : List ℕ). Wrote l word masks (length word)) (rows .ensures) (w .ensures .1));
-      reaches = done .reaches (asksWord word path) (word-reaches image word masks flags reach path (lexicons-few (s .pre .0)) (lexicons-are (s .pre .0) (subst (λ (n : ℕ). Begins masks n (s .args .h .lexicons) reach) (w .ensures .0) (b .ensures .0))) (continues (s .pre .0)));
+      covers = word-covers image (s .args .forms .now) masks (exactly word) path (length word) (exactly-within word) forms wrote;
+      reaches = done .reaches (asksWord (exactly word) path)
+          (word-reaches image masks flags reach (exactly word) path (length word) (λ k. refl) (lexicons-few (s .pre .0)) begun (continues (s .pre .0)));
     }
 
 pub prepare-spec : {M : Type 1} → statement M

@@ -27,7 +27,7 @@ letters s = s .args .place .surface .letters
 
 -- the tests that are left
 tests : (s : tie.Start) (m : ℕ) → let a = s .args in complete (grammarOf (a .image .now)) (query s) (nodeOf (a .image .now) (withLast (a .place) ended) (a .n) m) ≡ (query s .entries .mayEnd (a .n) && (ltb 0 (letters s) && query s .letters .mayEnd (letters s)) && finishOf (grammarOf (a .image .now)) (a .place .states))
-tests s m = let a = s .args in end-tests (a .image .now) (query s) (withLast (a .place) ended) (a .n) m (s .pre .1 .1 .1, refl)
+tests s m = let a = s .args in end-tests (a .image .now) (query s) (withLast (a .place) ended) (a .n) m (s .pre .1 .1 .1, refl) refl (s .pre .1 .1 .0 .surface-in)
 
 -- those that are passed
 entries-end : (c : tie.Else1) → let s = start (c .before) in query s .entries .mayEnd (s .args .n) ≡ true

@@ -86,7 +86,7 @@ spell-requires c κs =
 returns : tie.Need-returns
 returns c t =
     let s = start (c .before) in
-    refused-nulls (query s t) (spells-on s)
+    refused-nulls (query s t) (spells-on s) refl
     (sym (nulls-test (c .before)) ∙ not-true (c .before .before .spell .result .may) (c .if1 .taken))
 
 surface-side-requires : tie.Need-surface-side-requires
@@ -98,7 +98,7 @@ pass-requires c κs = search needs
 returns-2 : tie.Need-returns-2
 returns-2 c t =
     let s = start (lexical (c .before)) in
-    refused-level (query s t) (spells-on s)
+    refused-level (query s t) (spells-on s) refl
     (nulls-passed (c .before .before .before .before))
     (sym (level-test (c .before)) ∙ not-true (c .before .before .pass .result .may) (c .if2 .taken))
 
@@ -112,7 +112,7 @@ returns-3 : tie.Need-returns-3
 returns-3 c t =
     let by-level = c .before .before .before in
     let s = start (lexical (by-level .before)) in
-    refused-rules (query s t) (spells-on s)
+    refused-rules (query s t) (spells-on s) refl
     (nulls-passed (by-level .before .before .before .before))
     (level-passed by-level)
     (sym (rules-test (c .before)) ∙ not-true (c .before .before .step-all .result .alive) (c .if3 .taken))
@@ -129,7 +129,7 @@ returns-4 c t =
     let lexical = rw (by-nulls .before .before .before .lexical-side .ensures) at (spelled .ensures .1 (not-false (spelled .result .may) (by-nulls .if1 .left))) in
     let surface = rw (by-level .before .before .before .surface-side .ensures) at (passed .ensures .1 (not-false (passed .result .may) (by-level .if2 .left))) in
     let lives = not-false (stepped .result .alive) (by-rules .if3 .left) in
-    took (query s t) (spells-on s)
+    took (query s t) (spells-on s) refl
     (record {
       from-is = lexical .0;
       to-is = refl;
