@@ -3,19 +3,18 @@ ghost use mathlib.Core.Bool.{true, false};
 ghost use mathlib.Core.Logic.{_⊎_};
 ghost use mathlib.Core.Path.{_≡_};
 ghost use mathlib.Core.List.{[], _∷_};
-ghost use Prim.Native.Nat.{ℕ, _≤_, _<_};
+ghost use Prim.Native.Nat.{_≤_, _<_};
 ghost use lib.ListN.{length, getD};
 ghost use Rattle.model.specs.Lists.{given};
 ghost use Rattle.model.specs.Blocks.{header};
 ghost use Rattle.model.specs.GrammarOf.{grammarOf};
-ghost use Rattle.model.specs.Rows.{rowCount};
 ghost use Rattle.model.specs.Tree.{complete};
 ghost use Rattle.image.specs.Header.{headerOf};
 ghost use Rattle.image.specs.Accepted.{Accepted};
 ghost use Rattle.image.specs.Index.{indexOf, candidates};
 ghost use Rattle.rows.specs.Trail.{readingOf};
 ghost use Rattle.rows.specs.Offering.{offerAll};
-ghost use Rattle.rows.specs.Fill.{put};
+ghost use Rattle.rows.specs.Fill.{put, Roomy};
 ghost use Rattle.listing.specs.Asked.{queryBy};
 ghost use Rattle.listing.specs.Places.{ended, restOf, withLast, Standing, OnlyStops};
 ghost use Rattle.listing.specs.Search.{nodeAt, headOf};
@@ -51,17 +50,18 @@ pub fn put_ended(
     place: Place,
     trail: Trail,
     out: &mut [u8],
+    capacity: usize,
     found: usize,
 ) -> usize
     requires { ⌜ Underway (now image) (now index) (headerOf h) place trail ⌝ }
     requires { ⌜ place .to ≤ place .from ⌝ }
-    requires { ⌜ found ≤ rowCount (now out) ⌝ }
-    ensures { λ r. ⌜ (now (out .exit), r) ≡ offerAll (put (rowCount (now (out .entry)))) (now (out .entry), found) (given (complete (grammarOf (now (image .entry))) (queryBy asked (now (path .entry)) (now (word .entry))) (nodeAt (now (image .entry)) (withLast place ended) trail)) (readingOf trail ∷ [])) ⌝ }
+    requires { ⌜ Roomy (now out) capacity × (found ≤ capacity) ⌝ }
+    ensures { λ r. ⌜ (now (out .exit), r) ≡ offerAll (put capacity) (now (out .entry), found) (given (complete (grammarOf (now (image .entry))) (queryBy asked (now (path .entry)) (now (word .entry))) (nodeAt (now (image .entry)) (withLast place ended) trail)) (readingOf trail ∷ [])) ⌝ }
 {
     if !listing::pairing::ends(image, index, h, asked, path, word, place, trail.entries) {
         return found;
     }
-    rows::offer(out, found, trail)
+    rows::offer(out, capacity, found, trail)
 }
 
 // The next letter to be paired, 0 where none is left.

@@ -18,7 +18,8 @@ use Rattle.filter.specs.Sieve.{MayBe}
 use Rattle.prepare.specs.Indexed.{Indexed}
 use Rattle.rows.specs.Offering.{offerAll}
 use Rattle.rows.specs.Fill.{put, replyFor}
-use Rattle.rows.proofs.Fill.{listed, replyAfter-rows}
+use Rattle.rows.proofs.Fill.{replyAfter-rows}
+use Rattle.rows.proofs.Windows.{listed}
 
 -- what the code that reads an accepted image asks
 pub accepted-by : (image : List ℕ) (h : Header) → imageVerdict image ≡ accepted → h ≡ header image → Accepted image h

@@ -12,7 +12,7 @@ ghost use Rattle.prepare.specs.Indexed.{Indexed};
 ghost use Rattle.analyser.specs.Tried.{TriedOf};
 use grammar::Verdict;
 use image::Header;
-use requests::Direction;
+use requests::Request;
 use rows::Reply;
 
 pub fn analyse(image: &[u8], index: &[u8], h: Header, word: &[u8], out: &mut [u8]) -> Reply
@@ -22,7 +22,7 @@ pub fn analyse(image: &[u8], index: &[u8], h: Header, word: &[u8], out: &mut [u8
     ensures reply { λ r. ⌜ replyOf r ≡ listingReply (now (image .entry)) (analysis (now (word .entry))) (rowCount (now (out .entry))) ⌝ }
     ensures bytes { λ r. ⌜ now (out .exit) ≡ afterListing (now (image .entry)) (analysis (now (word .entry))) (now (out .entry)) ⌝ }
 {
-    list(image, index, h, Direction::Analysis, word, out)
+    list(image, index, h, Request::Analysis, word, out)
 }
 
 // What a search that may give up comes to.
@@ -38,7 +38,7 @@ pub fn try_analyse(image: &[u8], index: &[u8], h: Header, word: &[u8], out: &mut
     requires { ⌜ Indexed (now image) (now index) ⌝ }
     ensures { λ r. ⌜ TriedOf (now (image .entry)) (now (word .entry)) (now (out .entry)) (now (out .exit)) r ⌝ }
 {
-    let verdict = requests::own::own_verdict(image, h, Direction::Analysis, word);
+    let verdict = requests::own::own_verdict(image, h, Request::Analysis, word);
     match verdict {
         Verdict::Refused(k) => Tried::Given(Reply::Refused(k)),
         Verdict::Accepted => {
@@ -59,7 +59,7 @@ pub fn generate(image: &[u8], index: &[u8], h: Header, path: &[u8], out: &mut [u
     ensures reply { λ r. ⌜ replyOf r ≡ listingReply (now (image .entry)) (generation (now (path .entry))) (rowCount (now (out .entry))) ⌝ }
     ensures bytes { λ r. ⌜ now (out .exit) ≡ afterListing (now (image .entry)) (generation (now (path .entry))) (now (out .entry)) ⌝ }
 {
-    list(image, index, h, Direction::Generation, path, out)
+    list(image, index, h, Request::Generation, path, out)
 }
 
 // The call's own tests, and where they hold the search.
@@ -67,17 +67,17 @@ pub fn list(
     image: &[u8],
     index: &[u8],
     h: Header,
-    d: Direction,
+    request: Request,
     asked: &[u8],
     out: &mut [u8],
 ) -> Reply
     requires { ⌜ imageVerdict (now image) ≡ accepted ⌝ }
     requires { ⌜ headerOf h ≡ header (now image) ⌝ }
     requires { ⌜ Indexed (now image) (now index) ⌝ }
-    ensures reply { λ r. ⌜ replyOf r ≡ listingReply (now (image .entry)) (requestOf d (now (asked .entry))) (rowCount (now (out .entry))) ⌝ }
-    ensures bytes { λ r. ⌜ now (out .exit) ≡ afterListing (now (image .entry)) (requestOf d (now (asked .entry))) (now (out .entry)) ⌝ }
+    ensures reply { λ r. ⌜ replyOf r ≡ listingReply (now (image .entry)) (requestOf request (now (asked .entry))) (rowCount (now (out .entry))) ⌝ }
+    ensures bytes { λ r. ⌜ now (out .exit) ≡ afterListing (now (image .entry)) (requestOf request (now (asked .entry))) (now (out .entry)) ⌝ }
 {
-    let verdict = requests::own::own_verdict(image, h, d, asked);
+    let verdict = requests::own::own_verdict(image, h, request, asked);
     match verdict {
         Verdict::Refused(k) => Reply::Refused(k),
         Verdict::Accepted => {
@@ -86,7 +86,7 @@ pub fn list(
                 image,
                 &index[..39424],
                 h,
-                d,
+                request,
                 asked,
                 &index[39424..],
                 out,

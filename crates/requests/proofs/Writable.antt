@@ -1,21 +1,21 @@
 -- A word that passes tests 9 and 10 has a set for each of its letters and places; so has no word at all.
 use Prim.Native.Nat.{ℕ, zero, suc, _<_, _≤_}
 use native.Mathlib.Omega.{arith}
-use mathlib.Core.Bool.{Bool, true, false, _&&_}
+use mathlib.Core.Bool.{Bool, true, false}
 use mathlib.Core.Path.{_≡_, ap, subst}
 use mathlib.Core.List.{List, [], _∷_}
 use lib.ListN.{length, getD}
 use lib.Dec.{T}
 use Rattle.model.specs.Lists.{every, within}
 use Rattle.model.specs.Blocks.{Header, header}
-use Rattle.model.specs.Refusals.{Verdict, accepted, refused, unless, firstFailing, wordTests, ownTests}
+use Rattle.model.specs.Refusals.{accepted, unless, firstFailing, wordTests, ownTests}
 use Rattle.model.specs.Readings.{wordLength}
 use Rattle.model.proofs.Booleans.{and-out, within-out}
 use Rattle.model.proofs.Tests.{clash}
 use Rattle.image.specs.Accepted.{Accepted}
 use Rattle.filter.specs.Sieve.{Writable}
-use Rattle.requests.specs.declared.Direction.{Direction}
-use Rattle.requests.specs.declared.Direction.the-variants.{Analysis}
+use Rattle.requests.specs.declared.Request.{Request}
+use Rattle.requests.specs.declared.Request.the-variants.{Analysis}
 use Rattle.requests.specs.Request.{requestOf}
 
 letters-most : (top : ℕ) (word : List ℕ) → T (every (within 2 top) word) → (i : ℕ) → i < length word → getD word i 0 ≤ top
@@ -38,9 +38,9 @@ module _ {image : List ℕ} {h : Header} (a : Accepted image h) where
       let same = ap (λ (g : Header). g .letters) (a .laid .header-is) in
       (within-out 1 32 (length word) (u .0) .1, λ i k. let m = letters-most (header image .letters) word (u .1) i k in omega (arith, m, few, same))
 
-  pub analysed-writable : (d : Direction) (word : List ℕ) → d ≡ Analysis → firstFailing (ownTests image (requestOf d word)) ≡ accepted → Writable word
+  pub analysed-writable : (request : Request) (word : List ℕ) → request ≡ Analysis → firstFailing (ownTests image (requestOf request word)) ≡ accepted → Writable word
   unfolding ownTests
-  analysed-writable d word e t = word-writable word (subst (λ (d : Direction). firstFailing (ownTests image (requestOf d word)) ≡ accepted) e t)
+  analysed-writable request word e t = word-writable word (subst (λ (request : Request). firstFailing (ownTests image (requestOf request word)) ≡ accepted) e t)
 
 pub none-writable : Writable []
 none-writable = (omega arith, λ i k. absurd (omega arith))

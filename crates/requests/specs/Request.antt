@@ -1,10 +1,10 @@
--- A call's request, by its direction and the bytes it was given.
+-- The model's request, by what is asked for and the bytes that the call was given.
 use Prim.Native.Nat.{ℕ}
 use mathlib.Core.List.{List}
 use Rattle.model.specs.Query as model
-use Rattle.requests.specs.declared.Direction.{Direction}
-use Rattle.requests.specs.declared.Direction.the-variants.{Analysis, Generation}
+use Rattle.requests.specs.declared.Request.{Request}
+use Rattle.requests.specs.declared.Request.the-variants.{Analysis, Generation}
 
-abbrev pub requestOf : Direction → List ℕ → model.Request
+abbrev pub requestOf : Request → List ℕ → model.Request
 requestOf Analysis word = model.Request.analysis word
 requestOf Generation path = model.Request.generation path

@@ -19,7 +19,8 @@ use listing::asked::Asked;
 use listing::asked::PathAsked;
 use listing::asked::WordAsked;
 
-pub enum Direction {
+// Which listing is asked for; with the call's bytes, `requestOf` makes the model's request of it.
+pub enum Request {
     Analysis,
     Generation,
 }
@@ -29,7 +30,7 @@ pub fn search_for(
     image: &[u8],
     index: &[u8],
     h: Header,
-    d: Direction,
+    request: Request,
     asked: &[u8],
     forms: &[u8],
     out: &mut [u8],
@@ -37,23 +38,44 @@ pub fn search_for(
     requires { ⌜ Accepted (now image) (headerOf h) ⌝ }
     requires { ⌜ now index ≡ indexOf (now image) ⌝ }
     requires { ⌜ MayBe (now image) (now forms) ⌝ }
-    requires { ⌜ firstFailing (ownTests (now image) (requestOf d (now asked))) ≡ accepted ⌝ }
-    ensures { λ r. ⌜ (now (out .exit), r) ≡ offerAll (put (rowCount (now (out .entry)))) (now (out .entry), 0) (allReadings (now (image .entry)) (requestOf d (now (asked .entry)))) ⌝ }
+    requires { ⌜ firstFailing (ownTests (now image) (requestOf request (now asked))) ≡ accepted ⌝ }
+    ensures { λ r. ⌜ (now (out .exit), r) ≡ offerAll (put (rowCount (now (out .entry)))) (now (out .entry), 0) (allReadings (now (image .entry)) (requestOf request (now (asked .entry)))) ⌝ }
 {
-    match d {
-        Direction::Analysis => {
+    let capacity = out.len() / 116;
+    match request {
+        Request::Analysis => {
             let word = Asked {
                 path: PathAsked::Anything,
                 word: WordAsked::Exactly,
             };
-            search::search(image, index, h, word, &asked[..0], asked, forms, out)
+            search::search(
+                image,
+                index,
+                h,
+                word,
+                &asked[..0],
+                asked,
+                forms,
+                out,
+                capacity,
+            )
         }
-        Direction::Generation => {
+        Request::Generation => {
             let path = Asked {
                 path: PathAsked::Exactly,
                 word: WordAsked::Anything,
             };
-            search::search(image, index, h, path, asked, &asked[..0], forms, out)
+            search::search(
+                image,
+                index,
+                h,
+                path,
+                asked,
+                &asked[..0],
+                forms,
+                out,
+                capacity,
+            )
         }
     }
 }
@@ -73,9 +95,20 @@ pub fn try_word(
     requires { ⌜ firstFailing (ownTests (now image) (analysis (now word))) ≡ accepted ⌝ }
     ensures { λ r. ⌜ Offered (rowCount (now (out .entry))) (now (out .entry), 0) (allReadings (now (image .entry)) (analysis (now (word .entry)))) (now (out .exit), r) 1 ⌝ }
 {
+    let capacity = out.len() / 116;
     let asked = Asked {
         path: PathAsked::Anything,
         word: WordAsked::Exactly,
     };
-    search::try_search(image, index, h, asked, &word[..0], word, forms, out)
+    search::try_search(
+        image,
+        index,
+        h,
+        asked,
+        &word[..0],
+        word,
+        forms,
+        out,
+        capacity,
+    )
 }

@@ -5,7 +5,7 @@ ghost use Rattle.image.specs.Header.{headerOf};
 ghost use Rattle.image.specs.Accepted.{Accepted};
 ghost use Rattle.grammar.specs.Answers.{verdictOf};
 ghost use Rattle.requests.specs.Request.{requestOf};
-use crate::Direction;
+use crate::Request;
 use grammar::Verdict;
 use image::Header;
 
@@ -41,12 +41,12 @@ fn path_verdict(image: &[u8], h: Header, path: &[u8]) -> Verdict
     Verdict::Accepted
 }
 
-pub fn own_verdict(image: &[u8], h: Header, d: Direction, asked: &[u8]) -> Verdict
+pub fn own_verdict(image: &[u8], h: Header, request: Request, asked: &[u8]) -> Verdict
     requires { ⌜ Accepted (now image) (headerOf h) ⌝ }
-    ensures { λ r. ⌜ verdictOf r ≡ firstFailing (ownTests (now (image .entry)) (requestOf d (now (asked .entry)))) ⌝ }
+    ensures { λ r. ⌜ verdictOf r ≡ firstFailing (ownTests (now (image .entry)) (requestOf request (now (asked .entry)))) ⌝ }
 {
-    match d {
-        Direction::Analysis => word_verdict(image, h, asked),
-        Direction::Generation => path_verdict(image, h, asked),
+    match request {
+        Request::Analysis => word_verdict(image, h, asked),
+        Request::Generation => path_verdict(image, h, asked),
     }
 }

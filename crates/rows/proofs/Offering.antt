@@ -1,5 +1,5 @@
 -- Readings offered one after another, for any step: none, one, those of two lists, and all that come after a full state.
-use mathlib.Core.Path.{_≡_, refl, ap}
+use mathlib.Core.Path.{_≡_, refl}
 use mathlib.Core.List.{List, [], _∷_, _++_}
 use Rattle.model.specs.Readings.{Reading}
 use Rattle.rows.specs.Offering.{offerAll, Keeps}
@@ -23,7 +23,3 @@ module _ {S : Type 0} (step : S → Reading → S) where
   unfolding offerAll
   offer-full k s [] f = refl
   offer-full k s (r ∷ l) f = rw (k .alone s r f) (offer-full k s l f)
-
--- by a step that is the same
-pub offer-by : {S : Type 0} {step other : S → Reading → S} → step ≡ other → (s : S) (l : List Reading) → offerAll step s l ≡ offerAll other s l
-offer-by {S} e s l = ap (λ (f : S → Reading → S). offerAll f s l) e

@@ -3,10 +3,10 @@ ghost use mathlib.Core.Path.{_≡_};
 ghost use mathlib.Core.List.{[]};
 ghost use Prim.Native.Nat.{_^_, _<_, _≤_};
 ghost use lib.ListN.{length, replicate};
-ghost use Rattle.model.specs.Rows.{rowBytes, rowCount, replyNumber};
+ghost use Rattle.model.specs.Rows.{rowBytes, replyNumber};
 ghost use Rattle.model.specs.Demand.{replyRows};
 ghost use Rattle.rows.specs.Trail.{readingOf, Short, Holds, rowUpTo};
-ghost use Rattle.rows.specs.Fill.{put, replyFor, replyOf};
+ghost use Rattle.rows.specs.Fill.{put, Roomy, replyFor, replyOf};
 
 // A reading as far as a search has come: its entries and its pairs.
 pub struct Trail {
@@ -76,16 +76,19 @@ pub fn write_row(row: &mut [u8], t: Trail)
     write_pairs(row, t);
 }
 
-// One step of a listing: puts a row after those that were found before, and answers how many are found now. One that has no room is counted all the same, so that the
-// answer is more than the buffer's rows exactly when a row is missing.
-pub fn offer(rows: &mut [u8], found: usize, t: Trail) -> usize
-    requires { ⌜ (found ≤ rowCount (now rows)) × Short t ⌝ }
-    ensures { λ r. ⌜ (now (rows .exit), r) ≡ put (rowCount (now (rows .entry))) (now (rows .entry), found) (readingOf t) ⌝ }
+// One step of a listing: puts a row after those that were found before, and answers how many are found now. The first rows are passed over, as many as `capacity`
+// is more than the buffer's. One that has no room is counted all the same, so that the answer is more than `capacity` exactly when a row is missing.
+pub fn offer(rows: &mut [u8], capacity: usize, found: usize, t: Trail) -> usize
+    requires { ⌜ Roomy (now rows) capacity × ((found ≤ capacity) × Short t) ⌝ }
+    ensures { λ r. ⌜ (now (rows .exit), r) ≡ put capacity (now (rows .entry), found) (readingOf t) ⌝ }
 {
-    let capacity = rows.len() / 116;
+    let passed = capacity - rows.len() / 116;
+    if found < passed {
+        return found + 1;
+    }
     if found < capacity {
         let next = found + 1;
-        let from = 116 * found;
+        let from = 116 * (found - passed);
         let to = from + 116;
         write_row(&mut rows[from..to], t);
         return next;
@@ -101,16 +104,16 @@ pub enum Reply {
     Refused(u8),
 }
 
-pub fn reply_for(found: usize, capacity: usize) -> Reply
-    ensures { λ r. ⌜ replyOf r ≡ replyFor found capacity ⌝ }
+pub fn reply_for(found: usize, rows: usize) -> Reply
+    ensures { λ r. ⌜ replyOf r ≡ replyFor found rows ⌝ }
 {
     if found == 0 {
         return Reply::None;
     }
-    if found <= capacity {
+    if found <= rows {
         return Reply::All(found);
     }
-    Reply::More(capacity)
+    Reply::More(rows)
 }
 
 // The reply as one number, for callers from C.

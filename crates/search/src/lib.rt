@@ -5,13 +5,12 @@ ghost use mathlib.Core.Path.{_≡_};
 ghost use Prim.Native.Nat.{ℕ, _≤_};
 ghost use lib.ListN.{length, replicate};
 ghost use Rattle.model.specs.GrammarOf.{grammarOf};
-ghost use Rattle.model.specs.Rows.{rowCount};
 ghost use Rattle.model.specs.Tree.{readings};
 ghost use Rattle.image.specs.Header.{headerOf};
 ghost use Rattle.image.specs.Accepted.{Accepted};
 ghost use Rattle.image.specs.Index.{indexOf};
 ghost use Rattle.rows.specs.Offering.{offerAll};
-ghost use Rattle.rows.specs.Fill.{put};
+ghost use Rattle.rows.specs.Fill.{put, Roomy};
 ghost use Rattle.listing.specs.Asked.{queryBy};
 ghost use Rattle.filter.specs.Sieve.{MayBe, Writable};
 ghost use Rattle.walk.specs.Offered.{Offered};
@@ -31,15 +30,16 @@ fn from_start(
     word: &[u8],
     forms: &[u8],
     out: &mut [u8],
+    capacity: usize,
     table: &mut [u16],
 ) -> usize
     requires { ⌜ Accepted (now image) (headerOf h) ⌝ }
     requires { ⌜ now index ≡ indexOf (now image) ⌝ }
     requires { ⌜ MayBe (now image) (now forms) × Writable (now word) ⌝ }
+    requires { ⌜ Roomy (now out) capacity ⌝ }
     requires { ⌜ ((n : ℕ) × ((1 ≤ n) × (now table ≡ replicate n 0))) ⌝ }
-    ensures { λ r. ⌜ Offered (rowCount (now (out .entry))) (now (out .entry), 0) (readings (grammarOf (now (image .entry))) (queryBy asked (now (path .entry)) (now (word .entry)))) (now (out .exit), r) (length (now (table .entry))) ⌝ }
+    ensures { λ r. ⌜ Offered capacity (now (out .entry), 0) (readings (grammarOf (now (image .entry))) (queryBy asked (now (path .entry)) (now (word .entry)))) (now (out .exit), r) (length (now (table .entry))) ⌝ }
 {
-    let capacity = out.len() / 116;
     let begun = rules::states::begin_all(image, index, h);
     let alive = begun.alive;
     if !alive {
@@ -91,7 +91,7 @@ fn from_start(
     )
 }
 
-// The same with a table that only counts: where that gives up, a beginning of the rows is written, and two more are told than there is room for.
+// The same with a table that only counts: where that gives up, a beginning of the rows is written, and `capacity` + 2 is told.
 pub fn try_search(
     image: &[u8],
     index: &[u8],
@@ -101,14 +101,27 @@ pub fn try_search(
     word: &[u8],
     forms: &[u8],
     out: &mut [u8],
+    capacity: usize,
 ) -> usize
     requires { ⌜ Accepted (now image) (headerOf h) ⌝ }
     requires { ⌜ now index ≡ indexOf (now image) ⌝ }
     requires { ⌜ MayBe (now image) (now forms) × Writable (now word) ⌝ }
-    ensures { λ r. ⌜ Offered (rowCount (now (out .entry))) (now (out .entry), 0) (readings (grammarOf (now (image .entry))) (queryBy asked (now (path .entry)) (now (word .entry)))) (now (out .exit), r) 1 ⌝ }
+    requires { ⌜ Roomy (now out) capacity ⌝ }
+    ensures { λ r. ⌜ Offered capacity (now (out .entry), 0) (readings (grammarOf (now (image .entry))) (queryBy asked (now (path .entry)) (now (word .entry)))) (now (out .exit), r) 1 ⌝ }
 {
     let mut table = [0u16; 1];
-    from_start(image, index, h, asked, path, word, forms, out, &mut table)
+    from_start(
+        image,
+        index,
+        h,
+        asked,
+        path,
+        word,
+        forms,
+        out,
+        capacity,
+        &mut table,
+    )
 }
 
 // The same with a table that remembers dead ends: it does not give up.
@@ -121,14 +134,27 @@ fn search_long(
     word: &[u8],
     forms: &[u8],
     out: &mut [u8],
+    capacity: usize,
 ) -> usize
     requires { ⌜ Accepted (now image) (headerOf h) ⌝ }
     requires { ⌜ now index ≡ indexOf (now image) ⌝ }
     requires { ⌜ MayBe (now image) (now forms) × Writable (now word) ⌝ }
-    ensures { λ r. ⌜ (now (out .exit), r) ≡ offerAll (put (rowCount (now (out .entry)))) (now (out .entry), 0) (readings (grammarOf (now (image .entry))) (queryBy asked (now (path .entry)) (now (word .entry)))) ⌝ }
+    requires { ⌜ Roomy (now out) capacity ⌝ }
+    ensures { λ r. ⌜ (now (out .exit), r) ≡ offerAll (put capacity) (now (out .entry), 0) (readings (grammarOf (now (image .entry))) (queryBy asked (now (path .entry)) (now (word .entry)))) ⌝ }
 {
     let mut table = [0u16; 20480];
-    from_start(image, index, h, asked, path, word, forms, out, &mut table)
+    from_start(
+        image,
+        index,
+        h,
+        asked,
+        path,
+        word,
+        forms,
+        out,
+        capacity,
+        &mut table,
+    )
 }
 
 // All readings: dead ends are remembered only where the search turns out long. The rows that were written before are written again.
@@ -141,16 +167,17 @@ pub fn search(
     word: &[u8],
     forms: &[u8],
     out: &mut [u8],
+    capacity: usize,
 ) -> usize
     requires { ⌜ Accepted (now image) (headerOf h) ⌝ }
     requires { ⌜ now index ≡ indexOf (now image) ⌝ }
     requires { ⌜ MayBe (now image) (now forms) × Writable (now word) ⌝ }
-    ensures { λ r. ⌜ (now (out .exit), r) ≡ offerAll (put (rowCount (now (out .entry)))) (now (out .entry), 0) (readings (grammarOf (now (image .entry))) (queryBy asked (now (path .entry)) (now (word .entry)))) ⌝ }
+    requires { ⌜ Roomy (now out) capacity ⌝ }
+    ensures { λ r. ⌜ (now (out .exit), r) ≡ offerAll (put capacity) (now (out .entry), 0) (readings (grammarOf (now (image .entry))) (queryBy asked (now (path .entry)) (now (word .entry)))) ⌝ }
 {
-    let capacity = out.len() / 116;
-    let found = try_search(image, index, h, asked, path, word, forms, out);
+    let found = try_search(image, index, h, asked, path, word, forms, out, capacity);
     if found < capacity + 2 {
         return found;
     }
-    search_long(image, index, h, asked, path, word, forms, out)
+    search_long(image, index, h, asked, path, word, forms, out, capacity)
 }

@@ -1,23 +1,26 @@
 -- A search that may give up, part by part: what a part that gave up has offered is a beginning of the whole.
-use Prim.Native.Nat.{ℕ, zero, suc, _+_, _*_, _-_, _<_, _≤_, min}
+use Prim.Native.Nat.{ℕ, zero, suc, _+_, _<_, _≤_, min}
 use native.Mathlib.Nat.{eq-or-lt-of-le}
 use native.Mathlib.Omega.{arith}
-use mathlib.Core.Logic.{_⊎_, inl, inr, ⊎-elim}
-use mathlib.Core.Path.{_≡_, refl, sym, ap, _∙_}
+use mathlib.Core.Logic.{⊎-elim}
+use mathlib.Core.Path.{_≡_, refl, sym, ap, ap₂, _∙_}
 use mathlib.Core.List.{List, [], _∷_, _++_, append-assoc}
-use lib.ListN.{length, take, drop, length-append, length-take}
-use lib.Seq.{drop-drop}
+use lib.ListN.{length}
 use Rattle.model.specs.Lists.{below, flatMap}
 use Rattle.model.specs.Readings.{Reading}
-use Rattle.model.specs.Rows.{rowBytes, filled}
+use Rattle.model.specs.Rows.{rowCount}
 use Rattle.model.proofs.Lists.{flatMap-below}
-use Rattle.model.proofs.Rows.{filled-past}
 use Rattle.rows.specs.Offering.{offerAll}
-use Rattle.rows.specs.Fill.{put}
+use Rattle.rows.specs.Fill.{put, Roomy}
 use Rattle.rows.proofs.Offering.{offer-none, offer-append}
-use Rattle.rows.proofs.Fill.{count-offered, offered-fills}
+use Rattle.rows.proofs.Fill.{count-offered}
+use Rattle.rows.proofs.Windows.{window-again}
 use Rattle.walk.specs.Offered.{GaveUp, Offered}
 use Rattle.walk.proofs.Turns.{Turns}
+
+-- a buffer that keeps its length has the room that it had
+pub roomy-kept : {new old : List ℕ} {capacity : ℕ} → length new ≡ length old → Roomy old capacity → Roomy new capacity
+roomy-kept e r = record { rows-in = omega (arith, e, r .rows-in); fits = r .fits }
 
 module _ {capacity places : ℕ} where
   -- with nothing offered yet
@@ -71,29 +74,18 @@ module _ {capacity places : ℕ} where
       blank (r ∷ l) z = absurd (omega (arith, z))
 
 -- Rows written again over a beginning of them leave what they leave at once.
-filled-again : (buffer : List ℕ) (l m : List Reading) → length l ≤ length m → filled (filled buffer l) m ≡ filled buffer m
-unfolding filled
-filled-again buffer l m h =
-    let more = 116 * (length m - length l) in
-    let e : 116 * length m ≡ 116 * length l + more = omega (arith, h) in
-    let past : (d : List ℕ) → drop (116 * length m) d ≡ drop more (drop (116 * length l) d) = λ d. ap (λ (n : ℕ). drop n d) e ∙ sym (drop-drop more (116 * length l) d) in
-    ap (λ (d : List ℕ). flatMap rowBytes m ++ d) (past (filled buffer l) ∙ ap (drop more) (filled-past buffer l) ∙ sym (past buffer))
-
-pub offered-again : {buffer after last : List ℕ} {l : List Reading} {capacity told found places : ℕ} → capacity + 2 ≤ told → Offered capacity (buffer, 0) l (after, told) places
+pub offered-again : {buffer after last : List ℕ} {l : List Reading} {capacity told found places : ℕ} → rowCount buffer ≤ capacity → capacity + 2 ≤ told
+    → Offered capacity (buffer, 0) l (after, told) places
     → (last, found) ≡ offerAll (put capacity) (after, 0) l
     → (last, found) ≡ offerAll (put capacity) (buffer, 0) l
-offered-again {buffer} {after} {last} {l} {capacity} {told} {found} {places} h o e = ⊎-elim all gave o
+offered-again {buffer} {after} {last} {l} {capacity} {told} {found} {places} room h o e = ⊎-elim all gave o
   where
     all : (after, told) ≡ offerAll (put capacity) (buffer, 0) l → (last, found) ≡ offerAll (put capacity) (buffer, 0) l
     all f = absurd (omega (arith, h, ap (λ (s : List ℕ × ℕ). s .1) f ∙ count-offered capacity (buffer, 0) l (omega arith)))
 
     gave : GaveUp capacity (buffer, 0) l (after, told) places → (last, found) ≡ offerAll (put capacity) (buffer, 0) l
     gave g =
-        let front = take capacity (g .first) in
-        let few : length front ≤ length (take capacity l) = rw (g .parts, length-take, length-take, length-append) (omega arith) in
-        let written : after ≡ filled buffer front = g .bytes ∙ ap (λ (s : List ℕ × ℕ). s .0) (offered-fills buffer capacity (g .first)) in
         e
-        ∙ ap (λ (d : List ℕ). offerAll (put capacity) (d, 0) l) written
-        ∙ offered-fills (filled buffer front) capacity l
-        ∙ ap (λ (d : List ℕ). (d, min (length l) (suc capacity))) (filled-again buffer front (take capacity l) few)
-        ∙ sym (offered-fills buffer capacity l)
+        ∙ ap₂ (λ (d : List ℕ) (m : List Reading). offerAll (put capacity) (d, 0) m) (g .bytes) (g .parts)
+        ∙ window-again buffer capacity room (g .first) (g .rest)
+        ∙ ap (offerAll (put capacity) (buffer, 0)) (sym (g .parts))

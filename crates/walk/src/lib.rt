@@ -5,7 +5,7 @@ ghost use mathlib.Core.Path.{_≡_};
 ghost use Prim.Native.Nat.{_<_, _≤_};
 ghost use lib.ListN.{length, take};
 ghost use Rattle.model.specs.Lists.{below, flatMap};
-ghost use Rattle.model.specs.Rows.{rowCount};
+ghost use Rattle.rows.specs.Fill.{Roomy};
 ghost use Rattle.image.specs.Header.{headerOf};
 ghost use Rattle.listing.specs.Asked.{queryBy};
 ghost use Rattle.listing.specs.Search.{foundAt, entryOne};
@@ -41,7 +41,7 @@ pub fn open(
     requires { ⌜ Underway (now image) (now index) (headerOf h) place trail ⌝ }
     requires { ⌜ Sieve (now image) (queryBy asked (now path) (now word)) (now forms) (now masks) (now reach) ⌝ }
     requires { ⌜ opensAt place ≡ true ⌝ }
-    requires { ⌜ (capacity ≡ rowCount (now out)) × (found ≤ capacity) ⌝ }
+    requires { ⌜ Roomy (now out) capacity × (found ≤ capacity) ⌝ }
     requires { ⌜ (1 ≤ length (now table)) × Remembered (now image) (queryBy asked (now path) (now word)) (now table) ⌝ }
     ensures rows { λ r. ⌜ Offered capacity (now (out .entry), found) (foundAt (now (image .entry)) (queryBy asked (now (path .entry)) (now (word .entry))) place trail) (now (out .exit), r) (length (now (table .entry))) ⌝ }
     ensures table { λ r. ⌜ Remembered (now (image .entry)) (queryBy asked (now (path .entry)) (now (word .entry))) (now (table .exit)) ⌝ }
@@ -151,7 +151,7 @@ pub fn open_each(
     requires { ⌜ Underway (now image) (now index) (headerOf h) place trail ⌝ }
     requires { ⌜ Sieve (now image) (queryBy asked (now path) (now word)) (now forms) (now masks) (now reach) ⌝ }
     requires { ⌜ (opensAt place ≡ true) × (trail .entries < 16) ⌝ }
-    requires { ⌜ (capacity ≡ rowCount (now out)) × (found ≤ capacity) ⌝ }
+    requires { ⌜ Roomy (now out) capacity × (found ≤ capacity) ⌝ }
     requires { ⌜ (1 ≤ length (now table)) × Remembered (now image) (queryBy asked (now path) (now word)) (now table) ⌝ }
     ensures rows { λ r. ⌜ Offered capacity (now (out .entry), found) (flatMap (entryOne (now (image .entry)) (queryBy asked (now (path .entry)) (now (word .entry))) place trail) (below (h .entries))) (now (out .exit), r) (length (now (table .entry))) ⌝ }
     ensures table { λ r. ⌜ Remembered (now (image .entry)) (queryBy asked (now (path .entry)) (now (word .entry))) (now (table .exit)) ⌝ }
@@ -233,7 +233,7 @@ pub fn open_listed(
     requires { ⌜ Sieve (now image) (queryBy asked (now path) (now word)) (now forms) (now masks) (now reach) ⌝ }
     requires { ⌜ (opensAt place ≡ true) × (trail .entries < 16) ⌝ }
     requires { ⌜ ((many ≤ 64) × (many ≤ length (now list))) × Listed (now image) (queryBy asked (now path) (now word)) place trail (take many (now list)) ⌝ }
-    requires { ⌜ (capacity ≡ rowCount (now out)) × (found ≤ capacity) ⌝ }
+    requires { ⌜ Roomy (now out) capacity × (found ≤ capacity) ⌝ }
     requires { ⌜ (1 ≤ length (now table)) × Remembered (now image) (queryBy asked (now path) (now word)) (now table) ⌝ }
     ensures rows { λ r. ⌜ Offered capacity (now (out .entry), found) (flatMap (entryOne (now (image .entry)) (queryBy asked (now (path .entry)) (now (word .entry))) place trail) (below (h .entries))) (now (out .exit), r) (length (now (table .entry))) ⌝ }
     ensures table { λ r. ⌜ Remembered (now (image .entry)) (queryBy asked (now (path .entry)) (now (word .entry))) (now (table .exit)) ⌝ }
@@ -293,7 +293,7 @@ pub fn pair(
 ) -> usize
     requires { ⌜ Underway (now image) (now index) (headerOf h) place trail ⌝ }
     requires { ⌜ Sieve (now image) (queryBy asked (now path) (now word)) (now forms) (now masks) (now reach) ⌝ }
-    requires { ⌜ (capacity ≡ rowCount (now out)) × (found ≤ capacity) ⌝ }
+    requires { ⌜ Roomy (now out) capacity × (found ≤ capacity) ⌝ }
     requires { ⌜ (1 ≤ length (now table)) × Remembered (now image) (queryBy asked (now path) (now word)) (now table) ⌝ }
     ensures rows { λ r. ⌜ Offered capacity (now (out .entry), found) (foundAt (now (image .entry)) (queryBy asked (now (path .entry)) (now (word .entry))) place trail) (now (out .exit), r) (length (now (table .entry))) ⌝ }
     ensures table { λ r. ⌜ Remembered (now (image .entry)) (queryBy asked (now (path .entry)) (now (word .entry))) (now (table .exit)) ⌝ }
@@ -358,7 +358,7 @@ pub fn pair_each(
 ) -> usize
     requires { ⌜ Underway (now image) (now index) (headerOf h) place trail ⌝ }
     requires { ⌜ Sieve (now image) (queryBy asked (now path) (now word)) (now forms) (now masks) (now reach) ⌝ }
-    requires { ⌜ (capacity ≡ rowCount (now out)) × (found ≤ capacity) ⌝ }
+    requires { ⌜ Roomy (now out) capacity × (found ≤ capacity) ⌝ }
     requires { ⌜ (1 ≤ length (now table)) × Remembered (now image) (queryBy asked (now path) (now word)) (now table) ⌝ }
     ensures rows { λ r. ⌜ Offered capacity (now (out .entry), found) (foundAt (now (image .entry)) (queryBy asked (now (path .entry)) (now (word .entry))) place trail) (now (out .exit), r) (length (now (table .entry))) ⌝ }
     ensures table { λ r. ⌜ Remembered (now (image .entry)) (queryBy asked (now (path .entry)) (now (word .entry))) (now (table .exit)) ⌝ }
@@ -386,7 +386,19 @@ pub fn pair_each(
             );
         }
         last = ENDED;
-        n = ahead::here::put_ended(image, index, h, asked, path, word, place, trail, out, found);
+        n = ahead::here::put_ended(
+            image,
+            index,
+            h,
+            asked,
+            path,
+            word,
+            place,
+            trail,
+            out,
+            capacity,
+            found,
+        );
         if capacity < n {
             return n;
         }

@@ -23,9 +23,11 @@ list-tabled-requires c κs = let told = c .before in sym (told .before .before .
 returns : tie.Need-returns
 returns c =
     let told = c .before in
-    let a = told .before .before .before .before .before .before .args in
+    let checked = told .before .before in
+    let a = checked .before .before .before .before .args in
     let k = told .early .given .0 .0 in
-    image-refused (a .image .now) (requestOf (a .d) (a .asked .now)) (a .out .now) k (sym (refused-early (a .image .now) k (sym (told .before .before .check-tables .ensures) ∙ ap verdictOf (told .early .given .1))))
+    let refused = refused-early (a .image .now) k (sym (checked .check-tables .ensures) ∙ ap verdictOf (told .early .given .1)) in
+    image-refused (a .image .now) (requestOf (a .request) (a .asked .now)) (a .out .now) k (sym refused)
 
 same-length : tie.Need-same-length
 same-length c = search needs

@@ -1,7 +1,6 @@
 -- `list_tabled` meets its contract: the other tests of the image, and then the listing of an accepted one.
 use borrow.Author.Needs.{needs}
 use mathlib.Core.Path.{sym, ap, _∙_}
-use Rattle.model.specs.Refusals.{accepted}
 use Rattle.grammar.specs.Answers.{verdictOf}
 use Rattle.requests.specs.Request.{requestOf}
 use Rattle.analyser.proofs.Replies.{image-refused}
@@ -34,8 +33,10 @@ returns : tie.Need-returns
 returns c =
     let told = c .before in
     let checked = told .before .before .before .before in
-    let a = checked .before .before .before .before .before .args in
-    image-refused (a .image .now) (requestOf (a .d) (a .asked .now)) (a .out .now) (told .verdict .given .0 .0) (sym (checked .for-few .ensures .verdict-is) ∙ ap verdictOf (told .verdict .given .1))
+    let lent = checked .before in
+    let a = lent .before .before .before .before .args in
+    let refused = sym (checked .for-few .ensures .verdict-is) ∙ ap verdictOf (told .verdict .given .1) in
+    image-refused (a .image .now) (requestOf (a .request) (a .asked .now)) (a .out .now) (told .verdict .given .0 .0) refused
 
 same-length : tie.Need-same-length
 same-length c = search needs

@@ -10,9 +10,17 @@ use Rattle.analyser.proofs.Replies.{accepted-by, own-refused, own-accep
 use Rattle.analyser.proofs.indexed.list.Statement.{statement}
 use Rattle.analyser.proofs.indexed.list.Tie as tie
 
--- in the arm of a request that passes its own tests
-passed : (c : tie.After-enum-told) → let a = c .before .before .before .before .before .before .before .args in firstFailing (ownTests (a .image .now) (requestOf (a .d) (a .asked .now))) ≡ accepted
-passed c = sym (c .before .before .own-verdict .ensures) ∙ ap verdictOf (c .enum-told .given .1)
+-- the start, from where the call's own tests are made
+abbrev start : tie.After-own-verdict → tie.Start
+start c = let lent = c .before in lent .before .before .before .before
+
+-- in the arm of a request that passes them
+module _ (c : tie.After-enum-told) where
+  abbrev asks : tie.Start
+  asks = start (c .before .before)
+
+  passed : firstFailing (ownTests (asks .args .image .now) (requestOf (asks .args .request) (asks .args .asked .now))) ≡ accepted
+  passed = sym (c .before .before .own-verdict .ensures) ∙ ap verdictOf (c .enum-told .given .1)
 
 own-verdict-requires : tie.Need-own-verdict-requires
 own-verdict-requires c κs = let s = c .before .before .before .before in accepted-by (s .args .image .now) (headerOf (s .args .h)) (s .pre .0) (s .pre .1 .0)
@@ -24,22 +32,23 @@ enum-told : tie.Need-enum-told
 enum-told c = search needs
 
 slice-aggregate-search-for : tie.Need-slice-aggregate-search-for
-slice-aggregate-search-for c = sym (length-take-le 39424 (c .before .before .before .before .before .before .before .before .args .index .now) (c .before .before .before .before .before .before .before .before .pre .1 .1 .long))
+slice-aggregate-search-for c = let s = asks (c .before) in sym (length-take-le 39424 (s .args .index .now) (s .pre .1 .1 .long))
 
 sub-search-for : tie.Need-sub-search-for
-sub-search-for c = c .before .before .before .before .before .before .before .before .pre .1 .1 .long
+sub-search-for c = asks (c .before) .pre .1 .1 .long
 
 part-search-for-start : tie.Need-part-search-for-start
-part-search-for-start c = c .before .before .before .before .before .before .before .before .pre .1 .1 .long
+part-search-for-start c = asks (c .before) .pre .1 .1 .long
 
 part-search-for-end : tie.Need-part-search-for-end
 part-search-for-end c = search needs
 
 search-for-requires : tie.Need-search-for-requires
 search-for-requires c κs =
-    let s = c .before .before .before .before .before .before .before .before .before .before in
+    let told = c .before .before .before in
+    let s = asks told in
     let a = s .args in
-    (accepted-by (a .image .now) (headerOf (a .h)) (s .pre .0) (s .pre .1 .0), (s .pre .1 .1 .index-is, (rest-forms (s .pre .1 .1), passed (c .before .before .before))))
+    (accepted-by (a .image .now) (headerOf (a .h)) (s .pre .0) (s .pre .1 .0), (s .pre .1 .1 .index-is, (rest-forms (s .pre .1 .1), passed told)))
 
 reply-for-requires : tie.Need-reply-for-requires
 reply-for-requires c κs = search needs
@@ -47,20 +56,23 @@ reply-for-requires c κs = search needs
 returns : tie.Need-returns
 returns c =
     let told = c .before in
-    let s = told .before .before .before .before .before .before .before in
+    let tested = told .before .before in
+    let s = start tested in
     let a = s .args in
-    own-refused (a .image .now) (requestOf (a .d) (a .asked .now)) (a .out .now) (s .pre .0) (told .verdict .given .0 .0) (sym (told .before .before .own-verdict .ensures) ∙ ap verdictOf (told .verdict .given .1))
+    let refused = sym (tested .own-verdict .ensures) ∙ ap verdictOf (told .verdict .given .1) in
+    own-refused (a .image .now) (requestOf (a .request) (a .asked .now)) (a .out .now) (s .pre .0) (told .verdict .given .0 .0) refused
 
 same-length : tie.Need-same-length
 same-length c = search needs
 
 returns-2 : tie.Need-returns-2
 returns-2 c =
-    let told = c .before .before .before .before .before .before .before in
-    let s = told .before .before .before .before .before .before .before in
+    let searched = c .before .before .before in
+    let told = searched .before .before .before .before in
+    let s = asks told in
     let a = s .args in
-    let request = requestOf (a .d) (a .asked .now) in
-    let found = c .before .before .before .search-for in
+    let request = requestOf (a .request) (a .asked .now) in
+    let found = searched .search-for in
     let both = own-accepted (a .image .now) request (a .out .now) (s .pre .0) (passed told) _ (found .result) (found .ensures) in
     (c .reply-for .ensures ∙ both .0, both .1)
 

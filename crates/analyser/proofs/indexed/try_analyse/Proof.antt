@@ -11,9 +11,21 @@ use Rattle.analyser.proofs.Replies.{accepted-by, own-refused, own-accep
 use Rattle.analyser.proofs.indexed.try_analyse.Statement.{statement}
 use Rattle.analyser.proofs.indexed.try_analyse.Tie as tie
 
--- in the arm of a word that passes its own tests
-passed : (c : tie.After-enum-told) → let a = c .before .before .before .before .before .before .before .args in firstFailing (ownTests (a .image .now) (analysis (a .word .now))) ≡ accepted
-passed c = sym (c .before .before .own-verdict .ensures) ∙ ap verdictOf (c .enum-told .given .1)
+-- the start, from where the word's own tests are made
+abbrev start : tie.After-own-verdict → tie.Start
+start c = let lent = c .before in lent .before .before .before .before
+
+-- in the arm of a word that passes them
+module _ (c : tie.After-enum-told) where
+  abbrev asks : tie.Start
+  asks = start (c .before .before)
+
+  passed : firstFailing (ownTests (asks .args .image .now) (analysis (asks .args .word .now))) ≡ accepted
+  passed = sym (c .before .before .own-verdict .ensures) ∙ ap verdictOf (c .enum-told .given .1)
+
+-- where the search has come back
+abbrev told : tie.After-try-word → tie.After-enum-told
+told c = c .before .before .before .before
 
 own-verdict-requires : tie.Need-own-verdict-requires
 own-verdict-requires c κs = let s = c .before .before .before .before in accepted-by (s .args .image .now) (headerOf (s .args .h)) (s .pre .0) (s .pre .1 .0)
@@ -25,22 +37,23 @@ enum-told : tie.Need-enum-told
 enum-told c = search needs
 
 slice-aggregate-try-word : tie.Need-slice-aggregate-try-word
-slice-aggregate-try-word c = sym (length-take-le 39424 (c .before .before .before .before .before .before .before .before .args .index .now) (c .before .before .before .before .before .before .before .before .pre .1 .1 .long))
+slice-aggregate-try-word c = let s = asks (c .before) in sym (length-take-le 39424 (s .args .index .now) (s .pre .1 .1 .long))
 
 sub-try-word : tie.Need-sub-try-word
-sub-try-word c = c .before .before .before .before .before .before .before .before .pre .1 .1 .long
+sub-try-word c = asks (c .before) .pre .1 .1 .long
 
 part-try-word-start : tie.Need-part-try-word-start
-part-try-word-start c = c .before .before .before .before .before .before .before .before .pre .1 .1 .long
+part-try-word-start c = asks (c .before) .pre .1 .1 .long
 
 part-try-word-end : tie.Need-part-try-word-end
 part-try-word-end c = search needs
 
 try-word-requires : tie.Need-try-word-requires
 try-word-requires c κs =
-    let s = c .before .before .before .before .before .before .before .before .before .before in
+    let taken = c .before .before .before in
+    let s = asks taken in
     let a = s .args in
-    (accepted-by (a .image .now) (headerOf (a .h)) (s .pre .0) (s .pre .1 .0), (s .pre .1 .1 .index-is, (rest-forms (s .pre .1 .1), passed (c .before .before .before))))
+    (accepted-by (a .image .now) (headerOf (a .h)) (s .pre .0) (s .pre .1 .0), (s .pre .1 .1 .index-is, (rest-forms (s .pre .1 .1), passed taken)))
 
 add-if1 : tie.Need-add-if1
 add-if1 c = search needs
@@ -53,19 +66,22 @@ same-length c = search needs
 
 returns : tie.Need-returns
 returns c =
-    let told = c .before .before .before .before .before .before .before .before in
-    let s = told .before .before .before .before .before .before .before in
+    let searched = c .before .before .before .before in
+    let s = asks (told searched) in
     let a = s .args in
-    let found = c .before .before .before .before .try-word in
-    let both = own-accepted (a .image .now) (analysis (a .word .now)) (a .out .now) (s .pre .0) (passed told) _ (found .result) (offered-all (c .before .if1 .taken) (found .ensures)) in
+    let found = searched .try-word in
+    let all = offered-all (c .before .if1 .taken) (found .ensures) in
+    let both = own-accepted (a .image .now) (analysis (a .word .now)) (a .out .now) (s .pre .0) (passed (told searched)) _ (found .result) all in
     (c .reply-for .ensures ∙ both .0, both .1)
 
 returns-2 : tie.Need-returns-2
 returns-2 c =
-    let told = c .before in
-    let s = told .before .before .before .before .before .before .before in
+    let arm = c .before in
+    let tested = arm .before .before in
+    let s = start tested in
     let a = s .args in
-    own-refused (a .image .now) (analysis (a .word .now)) (a .out .now) (s .pre .0) (told .verdict .given .0 .0) (sym (told .before .before .own-verdict .ensures) ∙ ap verdictOf (told .verdict .given .1))
+    let refused = sym (tested .own-verdict .ensures) ∙ ap verdictOf (arm .verdict .given .1) in
+    own-refused (a .image .now) (analysis (a .word .now)) (a .out .now) (s .pre .0) (arm .verdict .given .0 .0) refused
 
 same-length-2 : tie.Need-same-length-2
 same-length-2 c = search needs

@@ -1,6 +1,6 @@
 -- The needs of `open_each`. At the loop's head an `Opening` is known, and the next entry that may open; each turn offers what it finds, or passes over it
 -- where it finds nothing.
-use Prim.Native.Nat.{ℕ, _+_, _<_, _≤_}
+use Prim.Native.Nat.{ℕ, _+_, _<_}
 use native.Mathlib.Decide.{decLt}
 use native.Mathlib.Omega.{arith}
 use borrow.Author.Needs.{needs}
@@ -11,21 +11,17 @@ use mathlib.Core.List.{List, []}
 use lib.ListN.{length, set}
 use Rattle.model.specs.Blocks.{Header}
 use Rattle.model.specs.Query.{Query}
-use Rattle.model.specs.Readings.{Reading}
 use Rattle.image.specs.Header.{headerOf}
 use Rattle.rows.specs.Trail.{readingOf, withEntry, Holds}
-use Rattle.rows.specs.Fill.{put}
-use Rattle.rows.specs.Offering.{offerAll}
+use Rattle.rows.specs.Fill.{Roomy}
 use Rattle.rows.proofs.Longer.{longer-entry}
-use Rattle.rows.proofs.Offering.{offer-none}
 use Rattle.rows.proofs.Fill.{put-keeps}
 use Rattle.listing.specs.Search.{entryOne}
 use Rattle.listing.specs.declared.opening.Range.{Range}
 use Rattle.listing.specs.Asked.{pathPattern, queryBy}
 use Rattle.listing.specs.Opening.{mayEnter, WaysOf, NextOf}
-use Rattle.listing.proofs.Searching.{stopOne, stop-none}
 use Rattle.walk.proofs.Turns.{turns-none, turns-more, turns-skip, turns-far, turns-stop, turns-all, turns-is}
-use Rattle.walk.proofs.Giving.{gave-turn, offered-same, offered-all}
+use Rattle.walk.proofs.Giving.{gave-turn, offered-same, offered-all, roomy-kept}
 use Rattle.ahead.proofs.Heads.{Opening, last-in, entry-few, entry-none, open-underway, open-less, open-turn}
 use Rattle.ahead.proofs.FirstLetters.{Known, known-none, known-more}
 use Rattle.walk.proofs.+open+open_each+open_listed+pair+pair_each.Lts-open_each as lts
@@ -178,7 +174,9 @@ module _ (t : ℕ) where
       let next = at .enter in
       let holds = longer here in
       let less = open-less o (loop .e) holds (next .result) (next .ensures .0) (query s) in
-      (omega (arith, s .pre .0, less), (open-underway o (loop .e) holds (next .result) (next .ensures .0) (next .ensures .1), (s .pre .1 .1 .0, ((rw (loop .inv .1 .1 .0 .0) (s .pre .1 .1 .1 .1 .0 .0), loop .inv .1 .1 .0 .1), (omega (arith, s .pre .1 .1 .1 .1 .1 .0, loop .inv .0 .0), loop .inv .0 .1)))))
+      let underway = open-underway o (loop .e) holds (next .result) (next .ensures .0) (next .ensures .1) in
+      let roomy : Roomy (loop .out) (s .args .capacity) = roomy-kept (loop .inv .1 .1 .0 .0) (s .pre .1 .1 .1 .1 .0 .0) in
+      (omega (arith, s .pre .0, less), (underway, (s .pre .1 .1 .0, ((roomy, loop .inv .1 .1 .0 .1), (omega (arith, s .pre .1 .1 .1 .1 .1 .0, loop .inv .0 .0), loop .inv .0 .1)))))
 
   -- the rows are full, or the search is given up
   pub same-length : OfEach t lts.Need-same-length

@@ -1,10 +1,10 @@
 -- The needs of `open_listed`. At the loop's head an `Opening` is known, and the list; each turn offers what its entry finds.
-use Prim.Native.Nat.{ℕ, _+_, _<_, _≤_}
+use Prim.Native.Nat.{ℕ, _+_, _<_}
 use native.Mathlib.Omega.{arith}
 use borrow.Author.Needs.{needs}
 use mathlib.Core.Bool.{true}
 use mathlib.Core.Logic.{inl, inr, ⊎-elim}
-use mathlib.Core.Path.{_≡_, refl, sym, ap, _∙_, subst}
+use mathlib.Core.Path.{_≡_, refl, sym, ap, _∙_}
 use mathlib.Core.List.{List}
 use lib.ListN.{length, getD, take, set}
 use lib.Seq.{length-take-le, getD-take}
@@ -14,7 +14,7 @@ use Rattle.model.specs.Query.{Query}
 use Rattle.model.specs.Readings.{Reading}
 use Rattle.image.specs.Header.{headerOf}
 use Rattle.rows.specs.Trail.{readingOf, withEntry, Holds}
-use Rattle.rows.specs.Fill.{put}
+use Rattle.rows.specs.Fill.{put, Roomy}
 use Rattle.rows.specs.Offering.{offerAll}
 use Rattle.rows.proofs.Longer.{longer-entry}
 use Rattle.rows.proofs.Fill.{put-keeps}
@@ -23,7 +23,7 @@ use Rattle.listing.specs.Opening.{mayEnter}
 use Rattle.listing.specs.Search.{foundAt, entryOne}
 use Rattle.walk.specs.Offered.{Offered}
 use Rattle.walk.proofs.Turns.{turns-none, turns-more, turns-stop, turns-all}
-use Rattle.walk.proofs.Giving.{gave-same, gave-turn, offered-same, offered-all}
+use Rattle.walk.proofs.Giving.{gave-same, gave-turn, offered-same, offered-all, roomy-kept}
 use Rattle.ahead.proofs.Heads.{Opening, entry-few, open-underway, open-less, open-turn}
 use Rattle.walk.proofs.+open+open_each+open_listed+pair+pair_each.Lts-open_listed as lts
 use Rattle.walk.proofs.+open+open_each+open_listed+pair+pair_each.Proof.Shared.{OfListed}
@@ -130,7 +130,9 @@ module _ (t : ℕ) where
       let next = at .enter in
       let holds = longer here in
       let less = open-less o (number here) holds (next .result) (next .ensures .0) (query s) in
-      (omega (arith, s .pre .0, less), (open-underway o (number here) holds (next .result) (next .ensures .0) (next .ensures .1), (s .pre .1 .1 .0, ((rw (loop .inv .1 .1 .0 .0) (s .pre .1 .1 .1 .1 .1 .0 .0), loop .inv .1 .1 .0 .1), (omega (arith, s .pre .1 .1 .1 .1 .1 .1 .0, loop .inv .0 .0), loop .inv .0 .1)))))
+      let underway = open-underway o (number here) holds (next .result) (next .ensures .0) (next .ensures .1) in
+      let roomy : Roomy (loop .out) (s .args .capacity) = roomy-kept (loop .inv .1 .1 .0 .0) (s .pre .1 .1 .1 .1 .1 .0 .0) in
+      (omega (arith, s .pre .0, less), (underway, (s .pre .1 .1 .0, ((roomy, loop .inv .1 .1 .0 .1), (omega (arith, s .pre .1 .1 .1 .1 .1 .1 .0, loop .inv .0 .0), loop .inv .0 .1)))))
 
   -- where the entry has offered what it finds, or gave up
   abbrev Made : Type 0

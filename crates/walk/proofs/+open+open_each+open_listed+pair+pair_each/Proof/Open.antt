@@ -1,5 +1,5 @@
 -- The needs of `open`. Where the path may end, that is offered first; then all entries that may open are, or those that the filter leaves.
-use Prim.Native.Nat.{ℕ, _+_, _<_, _≤_}
+use Prim.Native.Nat.{ℕ, _≤_}
 use native.Mathlib.Omega.{arith}
 use borrow.Author.Needs.{needs}
 use mathlib.Core.Logic.{inl, inr, ⊎-elim}
@@ -10,7 +10,7 @@ use Rattle.model.specs.Lists.{below, flatMap}
 use Rattle.model.specs.Query.{Query}
 use Rattle.model.specs.Readings.{Reading}
 use Rattle.image.specs.Header.{headerOf}
-use Rattle.rows.specs.Fill.{put}
+use Rattle.rows.specs.Fill.{put, Roomy}
 use Rattle.rows.specs.Offering.{offerAll}
 use Rattle.rows.proofs.Offering.{offer-none}
 use Rattle.rows.proofs.Fill.{put-keeps}
@@ -20,40 +20,92 @@ use Rattle.dead.specs.Dead.{Remembered}
 use Rattle.listing.proofs.Searching.{stopOne, stop-none}
 use Rattle.walk.specs.Offered.{Offered}
 use Rattle.walk.proofs.Turns.{state-is}
-use Rattle.walk.proofs.Giving.{gave-same, gave-first, gave-next, offered-same, offered-all}
+use Rattle.walk.proofs.Giving.{gave-same, gave-first, gave-next, offered-same, offered-all, roomy-kept}
 use Rattle.walk.proofs.Choosing.{chosen-listed}
 use Rattle.ahead.proofs.Heads.{Opening, last-in, stop-fills, stop-underway, stop-less, stop-turn, open-parts, open-last, open-offered}
 use Rattle.walk.proofs.+open+open_each+open_listed+pair+pair_each.Lts-open as lts
 use Rattle.walk.proofs.+open+open_each+open_listed+pair+pair_each.Proof.Shared.{Tabled, OfOpen}
 
 module _ (t : ℕ) where
-  -- where the ending has been offered, and where an entry is to spare
+  -- the start, from where what is lent is known, and from where it is known whether the path may stop
+  abbrev from-shared : OfOpen t lts.After-shared-slice-known4 → OfOpen t lts.Start
+  from-shared c = c .before .before .before .before
+
+  abbrev from-lent : OfOpen t lts.After-slice-known2 → OfOpen t lts.Start
+  from-lent c = let later = c .before .before .before in from-shared (later .before .before)
+
+  abbrev start : OfOpen t lts.After-may-stop → OfOpen t lts.Start
+  start c = from-lent (c .before)
+
+  -- where the path has ended, and where what its ending finds has been searched for
+  abbrev Ended : Type 0
+  Ended = OfOpen t lts.After-stop
+
+  abbrev may-end : Ended → OfOpen t lts.After-may-stop
+  may-end c = c .before .before
+
+  abbrev ended : OfOpen t lts.After-pair → Ended
+  ended c = c .before .before .before
+
+  abbrev paired : OfOpen t lts.After-slice-known4 → OfOpen t lts.After-pair
+  paired c = c .before .before .before .before
+
+  -- where the ending has been offered, where an entry is to spare, and where the filter has chosen
   abbrev Stopped : Type 0
   Stopped = OfOpen t lts.Joined1
 
   abbrev Spared : Type 0
   Spared = OfOpen t lts.Else3
 
+  abbrev Chose : Type 0
+  Chose = OfOpen t lts.After-choose
+
   abbrev first : Stopped → OfOpen t lts.Start
-  first w = w .before .before .before .before .before .before .before .before .before .before .before
+  first w = start (w .before)
 
   abbrev stopped : Spared → Stopped
   stopped c = c .before .before
+
+  abbrev spared : Chose → Spared
+  spared c = c .before .before .before
+
+  -- where all entries, or those that the filter leaves, are tried
+  abbrev Tried : Type 0
+  Tried = OfOpen t lts.After-open-each
+
+  abbrev Survived : Type 0
+  Survived = OfOpen t lts.After-open-listed
+
+  abbrev chose-none : OfOpen t lts.After-open-each-arg2 → Chose
+  chose-none c = c .before .before .before .before
+
+  abbrev chose-some : OfOpen t lts.Else4 → Chose
+  chose-some c = c .before .before
+
+  abbrev some : OfOpen t lts.After-open-listed-arg2 → OfOpen t lts.Else4
+  some c = c .before .before .before
+
+  abbrev tried : OfOpen t lts.After-slice-known6 → Tried
+  tried c = c .before .before .before .before
+
+  abbrev survived : OfOpen t lts.After-slice-known8 → Survived
+  survived c = c .before .before .before .before
 
   abbrev query : OfOpen t lts.Start → Query
   query s = queryBy (s .args .asked) (s .args .path .now) (s .args .word .now)
 
   -- whether the path ends here
   pub may-stop-requires : OfOpen t lts.Need-may-stop-requires
-  may-stop-requires c κs = let underway = c .before .before .before .before .before .before .before .before .before .pre .1 .0 in (underway .accepted, (underway .stands))
+  may-stop-requires c κs = let underway = from-lent c .pre .1 .0 in (underway .accepted, underway .stands)
 
   pub stop-requires : OfOpen t lts.Need-stop-requires
   stop-requires c κs = search needs
 
   pub pair-requires : OfOpen t lts.Need-pair-requires
   pair-requires c κs =
-      let s = c .before .before .before .before .before .before .before .before .before .before .before .before .before .before in
-      let place = c .before .before .stop in
+      let at = c .before .before in
+      let s = start (may-end at) in
+      let place = at .stop in
       let o = s .pre .1 .1 .1 .0 in
       let less = stop-less (s .pre .1 .0) o (place .result) (place .ensures .0) (query s) in
       (omega (arith, s .pre .0, less), (stop-underway (s .pre .1 .0) o (place .result) (place .ensures .0) (place .ensures .1), (s .pre .1 .1 .0, s .pre .1 .1 .1 .1)))
@@ -67,12 +119,12 @@ module _ (t : ℕ) where
 
   pub returns : OfOpen t lts.Need-returns
   returns c =
-      let made = c .before .before .before .before .before in
-      let at = made .before .before .before in
-      let s = at .before .before .before .before .before .before .before .before .before .before .before .before in
+      let made = paired (c .before) in
+      let at = ended made in
+      let s = start (may-end at) in
       let a = s .args in
       let o = s .pre .1 .1 .1 .0 in
-      let may = sym (at .before .before .may-stop .ensures) ∙ at .before .if1 .taken in
+      let may = sym (may-end at .may-stop .ensures) ∙ at .before .if1 .taken in
       let turn = stop-turn (s .pre .1 .0) o (at .stop .result) (at .stop .ensures .0) (query s) may in (
         ⊎-elim
             (λ e. inl (stop-fills (s .pre .1 .0) (query s) (put (a .capacity)) (a .out .now, a .found) (put-keeps (a .capacity)) (c .if2 .taken) o e))
@@ -82,28 +134,37 @@ module _ (t : ℕ) where
       )
 
   -- what the ending finds has been offered
-  ending : (w : Stopped) → let s = first w in (w .if1 .out, w .if1 .n) ≡ offerAll (put (s .args .capacity)) (s .args .out .now, s .args .found) (stopOne (s .args .image .now) (query s) (s .args .place) (s .args .trail))
+  ending : (w : Stopped) → let s = first w in let a = s .args in
+      (w .if1 .out, w .if1 .n) ≡ offerAll (put (a .capacity)) (a .out .now, a .found) (stopOne (a .image .now) (query s) (a .place) (a .trail))
   ending w =
       let s = first w in
       let a = s .args in
       let may = w .before .may-stop .ensures in
       let offered : List Reading → List ℕ × ℕ = offerAll (put (a .capacity)) (a .out .now, a .found) in
       ⊎-elim
-      (λ v. state-is (offered-all (omega (arith, v .9 .left)) (offered-same (stop-turn (s .pre .1 .0) (s .pre .1 .1 .1 .0) (v .1 .result) (v .1 .ensures .0) (query s) (sym may ∙ v .0 .taken)) refl (v .4 .ensures .0))) (v .10) (v .12))
+      (λ v.
+      let turn = stop-turn (s .pre .1 .0) (s .pre .1 .1 .1 .0) (v .1 .result) (v .1 .ensures .0) (query s) (sym may ∙ v .0 .taken) in
+      state-is (offered-all (omega (arith, v .9 .left)) (offered-same turn refl (v .4 .ensures .0))) (v .10) (v .12))
       (λ v. state-is (sym (ap offered (stop-none (a .image .now) (query s) (a .place) (a .trail) (sym may ∙ v .0 .left)) ∙ offer-none _ _)) (v .1) (v .3))
       (w .if1 .came)
 
   kept : (w : Stopped) → length (w .if1 .out) ≡ length (first w .args .out .now)
   kept w = ⊎-elim (λ v. ap length (v .10) ∙ v .4 .kept .1 .1 .1 .1 .1 .1 .1 .1 .1 .1 .1 .0) (λ v. ap length (v .1)) (w .if1 .came)
 
-  room : (w : Stopped) → w .if1 .n ≤ first w .args .capacity
-  room w = ⊎-elim (λ v. omega (arith, v .12, v .9 .left)) (λ v. omega (arith, v .3, first w .pre .1 .1 .1 .1 .0 .1)) (w .if1 .came)
+  roomy : (w : Stopped) → Roomy (w .if1 .out) (first w .args .capacity) × (w .if1 .n ≤ first w .args .capacity)
+  roomy w = (
+    roomy-kept (kept w) (first w .pre .1 .1 .1 .1 .0 .0),
+    ⊎-elim (λ v. omega (arith, v .12, v .9 .left)) (λ v. omega (arith, v .3, first w .pre .1 .1 .1 .1 .0 .1)) (w .if1 .came),
+  )
 
   tabled : (w : Stopped) → let s = first w in Tabled (s .args .image .now) (query s) (s .args .table .now) (w .if1 .table)
   tabled w =
       let s = first w in
       let known : List ℕ → Type 0 = Tabled (s .args .image .now) (query s) (s .args .table .now) in
-      ⊎-elim (λ v. subst known (sym (v .11)) (v .4 .kept .1 .1 .1 .1 .1 .1 .1 .1 .1 .1 .1 .1 .1 .1 .0, v .4 .ensures .1)) (λ v. subst known (sym (v .2)) (refl, s .pre .1 .1 .1 .1 .1 .1)) (w .if1 .came)
+      ⊎-elim
+      (λ v. subst known (sym (v .11)) (v .4 .kept .1 .1 .1 .1 .1 .1 .1 .1 .1 .1 .1 .1 .1 .1 .0, v .4 .ensures .1))
+      (λ v. subst known (sym (v .2)) (refl, s .pre .1 .1 .1 .1 .1 .1))
+      (w .if1 .came)
 
   -- what the call asks of the table
   lent : (w : Stopped) → let s = first w in (1 ≤ length (w .if1 .table)) × Remembered (s .args .image .now) (query s) (w .if1 .table)
@@ -144,46 +205,49 @@ module _ (t : ℕ) where
 
   pub choose-requires : OfOpen t lts.Need-choose-requires
   choose-requires c κs =
-      let s = c .before .before .before .before .before .before .before .before .before .before .before .before .before .before .before in
+      let s = first (stopped (c .before .before)) in
       let underway = s .pre .1 .0 in
       (underway .accepted, (underway .indexed, (last-in underway (s .pre .1 .1 .1 .0), ((underway .stands .surface-in .letters-in, omega arith), (query s, s .pre .1 .1 .0)))))
 
   -- all that may open
   pub open-each-requires : OfOpen t lts.Need-open-each-requires
   open-each-requires c κs =
-      let s = c .before .before .before .before .before .before .before .before .before .before .before .before .before .before .before .before .before .before .before .before in
-      let w = c .before .before .before .before .before .before .before .before .before in
-      (omega (arith, s .pre .0), (s .pre .1 .0, (s .pre .1 .1 .0, ((s .pre .1 .1 .1 .0, c .before .before .before .before .before .before .before .if3 .left), ((rw (kept w) (s .pre .1 .1 .1 .1 .0 .0), room w), lent w)))))
+      let here = spared (chose-none c) in
+      let w = stopped here in
+      let s = first w in
+      (omega (arith, s .pre .0), (s .pre .1 .0, (s .pre .1 .1 .0, ((s .pre .1 .1 .1 .0, here .if3 .left), (roomy w, lent w)))))
 
   pub same-length-5 : OfOpen t lts.Need-same-length-5
-  same-length-5 c = c .before .before .before .before .open-each .kept .1 .1 .1 .1 .1 .1 .1 .1 .1 .1 .1 .0 ∙ kept (c .before .before .before .before .before .before .before .before .before .before .before .before .before .before)
+  same-length-5 c = let made = tried c in made .open-each .kept .1 .1 .1 .1 .1 .1 .1 .1 .1 .1 .1 .0 ∙ kept (stopped (spared (chose-none (made .before))))
 
   pub same-length-6 : OfOpen t lts.Need-same-length-6
-  same-length-6 c = c .before .before .before .before .open-each .kept .1 .1 .1 .1 .1 .1 .1 .1 .1 .1 .1 .1 .1 .1 .0 ∙ tabled (c .before .before .before .before .before .before .before .before .before .before .before .before .before .before) .0
+  same-length-6 c = let made = tried c in made .open-each .kept .1 .1 .1 .1 .1 .1 .1 .1 .1 .1 .1 .1 .1 .1 .0 ∙ tabled (stopped (spared (chose-none (made .before)))) .0
 
   pub returns-3 : OfOpen t lts.Need-returns-3
-  returns-3 c = let made = c .before .before .before .before in (whole (made .before .before .before .before .before .before .before .before) (made .open-each .ensures .0), made .open-each .ensures .1)
+  returns-3 c = let made = tried c in (whole (spared (chose-none (made .before))) (made .open-each .ensures .0), made .open-each .ensures .1)
 
   -- those that the filter leaves
   pub slice-aggregate-open-listed : OfOpen t lts.Need-slice-aggregate-open-listed
-  slice-aggregate-open-listed c = sym (c .before .before .before .choose .kept .1 .1 .1 .1 .1 .1 .1 .1 .1 .1 .0)
+  slice-aggregate-open-listed c = sym (chose-some (c .before) .choose .kept .1 .1 .1 .1 .1 .1 .1 .1 .1 .1 .0)
 
   pub open-listed-requires : OfOpen t lts.Need-open-listed-requires
   open-listed-requires c κs =
-      let s = c .before .before .before .before .before .before .before .before .before .before .before .before .before .before .before .before .before .before .before .before .before in
-      let w = c .before .before .before .before .before .before .before .before .before .before in
-      let spare = c .before .before .before .before .before .before .before .before .if3 .left in
-      let chose = c .before .before .before .before .before .choose in
-      let left = ⊎-elim (λ e. absurd (c .before .before .before .if4 .left e)) (λ r. r) (chose .ensures) in (
+      let at = chose-some (some c) in
+      let here = spared at in
+      let w = stopped here in
+      let s = first w in
+      let spare = here .if3 .left in
+      let left = ⊎-elim (λ e. absurd (some c .if4 .left e)) (λ r. r) (at .choose .ensures) in
+      let long = at .choose .kept .1 .1 .1 .1 .1 .1 .1 .1 .1 .1 .0 in (
         omega (arith, s .pre .0),
-        (s .pre .1 .0, (s .pre .1 .1 .0, ((s .pre .1 .1 .1 .0, spare), (((left .0, omega (arith, left .0, chose .kept .1 .1 .1 .1 .1 .1 .1 .1 .1 .1 .0)), chosen-listed (s .pre .1 .1 .0) spare (left .1)), ((rw (kept w) (s .pre .1 .1 .1 .1 .0 .0), room w), lent w))))),
+        (s .pre .1 .0, (s .pre .1 .1 .0, ((s .pre .1 .1 .1 .0, spare), (((left .0, omega (arith, left .0, long)), chosen-listed (s .pre .1 .1 .0) spare (left .1)), (roomy w, lent w))))),
       )
 
   pub same-length-7 : OfOpen t lts.Need-same-length-7
-  same-length-7 c = c .before .before .before .before .open-listed .kept .1 .1 .1 .1 .1 .1 .1 .1 .1 .1 .1 .1 .1 .0 ∙ kept (c .before .before .before .before .before .before .before .before .before .before .before .before .before .before .before)
+  same-length-7 c = let made = survived c in made .open-listed .kept .1 .1 .1 .1 .1 .1 .1 .1 .1 .1 .1 .1 .1 .0 ∙ kept (stopped (spared (chose-some (some (made .before)))))
 
   pub same-length-8 : OfOpen t lts.Need-same-length-8
-  same-length-8 c = c .before .before .before .before .open-listed .kept .1 .1 .1 .1 .1 .1 .1 .1 .1 .1 .1 .1 .1 .1 .1 .1 .0 ∙ tabled (c .before .before .before .before .before .before .before .before .before .before .before .before .before .before .before) .0
+  same-length-8 c = let made = survived c in made .open-listed .kept .1 .1 .1 .1 .1 .1 .1 .1 .1 .1 .1 .1 .1 .1 .1 .1 .0 ∙ tabled (stopped (spared (chose-some (some (made .before))))) .0
 
   pub returns-4 : OfOpen t lts.Need-returns-4
-  returns-4 c = let made = c .before .before .before .before in (whole (made .before .before .before .before .before .before .before .before .before) (made .open-listed .ensures .0), made .open-listed .ensures .1)
+  returns-4 c = let made = survived c in (whole (spared (chose-some (some (made .before)))) (made .open-listed .ensures .0), made .open-listed .ensures .1)

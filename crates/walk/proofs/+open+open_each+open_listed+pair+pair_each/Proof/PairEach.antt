@@ -15,10 +15,10 @@ use Rattle.model.specs.Tree.{complete}
 use Rattle.image.specs.Header.{headerOf}
 use Rattle.image.specs.Index.{candidates}
 use Rattle.rows.specs.Trail.{readingOf, withPair, Holds}
-use Rattle.rows.specs.Fill.{put}
+use Rattle.rows.specs.Fill.{put, Roomy}
 use Rattle.rows.specs.Offering.{offerAll}
 use Rattle.rows.proofs.Longer.{longer-pair}
-use Rattle.rows.proofs.Offering.{offer-none, offer-by}
+use Rattle.rows.proofs.Offering.{offer-none}
 use Rattle.rows.proofs.Fill.{put-keeps}
 use Rattle.listing.specs.Asked.{pathPattern, queryBy}
 use Rattle.listing.specs.declared.place.Place.{Place}
@@ -28,7 +28,7 @@ use Rattle.walk.specs.Offered.{Offered}
 use Rattle.ahead.proofs.Standing.{not-ended}
 use Rattle.ahead.proofs.Candidates.{Candidate, candidate-spells}
 use Rattle.walk.proofs.Turns.{turns-none, turns-more, turns-skip, turns-stop, turns-all, turns-is, state-is}
-use Rattle.walk.proofs.Giving.{gave-same, gave-next, gave-turn, offered-same, offered-all}
+use Rattle.walk.proofs.Giving.{gave-same, gave-next, gave-turn, offered-same, offered-all, roomy-kept}
 use Rattle.ahead.proofs.Heads.{Pairing, Settled, end-fills, settled-left, settled-over, candidateOne, letter-in, pair-last, pair-found, pair-offered, pair-none, pair-underway, pair-less, pair-turn}
 use Rattle.walk.proofs.+open+open_each+open_listed+pair+pair_each.Lts-pair_each as lts
 use Rattle.walk.proofs.+open+open_each+open_listed+pair+pair_each.Proof.Shared.{Tabled, OfPairEach}
@@ -113,7 +113,7 @@ module _ (t : ℕ) where
       let over = settled-over (s .pre .1 .0) (query s) (test .before .if1 .taken) (test .goes-on .ensures .1 (made .before .before .if2 .left)) in (
         inl
             (end-fills (over .underway) (query s) (put (a .capacity)) (a .out .now, a .found) (put-keeps (a .capacity)) (c .if3 .taken) (over .shut)
-            (made .put-ended .ensures ∙ offer-by (ap put (sym (s .pre .1 .1 .1 .0 .0))) _ _)
+            (made .put-ended .ensures)
             ∙ ap (offerAll (put (a .capacity)) (a .out .now, a .found)) (over .same (query s))),
         s .pre .1 .1 .1 .1 .1,
       )
@@ -137,7 +137,7 @@ module _ (t : ℕ) where
       let offered : Bool → List ℕ × ℕ = λ b. offerAll (put (a .capacity)) (a .out .now, a .found) (given b (readingOf (a .trail) ∷ [])) in
       let done : ℕ → Bool = λ last. complete g (query s) (nodeAt (a .image .now) (withLast (a .place) last) (a .trail)) in
       ⊎-elim
-      (λ v. state-is (v .4 .ensures ∙ offer-by (ap put (sym (s .pre .1 .1 .1 .0 .0))) _ _ ∙ ap (λ (last : ℕ). offered (done last)) (sym (v .9))) (v .8) (v .10))
+      (λ v. state-is (v .4 .ensures ∙ ap (λ (last : ℕ). offered (done last)) (sym (v .9))) (v .8) (v .10))
       (λ v.
       let none = not-ended (a .image .now) (a .place) (s .pre .1 .0 .stands) (query s) (a .trail .entries) (a .trail .pairs) (v .0 .left) in
       state-is (sym (ap (λ (last : ℕ). offered (done last)) (v .2) ∙ ap offered none ∙ offer-none _ _)) (v .1) (v .3))
@@ -244,9 +244,11 @@ module _ (t : ℕ) where
       let loop = here .before .loop in
       let may = c .before .before .before .if5 .taken in
       let holds = longer (tried .before) in
-      let less = pair-less o (chosen (tried .before)) (tried .take .ensures (path tried)) may holds in (
+      let less = pair-less o (chosen (tried .before)) (tried .take .ensures (path tried)) may holds in
+      let underway = pair-underway o (chosen (tried .before)) (tried .take .ensures (path tried)) may holds in
+      let roomy : Roomy (loop .out) (s .args .capacity) = roomy-kept (loop .inv .1 .1 .0 .0 ∙ kept (joined w)) (s .pre .1 .1 .1 .0 .0) in (
         omega (arith, s .pre .0, less, settled (joined w) .no-more),
-        (pair-underway o (chosen (tried .before)) (tried .take .ensures (path tried)) may holds, (s .pre .1 .1 .0, ((rw (loop .inv .1 .1 .0 .0, kept (joined w)) (s .pre .1 .1 .1 .0 .0), loop .inv .1 .1 .0 .1), (omega (arith, s .pre .1 .1 .1 .1 .0, loop .inv .0 .0), loop .inv .0 .1)))),
+        (underway, (s .pre .1 .1 .0, ((roomy, loop .inv .1 .1 .0 .1), (omega (arith, s .pre .1 .1 .1 .1 .0, loop .inv .0 .0), loop .inv .0 .1)))),
       )
 
   -- the rows are full, or the search is given up
