@@ -1,5 +1,5 @@
 // The judge of written rules: whether a pairing obeys each rule of a text, or the refusal.
-mod bounds;
+mod boundaries;
 mod rule;
 
 ghost use mathlib.Core.Bool.{true};
@@ -108,7 +108,7 @@ fn obeys_text(image: &[u8], h: Header, pairing: &[u8], text: &[u8]) -> bool
     ensures { λ r. ⌜ r ≡ obeysText (grammarOf (now (image .entry)) .lexical) (now (text .entry)) (now (pairing .entry)) ⌝ }
 {
     let n = pairing.len();
-    let s = bounds::between(pairing);
-    let letters = bounds::lexical_letters(image, h, pairing);
+    let s = boundaries::between(pairing);
+    let letters = boundaries::lexical_letters(image, h, pairing);
     obeys_lines(image, h, text, &s[..n + 2], &letters[..n + 2])
 }

@@ -6,8 +6,8 @@ use Rattle.model.specs.GrammarOf.{grammarOf}
 use Rattle.letters.proofs.Laws.{laid-pairs}
 use Rattle.judge.proofs.PairingLaws.{lexical-is, listed-at}
 use Rattle.written_rules.proofs.Framing.{Lettered, lettered-begun, lettered-more}
-use Rattle.written_rules.proofs.bounds.lexical_letters.Statement.{statement}
-use Rattle.written_rules.proofs.bounds.lexical_letters.Tie as tie
+use Rattle.written_rules.proofs.boundaries.lexical_letters.Statement.{statement}
+use Rattle.written_rules.proofs.boundaries.lexical_letters.Tie as tie
 
 abbrev Inv-loop : tie.InvT-loop
 Inv-loop image h pairing letters₀ n i₀ letters i = Lettered (grammarOf image .lexical) letters pairing i

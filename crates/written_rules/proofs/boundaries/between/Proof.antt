@@ -2,8 +2,8 @@
 use native.Mathlib.Omega.{arith}
 use Prim.Native.Nat.{_-_}
 use Rattle.written_rules.proofs.Framing.{Framed, frame-begun, frame-more, frame-done}
-use Rattle.written_rules.proofs.bounds.between.Statement.{statement}
-use Rattle.written_rules.proofs.bounds.between.Tie as tie
+use Rattle.written_rules.proofs.boundaries.between.Statement.{statement}
+use Rattle.written_rules.proofs.boundaries.between.Tie as tie
 
 abbrev Inv-loop : tie.InvT-loop
 Inv-loop pairing s₀ n i₀ s i = Framed s pairing i
