@@ -80,8 +80,10 @@ module _ (g : Grammar) where
   parts : (r : Reading) → T (isReading g r) → T (isLinked g (r .path)) × (letters (r .pairing) ≡ total (r .path))
   unfolding isReading isPath
   parts r t =
-      let m = out8 (isPath g (r .path)) (pairingLength (r .pairing)) (every (λ p. ltb p (g .pairs)) (r .pairing)) (sameList (spelled (g .lexical) (r .pairing)) (joined (map (g .form) (r .path)))) (fewNulls (g .lexical) (r .pairing)) (isLine (g .surface) (r .pairing)) (isLine (g .spoken) (r .pairing)) (passes g (r .pairing)) t in
-      ((and-out (pathLength (r .path)) (isLinked g (r .path)) (m .0)) .1, ap length (same-out (spelled (g .lexical) (r .pairing)) (joined (map (g .form) (r .path))) (m .3)))
+      let ps = r .pairing in
+      let forms = sameList (spelled (g .lexical) ps) (joined (map (g .form) (r .path))) in
+      let m = out8 (isPath g (r .path)) (pairingLength ps) (every (λ p. ltb p (g .pairs)) ps) forms (fewNulls (g .lexical) ps) (isLine (g .surface) ps) (isLine (g .spoken) ps) (passes g ps) t in
+      (and-out (pathLength (r .path)) (isLinked g (r .path)) (m .0) .1, ap length (same-out (spelled (g .lexical) ps) (joined (map (g .form) (r .path))) (m .3)))
 
   plain-ascending : OneWay g → (l : List Reading) → ((r : Reading) → List·Memᴰ r l → T (isReading g r)) → Ascending (map (endingSteps g) l) → Ascending (map (steps g) l)
   plain-ascending w [] f a = tt
