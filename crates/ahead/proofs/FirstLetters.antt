@@ -11,7 +11,7 @@ use lib.Dec.{T, leb, ltb, eqb}
 use borrow.Author.Tests.{eqb-true, ne-eqb}
 use Rattle.model.specs.Lists.{given, any, every, within, flatMap, isZero, byte}
 use Rattle.model.specs.Blocks.{Header, recordStart}
-use Rattle.model.specs.Lexicon.{entry, formOf, formLength, continuation, isEntryOf, isEntry}
+use Rattle.model.specs.Lexicon.{entry, formOf, formLength, rightWays, isEntryOf, isEntry}
 use Rattle.model.specs.Refusals.{rightEntries}
 use Rattle.model.specs.Grammar.{Grammar}
 use Rattle.model.specs.GrammarOf.{grammarOf}
@@ -58,7 +58,7 @@ module _ (image : List ℕ) (h : Header) (ok : Accepted image h) (e : ℕ) (insi
   first-is =
       let l = entry image e in
       sym (entries.entry-byte image h (ok .laid) e 1 (omega arith))
-      ∙ head-byte l (out4 (leb (formLength l) 12) (every (within 2 (h .letters)) (formOf l)) (every isZero (drop (1 + formLength l) (take 13 l))) (ltb (continuation l) (h .lexicons) || eqb (continuation l) 255) (entries.entry-right image h (ok .laid) right e inside) .2)
+      ∙ head-byte l (out4 (leb (formLength l) 12) (every (within 2 (h .letters)) (formOf l)) (every isZero (drop (1 + formLength l) (take 13 l))) (rightWays l (h .form) (h .lexicons)) (entries.entry-right image h (ok .laid) right e inside) .2)
 
   pub first-most : headOf (grammarOf image .form e) ≤ h .letters
   unfolding grammarOf

@@ -45,6 +45,6 @@ module _ (image : List ℕ) (q : Query) where
   none-remembered n _ k inside place entries pairs e =
       let w = widthOf image in
       let blank = replicate {A = ℕ} n 0 in
-      let first : getD (part w blank k) 0 0 ≡ pairs + 1 = ap (λ (l : List ℕ). getD l 0 0) e in
+      let first : getD (part w blank k) 0 0 ≡ pairs + 1 = ap (λ (l : List ℕ). getD l 0 0) (e .is) in
       let zero : getD (part w blank k) 0 0 ≡ 0 = getD-take w (drop (w * k) blank) 0 0 (omega arith) ∙ getD-drop (w * k) blank 0 0 ∙ getD-replicate n (w * k + 0) 0 0 (omega (arith, length-replicate {A = ℕ} n 0)) in
       absurd (omega arith)

@@ -1,93 +1,78 @@
 -- A node's numbers tell the node: nodes of the same numbers are the same, and from both nothing is found or from neither.
 use Prim.Native.Nat.{ℕ, _+_, _-_, _<_, _≤_}
-use native.Mathlib.Decide.{decLt}
 use native.Mathlib.Omega.{arith}
-use mathlib.Core.Bool.{Bool, false, _&&_, not, cond}
+use mathlib.Core.Bool.{Bool, _&&_}
+use mathlib.Core.Logic.{_⊎_, inl, inr}
 use mathlib.Core.Path.{_≡_, refl, sym, ap, ap₂, _∙_, subst}
 use mathlib.Core.List.{List, []}
 use lib.ListN.{getD, take, drop}
-use lib.Dec.{ltb, eqb}
-use borrow.Author.Tests.{lt-ltb, le-ltb, ne-eqb}
-use Rattle.model.specs.Lexicon.{inLexicon, entry, continuation}
+use lib.Dec.{eqb}
+use borrow.Author.Tests.{lt-ltb, le-ltb, eq-eqb, ne-eqb}
+use Rattle.model.specs.Lists.{below, any}
+use Rattle.model.specs.Blocks.{header}
+use Rattle.model.specs.Lexicon.{inLexicon, entry, mayStop, goesTo}
 use Rattle.model.specs.Query.{Query}
 use Rattle.model.specs.Tree.{Node}
 use Rattle.model.specs.GrammarOf.{grammarOf}
+use Rattle.model.proofs.Lists.{below-from}
+use Rattle.lexicon.specs.Sole.{WayOf}
+use Rattle.rules.proofs.PathLaws.{any-same}
 use Rattle.rows.specs.Trail.{readingOf}
 use Rattle.listing.specs.declared.place.Place.{Place}
 use Rattle.listing.specs.Gather.{gather, stepsFrom}
 use Rattle.listing.specs.Places.{root, ended, waysAfter, stopsAfter, restOf, nodeOf}
 use Rattle.listing.specs.Search.{nodeAt, foundAt}
 use Rattle.dead.specs.declared.Left.{Left}
-use Rattle.dead.specs.Dead.{DeadAt, lettersLeft, noneLeft, noneOpen, leftOf, keyOf}
+use Rattle.dead.specs.Dead.{DeadAt, lettersLeft, noneLeft, noneOpen, restBy, followsBy, endsBy, waysBy, stopBy, endedBy, Tells, keyBy, KeyOf}
 
 module _ (image : List ℕ) where
-  -- what is left, in each of the three cases
-  module _ (place : Place) where
-    pub left-letters : place .from < place .to → lettersLeft place ≡ leftOf image place
-    unfolding leftOf
-    left-letters h = rw (lt-ltb (place .from) (place .to) h) refl
-
-    pub left-none : place .to ≤ place .from → place .last < ended → noneLeft (continuation (entry image (place .last))) ≡ leftOf image place
-    unfolding leftOf
-    left-none h l = rw (le-ltb (place .from) (place .to) h, lt-ltb (place .last) ended l) refl
-
-    pub left-unopened : place .to ≤ place .from → ended ≤ place .last → noneOpen (place .last) ≡ leftOf image place
-    unfolding leftOf
-    left-unopened h l = rw (le-ltb (place .from) (place .to) h, le-ltb (place .last) ended l) refl
-
-  -- what a node has of the entry that is open, by what is left: the letters
-  restBy : Left → List ℕ
-  restBy l = cond (ltb (l .from) (l .to)) (take (l .to - l .from) (drop (l .from) image)) []
-
-  -- the entries that may come next, by a continuation
-  followsBy : ℕ → ℕ → Bool
-  followsBy x f = not (eqb x 255) && inLexicon image x f
-
-  waysBy : Left → ℕ → Bool
-  waysBy l = cond (ltb (l .to) (l .from)) (followsBy (l .last)) (waysAfter image (l .last))
-
-  stopBy : Left → Bool
-  stopBy l = cond (ltb (l .to) (l .from)) (eqb (l .last) 255) (stopsAfter image (l .last))
-
-  endedBy : Left → Bool
-  endedBy l = cond (ltb (l .to) (l .from)) false (eqb (l .last) ended)
-
-  -- a place's node has just that
-  record Tells (place : Place) (l : Left) : Type 0 where
-    rest-is : restOf image place ≡ restBy l
-    ways-is : waysAfter image (place .last) ≡ waysBy l
-    stop-is : stopsAfter image (place .last) ≡ stopBy l
-    ended-is : eqb (place .last) ended ≡ endedBy l
-
-  letters-tell : (place : Place) → place .from < place .to → Tells place (lettersLeft place)
+  pub letters-tell : (place : Place) → place .from < place .to → Tells image place (lettersLeft place)
   unfolding restBy waysBy stopBy endedBy
   letters-tell place h =
       let some = lt-ltb (place .from) (place .to) h in
       let order = le-ltb (place .to) (place .from) (omega arith) in
-      record { rest-is = rw some refl; ways-is = rw order refl; stop-is = rw order refl; ended-is = rw order refl }
+      record { rest-is = rw some refl; ways-is = λ f. rw order refl; stop-is = rw order refl; ended-is = rw order refl }
 
   module _ (place : Place) (none : place .to ≤ place .from) where
     no-rest : restOf image place ≡ []
     no-rest = let e : place .to - place .from ≡ 0 = omega arith in rw e refl
 
-    none-tells : place .last < ended → Tells place (noneLeft (continuation (entry image (place .last))))
-    unfolding restBy waysBy stopBy endedBy followsBy waysAfter stopsAfter grammarOf
-    none-tells h =
+    -- an entry is open: what its number says is what may follow it, and whether it ends
+    none-by : place .last < ended → (next : ℕ) → ((f : ℕ) → grammarOf image .follows (place .last) f ≡ followsBy image next f) → grammarOf image .ends (place .last) ≡ endsBy image next → Tells image place (noneLeft next)
+    unfolding restBy waysBy stopBy endedBy waysAfter stopsAfter
+    none-by h next follows ends =
         let not-root = ne-eqb (place .last) root (λ e. omega arith) in
         let not-ended = ne-eqb (place .last) ended (λ e. omega arith) in
-        record { rest-is = no-rest; ways-is = rw (not-root, not-ended) refl; stop-is = rw (lt-ltb (place .last) ended h) refl; ended-is = not-ended }
+        record { rest-is = no-rest; ways-is = λ f. rw (not-root, not-ended) (follows f); stop-is = rw (lt-ltb (place .last) ended h) ends; ended-is = not-ended }
 
-    unopened-tells : Tells place (noneOpen (place .last))
+    -- by the entry itself
+    pub entry-tells : place .last < ended → Tells image place (noneLeft (256 + place .last))
+    unfolding followsBy endsBy
+    entry-tells h =
+        let over = le-ltb (256 + place .last) 256 (omega arith) in
+        let own : 256 + place .last - 256 ≡ place .last = omega arith in
+        none-by h (256 + place .last) (λ f. rw (over, own) refl) (rw (over, own) refl)
+
+    -- by a way that says what it goes to, and whether it ends
+    by-way : place .last < ended → header image .lexicons ≤ 64 → (way : ℕ) → way < 256 → ((x : ℕ) → x < 64 → goesTo (entry image (place .last)) (header image .form) x ≡ eqb way x) → mayStop (entry image (place .last)) (header image .form) ≡ eqb way 255 → Tells image place (noneLeft way)
+    unfolding followsBy endsBy grammarOf
+    by-way h few way l goes stop =
+        none-by h way
+        (λ f. rw (lt-ltb way 256 l) (any-same (λ x. goesTo (entry image (place .last)) (header image .form) x && inLexicon image x f) (λ x. eqb way x && inLexicon image x f) (below (header image .lexicons)) (λ x m. ap (λ (b : Bool). b && inLexicon image x f) (goes x (omega (arith, below-from (header image .lexicons) x m))))))
+        (rw (lt-ltb way 256 l) stop)
+
+    -- by its sole way
+    pub way-tells : place .last < ended → header image .lexicons ≤ 64 → (way : ℕ) → WayOf (entry image (place .last)) (header image .form) way → (way ≡ 254 → ⊥) → Tells image place (noneLeft way)
+    way-tells h few way w sole = go (w .in-bound)
+      where
+        go : (way < 64) ⊎ ((way ≡ 254) ⊎ (way ≡ 255)) → Tells image place (noneLeft way)
+        go (inl l) = by-way h few way (omega arith) (w .goes l .1) (w .goes l .0 ∙ sym (ne-eqb way 255 (λ e. omega arith)))
+        go (inr (inl e)) = absurd (sole e)
+        go (inr (inr e)) = by-way h few way (omega arith) (λ x m. w .ends e .1 x m ∙ sym (ne-eqb way x (λ f. omega arith))) (w .ends e .0 ∙ sym (eq-eqb way 255 e))
+
+    pub unopened-tells : Tells image place (noneOpen (place .last))
     unfolding restBy waysBy stopBy endedBy
-    unopened-tells = record { rest-is = no-rest; ways-is = refl; stop-is = refl; ended-is = refl }
-
-  left-tells : (place : Place) → Tells place (leftOf image place)
-  left-tells place = go (decLt (place .from) (place .to)) (decLt (place .last) ended)
-    where
-      go : Dec (place .from < place .to) → Dec (place .last < ended) → Tells place (leftOf image place)
-      go (yes h) l = subst (Tells place) (left-letters place h) (letters-tell place h)
-      go (no h) (yes l) = subst (Tells place) (left-none place (omega arith) l) (none-tells place (omega arith) l)
-      go (no h) (no l) = subst (Tells place) (left-unopened place (omega arith) (omega arith)) (unopened-tells place (omega arith))
+    unopened-tells = record { rest-is = no-rest; ways-is = λ f. refl; stop-is = refl; ended-is = refl }
 
   -- the node by its numbers
   leftBy : List ℕ → Left
@@ -96,10 +81,10 @@ module _ (image : List ℕ) where
   nodeBy : List ℕ → Node
   nodeBy key =
       record {
-        rest = restBy (leftBy key);
-        ways = waysBy (leftBy key);
-        stop = stopBy (leftBy key);
-        ended = endedBy (leftBy key);
+        rest = restBy image (leftBy key);
+        ways = waysBy image (leftBy key);
+        stop = stopBy image (leftBy key);
+        ended = endedBy image (leftBy key);
         entries = getD key 1 0;
         pairs = getD key 0 0 - 1;
         nulls = getD key 5 0;
@@ -108,15 +93,14 @@ module _ (image : List ℕ) where
         states = drop 8 key;
       }
 
-  node-by : (place : Place) (entries pairs : ℕ) → nodeOf image place entries pairs ≡ nodeBy (keyOf image place entries pairs)
+  node-by : (place : Place) (entries pairs : ℕ) (left : Left) → Tells image place left → nodeOf image place entries pairs ≡ nodeBy (keyBy image left place entries pairs)
   unfolding nodeOf nodeBy leftBy
-  node-by place entries pairs =
-      let told = left-tells place in
+  node-by place entries pairs left told =
       let one-less : pairs ≡ pairs + 1 - 1 = omega arith in
       λ i.
       record {
         rest = told .rest-is i;
-        ways = told .ways-is i;
+        ways = λ f. told .ways-is f i;
         stop = told .stop-is i;
         ended = told .ended-is i;
         entries = entries;
@@ -124,13 +108,13 @@ module _ (image : List ℕ) where
         nulls = place .nulls;
         surface = record { letters = place .surface .letters; nulls = place .surface .nulls };
         spoken = record { letters = place .surface .letters; nulls = place .surface .nulls };
-        states = drop 8 (keyOf image place entries pairs);
+        states = drop 8 (keyBy image left place entries pairs);
       }
 
   module _ (p r : Place) (entries entries′ pairs pairs′ : ℕ) where
     -- nodes of the same numbers are the same
-    pub same-node : keyOf image p entries pairs ≡ keyOf image r entries′ pairs′ → nodeOf image p entries pairs ≡ nodeOf image r entries′ pairs′
-    same-node e = node-by p entries pairs ∙ ap nodeBy e ∙ sym (node-by r entries′ pairs′)
+    pub same-node : {key : List ℕ} → KeyOf image p entries pairs key → KeyOf image r entries′ pairs′ key → nodeOf image p entries pairs ≡ nodeOf image r entries′ pairs′
+    same-node a b = node-by p entries pairs (a .left) (a .tells) ∙ ap nodeBy (sym (a .is) ∙ b .is) ∙ sym (node-by r entries′ pairs′ (b .left) (b .tells))
 
     -- so from both nothing is found
     pub dead-same : (q : Query) → nodeOf image p entries pairs ≡ nodeOf image r entries′ pairs′ → DeadAt image q p entries pairs → DeadAt image q r entries′ pairs′

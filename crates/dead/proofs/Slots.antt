@@ -3,14 +3,14 @@ use Prim.Native.Nat.{ℕ, suc, _+_, _*_, _-_, _<_, _≤_}
 use native.Mathlib.Nat.{le-refl, mul-suc, mul-le-mul}
 use native.Mathlib.Decide.{decLt, ℕ-discrete}
 use native.Mathlib.Omega.{arith}
-use mathlib.Core.Path.{_≡_, sym, ap, _∙_}
+use mathlib.Core.Path.{_≡_, sym, ap, _∙_, subst}
 use mathlib.Core.List.{List, _++_, append-assoc}
 use lib.ListN.{length, take, drop, length-append, length-take, length-drop, take-append-drop}
 use lib.Seq.{length-take-le, take-at, drop-at, take-append-le, drop-append-le, drop-append-add}
 use Rattle.model.specs.Lists.{part}
 use Rattle.model.specs.Query.{Query}
 use Rattle.listing.specs.declared.place.Place.{Place}
-use Rattle.dead.specs.Dead.{DeadAt, widthOf, keyOf, Remembered}
+use Rattle.dead.specs.Dead.{DeadAt, widthOf, KeyOf, Remembered}
 use Rattle.dead.proofs.Keys.{same-node, dead-same}
 
 -- a table with another slot j
@@ -82,7 +82,7 @@ module _ (image : List ℕ) (q : Query) where
 
   -- slot k is looked at for a node, whose numbers the key begins with
   module _ (table : List ℕ) (k : ℕ) (large : 40 ≤ length table) (inside : w * k + w ≤ length table)
-      (place : Place) (entries pairs : ℕ) (key : List ℕ) (is : take w key ≡ keyOf image place entries pairs) where
+      (place : Place) (entries pairs : ℕ) (key : List ℕ) (is : KeyOf image place entries pairs (take w key)) where
     slot-long : length (part w table k) ≡ w
     slot-long = simp (length-take, length-drop) (omega arith)
 
@@ -90,13 +90,13 @@ module _ (image : List ℕ) (q : Query) where
     abbrev new : List ℕ
     new = take (length (part w table k)) key
 
-    as-key : new ≡ keyOf image place entries pairs
-    as-key = ap (λ (n : ℕ). take n key) slot-long ∙ is
+    as-key : KeyOf image place entries pairs new
+    as-key = subst (KeyOf image place entries pairs) (ap (λ (n : ℕ). take n key) (sym slot-long)) is
 
     -- what a slot has is remembered
     pub recalled : part w table k ≡ new → Remembered image q table → DeadAt image q place entries pairs
     unfolding Remembered
-    recalled e known = known large k inside place entries pairs (e ∙ as-key)
+    recalled e known = known large k inside place entries pairs (subst (KeyOf image place entries pairs) (sym e) as-key)
 
     -- a dead node's numbers may be stored in any slot
     pub remembers : w ≤ length key → Remembered image q table → DeadAt image q place entries pairs → Remembered image q (stored w table k new)
@@ -111,7 +111,7 @@ module _ (image : List ℕ) (q : Query) where
 
         go : Dec (i ≡ k) → Dec (i < k) → DeadAt image q other es ps
         go (yes at) h =
-            let same = sym as-key ∙ sym (slot-stored w table new k inside long) ∙ ap (part w (stored w table k new)) (sym at) ∙ e in
-            dead-same image place other entries es pairs ps q (same-node image place other entries es pairs ps same) dead
-        go (no at) (yes h) = known large i fits′ other es ps (sym (slot-before w table new k inside long i h) ∙ e)
-        go (no at) (no h) = known large i fits′ other es ps (sym (slot-after w table new k inside long i (omega arith)) ∙ e)
+            let same : new ≡ part w (stored w table k new) i = sym (slot-stored w table new k inside long) ∙ ap (part w (stored w table k new)) (sym at) in
+            dead-same image place other entries es pairs ps q (same-node image place other entries es pairs ps as-key (subst (KeyOf image other es ps) (sym same) e)) dead
+        go (no at) (yes h) = known large i fits′ other es ps (subst (KeyOf image other es ps) (slot-before w table new k inside long i h) e)
+        go (no at) (no h) = known large i fits′ other es ps (subst (KeyOf image other es ps) (slot-after w table new k inside long i (omega arith)) e)

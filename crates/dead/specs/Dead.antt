@@ -1,17 +1,18 @@
 -- Nodes of the search from which nothing is found, and what it is for a table to hold such nodes alone.
-use Prim.Native.Nat.{ℕ, _+_, _*_, _<_, _≤_}
-use mathlib.Core.Bool.{cond}
+use Prim.Native.Nat.{ℕ, _+_, _*_, _-_, _<_, _≤_}
+use mathlib.Core.Bool.{Bool, false, _&&_, cond}
 use mathlib.Core.Path.{_≡_}
 use mathlib.Core.List.{List, [], _∷_}
-use lib.ListN.{length, getD, take}
-use lib.Dec.{ltb}
-use Rattle.model.specs.Lists.{part}
+use lib.ListN.{length, getD, take, drop}
+use lib.Dec.{ltb, eqb}
+use Rattle.model.specs.Lists.{below, any, part}
 use Rattle.model.specs.Blocks.{header}
-use Rattle.model.specs.Lexicon.{entry, continuation}
+use Rattle.model.specs.Lexicon.{inLexicon}
+use Rattle.model.specs.GrammarOf.{grammarOf}
 use Rattle.model.specs.Query.{Query}
 use Rattle.rows.specs.declared.Trail.{Trail}
 use Rattle.listing.specs.declared.place.Place.{Place}
-use Rattle.listing.specs.Places.{ended}
+use Rattle.listing.specs.Places.{ended, waysAfter, stopsAfter, restOf}
 use Rattle.listing.specs.Search.{foundAt}
 use Rattle.dead.specs.declared.Left.{Left}
 
@@ -24,7 +25,7 @@ DeadAt image q place entries pairs = (trail : Trail) → trail .entries ≡ entr
 abbrev pub lettersLeft : Place → Left
 lettersLeft place = record { from = place .from; to = place .to; last = place .last }
 
--- no letter is left: the entry that is open counts by its continuation alone, which decides what may come next; the first number is more than the second
+-- no letter is left: the entry that is open counts by its ways on alone, which decide what may come next; the first number is more than the second
 abbrev pub noneLeft : ℕ → Left
 noneLeft next = record { from = 1; to = 0; last = next }
 
@@ -32,25 +33,54 @@ noneLeft next = record { from = 1; to = 0; last = next }
 abbrev pub noneOpen : ℕ → Left
 noneOpen last = record { from = 0; to = 0; last = last }
 
-unfoldable pub leftOf : List ℕ → Place → Left
-leftOf image place = cond (ltb (place .from) (place .to)) (lettersLeft place) (cond (ltb (place .last) ended) (noneLeft (continuation (entry image (place .last)))) (noneOpen (place .last)))
+module _ (image : List ℕ) where
+  -- what a node has of the entry that is open, by what is left: the letters
+  unfoldable pub restBy : Left → List ℕ
+  restBy l = cond (ltb (l .from) (l .to)) (take (l .to - l .from) (drop (l .from) image)) []
+
+  -- the ways on in one number: 255 where the path can only end, a lexicon where it can only go on with that one, and 256 and the entry where that is not said
+  unfoldable pub followsBy : ℕ → ℕ → Bool
+  followsBy n f = cond (ltb n 256) (any (λ x. eqb n x && inLexicon image x f) (below (header image .lexicons))) (grammarOf image .follows (n - 256) f)
+
+  unfoldable pub endsBy : ℕ → Bool
+  endsBy n = cond (ltb n 256) (eqb n 255) (grammarOf image .ends (n - 256))
+
+  unfoldable pub waysBy : Left → ℕ → Bool
+  waysBy l = cond (ltb (l .to) (l .from)) (followsBy (l .last)) (waysAfter image (l .last))
+
+  unfoldable pub stopBy : Left → Bool
+  stopBy l = cond (ltb (l .to) (l .from)) (endsBy (l .last)) (stopsAfter image (l .last))
+
+  unfoldable pub endedBy : Left → Bool
+  endedBy l = cond (ltb (l .to) (l .from)) false (eqb (l .last) ended)
+
+  -- a place's node has just that
+  pub record Tells (place : Place) (l : Left) : Type 0 where
+    pub rest-is : restOf image place ≡ restBy l
+    pub ways-is : (f : ℕ) → waysAfter image (place .last) f ≡ waysBy l f
+    pub stop-is : stopsAfter image (place .last) ≡ stopBy l
+    pub ended-is : eqb (place .last) ended ≡ endedBy l
 
 -- how many numbers a node has
 abbrev pub widthOf : List ℕ → ℕ
 widthOf image = 8 + header image .rules
 
 -- the numbers of a node: all that decides what is found from it, the rules' states last. The first is never 0, so a blank slot is no node's
-abbrev pub keyOf : List ℕ → Place → ℕ → ℕ → List ℕ
-keyOf image place entries pairs =
-    let left = leftOf image place in
+abbrev pub keyBy : List ℕ → Left → Place → ℕ → ℕ → List ℕ
+keyBy image left place entries pairs =
     (pairs + 1) ∷ entries ∷ left .from ∷ left .to ∷ left .last ∷ place .nulls ∷ place .surface .letters ∷ place .surface .nulls ∷ take (header image .rules) (place .states)
+
+pub record KeyOf (image : List ℕ) (place : Place) (entries pairs : ℕ) (key : List ℕ) : Type 0 where
+  pub left : Left
+  pub tells : Tells image place left
+  pub is : key ≡ keyBy image left place entries pairs
 
 -- nothing is found from any node whose numbers stand in a slot of the table, which is cut into slots as wide as a node has numbers. A table of fewer
 -- than 40 places, as many as a node has numbers at most, counts as one without slots
 unfoldable pub Remembered : List ℕ → Query → List ℕ → Type 0
 Remembered image q table =
     40 ≤ length table → (k : ℕ) → widthOf image * k + widthOf image ≤ length table
-    → (place : Place) (entries pairs : ℕ) → part (widthOf image) table k ≡ keyOf image place entries pairs → DeadAt image q place entries pairs
+    → (place : Place) (entries pairs : ℕ) → KeyOf image place entries pairs (part (widthOf image) table k) → DeadAt image q place entries pairs
 
 -- each of the first w numbers of a key fits a place of the table
 unfoldable pub Narrow : ℕ → List ℕ → Type 0

@@ -8,7 +8,7 @@ ghost use Rattle.model.specs.Query.{Query};
 ghost use Rattle.image.specs.Header.{headerOf};
 ghost use Rattle.image.specs.Accepted.{Accepted};
 ghost use Rattle.listing.specs.Places.{Standing};
-ghost use Rattle.dead.specs.Dead.{DeadAt, Remembered, Narrow, leftOf, widthOf, keyOf};
+ghost use Rattle.dead.specs.Dead.{DeadAt, Remembered, Narrow, Tells, widthOf, KeyOf};
 use image::Header;
 use listing::place::ENDED;
 use listing::place::Place;
@@ -43,7 +43,7 @@ pub struct Left {
 fn left_of(image: &[u8], h: Header, place: Place) -> Left
     requires { ⌜ Accepted (now image) (headerOf h) ⌝ }
     requires { ⌜ Standing (now image) place ⌝ }
-    ensures { λ r. ⌜ r ≡ leftOf (now (image .entry)) place ⌝ }
+    ensures { λ r. ⌜ Tells (now (image .entry)) place r ⌝ }
 {
     let last = place.last;
     if place.from < place.to {
@@ -54,10 +54,18 @@ fn left_of(image: &[u8], h: Header, place: Place) -> Left
         };
     }
     if last < ENDED {
+        let way = lexicon::ways::way_of(image, h, last);
+        if way == 254 {
+            return Left {
+                from: 1,
+                to: 0,
+                last: 256 + last,
+            };
+        }
         return Left {
             from: 1,
             to: 0,
-            last: lexicon::continuation_of(image, h, last),
+            last: way,
         };
     }
     Left {
@@ -72,7 +80,7 @@ fn key_of(image: &[u8], h: Header, place: Place, entries: usize, pairs: usize) -
     requires { ⌜ Accepted (now image) (headerOf h) ⌝ }
     requires { ⌜ Standing (now image) place ⌝ }
     requires { ⌜ pairs ≤ 40 ⌝ }
-    ensures { λ r. ⌜ take (widthOf (now (image .entry))) r ≡ keyOf (now (image .entry)) place entries pairs ⌝ }
+    ensures { λ r. ⌜ KeyOf (now (image .entry)) place entries pairs (take (widthOf (now (image .entry))) r) ⌝ }
 {
     let left = left_of(image, h, place);
     let surface = place.surface;

@@ -2,17 +2,19 @@
 use Prim.Native.Nat.{ℕ, zero, suc, _≤_, _<_}
 use native.Mathlib.Omega.{arith}
 use native.Mathlib.Decide.{ℕ-discrete}
-use mathlib.Core.Bool.{Bool, not}
+use mathlib.Core.Bool.{Bool, true, false, _&&_, _||_}
 use mathlib.Core.Path.{_≡_, refl, sym, ap, _∙_, subst}
-use mathlib.Core.Logic.{_⊎_, inl, inr}
+use mathlib.Core.Logic.{inl, inr}
 use mathlib.Core.List.{List, [], _∷_}
-use lib.Dec.{T, eqb, eqb→eq}
-use borrow.Author.Tests.{eqb-false, eq-eqb, ne-eqb}
+use lib.Dec.{T}
+use borrow.Author.Tests.{eq-eqb, ne-eqb}
+use Rattle.model.specs.Lists.{below, any}
 use Rattle.model.specs.Blocks.{header}
-use Rattle.model.specs.Lexicon.{inLexicon, entry, formOf, continuation}
+use Rattle.model.specs.Lexicon.{inLexicon, entry, formOf, mayStop, goesTo}
 use Rattle.model.specs.GrammarOf.{grammarOf}
 use Rattle.model.specs.Query.{Query}
-use Rattle.model.proofs.Booleans.{and-out, not-out}
+use Rattle.model.proofs.Booleans.{and-out, and-in, left-or, right-or, of-true}
+use Rattle.model.proofs.Lists.{below-from, any-from, any-has}
 use Rattle.positions.specs.Positions.{Feasible, Over, Inserted, Leads}
 use Rattle.filter.specs.Reach.{Sound}
 use Rattle.filter.specs.Lexicons.{afterIn, Reaches, replaced}
@@ -34,25 +36,43 @@ module _ (f : Feasible) (n : ℕ) where
   leads-within (a ∷ xs) S h i s = inserted-within 8 (Over f a (Leads f xs S)) (over-within a (Leads f xs S) (leads-within xs S h)) i s
 
 module _ (image : List ℕ) (q : Query) (f : Feasible) where
-  -- an entry goes on with a lexicon, or ends
-  abbrev pub Continues : Type 0
-  Continues = (e : ℕ) → e < header image .entries → (continuation (entry image e) < header image .lexicons) ⊎ (continuation (entry image e) ≡ 255)
-
-  lexicon-of : {x : ℕ} → (x < header image .lexicons) ⊎ (x ≡ 255) → (x ≡ 255 → ⊥) → x < header image .lexicons
-  lexicon-of (inl l) h = l
-  lexicon-of (inr e) h = absurd (h e)
-
   inside-is : {e : ℕ} → e < grammarOf image .entries → e < header image .entries
   unfolding grammarOf
   inside-is h = h
 
+  -- the sets of an entry's ways on, by two families of sets of which one has what the other has
+  pub after-map : (r s : ℕ → ℕ → Bool) → ((x i : ℕ) → T (r x i) → T (s x i)) → (e i : ℕ) → T (afterIn image q f r e i) → T (afterIn image q f s e i)
+  after-map r s more e i t = go (stops && r 255 i) refl t
+    where
+      stops : Bool
+      stops = mayStop (entry image e) (header image .form)
+
+      goes : ℕ → Bool
+      goes = goesTo (entry image e) (header image .form)
+
+      go : (b : Bool) → (stops && r 255 i) ≡ b → T (b || any (λ x. goes x && r x i) (below (header image .lexicons))) → T (afterIn image q f s e i)
+      go true h u =
+          let v = and-out stops (r 255 i) (of-true (stops && r 255 i) h) in
+          left-or (stops && s 255 i) (any (λ x. goes x && s x i) (below (header image .lexicons))) (and-in stops (s 255 i) (v .0) (more 255 i (v .1)))
+      go false h u =
+          let w = any-from (λ x. goes x && r x i) (below (header image .lexicons)) u in
+          let v = and-out (goes (w .0)) (r (w .0) i) (w .2) in
+          right-or (stops && s 255 i) (any (λ x. goes x && s x i) (below (header image .lexicons)))
+          (any-has (λ x. goes x && s x i) (below (header image .lexicons)) (w .1) (and-in (goes (w .0)) (s (w .0) i) (v .0) (more (w .0) i (v .1))))
+
   -- by entry, as the law asks
   pub reaches-sound : (reach : ℕ → ℕ → Bool) → Reaches image q f reach → Sound (grammarOf image) q f (afterIn image q f reach)
   unfolding grammarOf
-  reaches-sound reach r e inside i (inl s) = subst (λ (x : ℕ). T (reach x i)) (sym (eqb→eq (continuation (entry image e)) 255 (s .0))) (r .at-end i (s .1))
+  reaches-sound reach r e inside i (inl s) =
+      left-or (mayStop (entry image e) (header image .form) && reach 255 i) (any (λ x. goesTo (entry image e) (header image .form) x && reach x i) (below (header image .lexicons)))
+      (and-in (mayStop (entry image e) (header image .form)) (reach 255 i) (s .0) (r .at-end i (s .1)))
   reaches-sound reach r e inside i (inr s) =
-      let u = and-out (not (eqb (continuation (entry image e)) 255)) (inLexicon image (continuation (entry image e)) (s .0)) (s .1 .1 .0) in
-      r .onward (continuation (entry image e)) (lexicon-of (r .continues e (inside-is inside)) (eqb-false (continuation (entry image e)) 255 (not-out (eqb (continuation (entry image e)) 255) (u .0)))) (s .0) (s .1 .0) (u .1) i (s .1 .1 .1)
+      let goes = goesTo (entry image e) (header image .form) in
+      let u = any-from (λ x. goes x && inLexicon image x (s .0)) (below (header image .lexicons)) (s .1 .1 .0) in
+      let v = and-out (goes (u .0)) (inLexicon image (u .0) (s .0)) (u .2) in
+      right-or (mayStop (entry image e) (header image .form) && reach 255 i) (any (λ x. goes x && reach x i) (below (header image .lexicons)))
+      (any-has (λ x. goes x && reach x i) (below (header image .lexicons)) (u .1)
+      (and-in (goes (u .0)) (reach (u .0) i) (v .0) (r .onward (u .0) (below-from (header image .lexicons) (u .0) (u .1)) (s .0) (s .1 .0) (v .1) i (s .1 .1 .1))))
 
   module _ (reach : ℕ → ℕ → Bool) (r : Reaches image q f reach) (y : ℕ) (m : ℕ → Bool) where
     replaced-same : (i : ℕ) → replaced reach y m y i ≡ m i
@@ -75,9 +95,8 @@ module _ (image : List ℕ) (q : Query) (f : Feasible) where
 
       pub replaced-reach : Reaches image q f (replaced reach y m)
       replaced-reach = record {
-        continues = r .continues;
         at-end = λ i s. subst (λ (b : Bool). T b) (sym (replaced-other 255 i (λ e. omega arith))) (r .at-end i s);
-        onward = λ x other e inside has i s. go x other e inside has i (leads-map f (formOf (entry image e)) (λ k. T (afterIn image q f (replaced reach y m) e k)) (λ k. T (afterIn image q f reach e k)) (λ k. less (continuation (entry image e)) k) i s) (ℕ-discrete x y);
+        onward = λ x other e inside has i s. go x other e inside has i (leads-map f (formOf (entry image e)) (λ k. T (afterIn image q f (replaced reach y m) e k)) (λ k. T (afterIn image q f reach e k)) (λ k. after-map (replaced reach y m) reach less e k) i s) (ℕ-discrete x y);
       }
         where
           go : (x : ℕ) → x < header image .lexicons → (e : ℕ) → e < header image .entries → T (inLexicon image x e) → (i : ℕ) → Leads f (formOf (entry image e)) (λ k. T (afterIn image q f reach e k)) i → Dec (x ≡ y) → T (replaced reach y m x i)

@@ -8,11 +8,12 @@ use mathlib.Core.List.{List}
 use lib.ListN.{length, getD, set, take, drop, length-set, length-take, length-drop}
 use lib.Seq.{getD-set-same, getD-set-other, getD-take, getD-drop, take-take, ext-getD}
 use Rattle.model.specs.Lists.{byte}
-use Rattle.model.specs.Blocks.{Header, recordStart}
+use Rattle.model.specs.Blocks.{Header, header, recordStart}
 use Rattle.model.specs.Lexicon.{firstEntry, entry}
 use Rattle.image.specs.Laid.{Laid}
+use Rattle.lexicon.specs.Sole.{WayOf}
 use Rattle.lexicon.proofs.Laws.{entry-byte}
-use Rattle.forms.specs.Slots.{slotLength, slotEntry}
+use Rattle.forms.specs.Slots.{slotLength, slotOnward, slotEntry}
 use Rattle.orders.specs.Orders.{keyEntry}
 use Rattle.forms.specs.Filling.{Copied, SlotPut, SlotsOf, Shares, SharedOf, FirstsCleared}
 use Rattle.forms.proofs.Stores.{stored, stored-long, stored-other, stored-here}
@@ -40,37 +41,52 @@ copied-more source old new at to n b c inside e = record {
     before j (inl l) = inl l
     before j (inr l) = inr (omega arith)
 
--- an entry's 14 bytes, and its number after them
-pub slot-put : (image : List ℕ) (h : Header) (laid : Laid image h) (old new : List ℕ) (at i e : ℕ) → at ≡ recordStart h 6 e → e < 65536 → 16 * i + 16 ≤ length old
-    → Copied image old new at (16 * i) 14 → SlotPut image old (stored new (16 * i + 14) e) i e
-slot-put image h laid old new at i e f small inside c = record {
-  long = stored-long new (16 * i + 14) e ∙ c .long;
+-- an entry's first 13 bytes, its way on, and its number after them
+pub slot-put : (image : List ℕ) (h : Header) (laid : Laid image h) (old new : List ℕ) (at i e way : ℕ) → at ≡ recordStart h 6 e → e < 65536 → 16 * i + 16 ≤ length old
+    → Copied image old new at (16 * i) 13 → WayOf (entry image e) (h .form) way → SlotPut image old (stored (set new (16 * i + 13) way) (16 * i + 14) e) i e
+slot-put image h laid old new at i e way f small inside c w = record {
+  long = stored-long mid (16 * i + 14) e ∙ length-set new (16 * i + 13) way ∙ c .long;
   bytes = λ k l.
-      stored-other new (16 * i + 14) e (16 * i + k) (λ z. omega arith) (λ z. omega arith)
-      ∙ c .here k l ∙ ap (λ (j : ℕ). getD image (j + k) 0) f ∙ sym (entry-byte image h laid e k l);
-  numbered = stored-here new (16 * i + 14) e (omega (arith, c .long)) small;
-  elsewhere = λ j o. stored-other new (16 * i + 14) e j (apart j o 14 (omega arith)) (λ z. apart j o 15 (omega arith) (omega arith)) ∙ c .elsewhere j (outside j o);
+      stored-other mid (16 * i + 14) e (16 * i + k) (λ z. omega arith) (λ z. omega arith)
+      ∙ getD-set-other new (16 * i + 13) (16 * i + k) way 0 (λ z. omega arith)
+      ∙ c .here k l ∙ ap (λ (j : ℕ). getD image (j + k) 0) f ∙ sym (entry-byte image h laid e k (omega arith));
+  onward = subst (WayOf (entry image e) (header image .form)) (sym way-is) (subst (λ (g : Header). WayOf (entry image e) (g .form) way) (laid .header-is) w);
+  numbered = stored-here mid (16 * i + 14) e (omega (arith, c .long, length-set new (16 * i + 13) way)) small;
+  elsewhere = λ j o. stored-other mid (16 * i + 14) e j (apart j o 14 (omega arith)) (λ z. apart j o 15 (omega arith) (omega arith)) ∙ getD-set-other new (16 * i + 13) j way 0 (apart j o 13 (omega arith)) ∙ c .elsewhere j (outside j o);
 }
   where
+    mid : List ℕ
+    mid = set new (16 * i + 13) way
+
+    way-is : slotOnward (stored mid (16 * i + 14) e) i ≡ way
+    way-is = stored-other mid (16 * i + 14) e (16 * i + 13) (λ z. omega arith) (λ z. omega arith) ∙ getD-set-same new (16 * i + 13) way 0 (omega (arith, c .long))
+
     apart : (j : ℕ) → (j < 16 * i) ⊎ (16 * i + 16 ≤ j) → (k : ℕ) → k < 16 → j ≡ 16 * i + k → ⊥
     apart j (inl l) k m z = omega arith
     apart j (inr l) k m z = omega arith
 
-    outside : (j : ℕ) → (j < 16 * i) ⊎ (16 * i + 16 ≤ j) → (j < 16 * i) ⊎ (16 * i + 14 ≤ j)
+    outside : (j : ℕ) → (j < 16 * i) ⊎ (16 * i + 16 ≤ j) → (j < 16 * i) ⊎ (16 * i + 13 ≤ j)
     outside j (inl l) = inl l
     outside j (inr l) = inr (omega arith)
 
 pub slots-none : (image keys slots : List ℕ) → length slots ≡ 45056 → SlotsOf image keys slots 0
-slots-none image keys slots e = record { long = e; bytes = λ i h. absurd (omega arith); numbered = λ i h. absurd (omega arith) }
+slots-none image keys slots e = record { long = e; bytes = λ i h. absurd (omega arith); onward = λ i h. absurd (omega arith); numbered = λ i h. absurd (omega arith) }
 
 pub slots-more : (image keys old new : List ℕ) (i e : ℕ) → SlotsOf image keys old i → SlotPut image old new i e → e ≡ keyEntry keys i → SlotsOf image keys new (i + 1)
 slots-more image keys old new i e s put f = record {
   long = put .long ∙ s .long;
   bytes = λ j h k l. go j h k l (ℕ-discrete j i);
+  onward = λ j h. on j h (ℕ-discrete j i);
   numbered = λ j h. last j h (ℕ-discrete j i);
 }
   where
-    go : (j : ℕ) → j < i + 1 → (k : ℕ) → k < 14 → Dec (j ≡ i) → getD new (16 * j + k) 0 ≡ byte (entry image (keyEntry keys j)) k
+    on : (j : ℕ) → j < i + 1 → Dec (j ≡ i) → WayOf (entry image (keyEntry keys j)) (header image .form) (slotOnward new j)
+    on j h (yes z) =
+        subst (λ (m : ℕ). WayOf (entry image (keyEntry keys m)) (header image .form) (slotOnward new m)) (sym z)
+        (subst (λ (m : ℕ). WayOf (entry image m) (header image .form) (slotOnward new i)) f (put .onward))
+    on j h (no z) = subst (WayOf (entry image (keyEntry keys j)) (header image .form)) (sym (put .elsewhere (16 * j + 13) (inl (omega arith)))) (s .onward j (omega arith))
+
+    go : (j : ℕ) → j < i + 1 → (k : ℕ) → k < 13 → Dec (j ≡ i) → getD new (16 * j + k) 0 ≡ byte (entry image (keyEntry keys j)) k
     go j h k l (yes z) = ap (λ (m : ℕ). getD new (16 * m + k) 0) z ∙ put .bytes k l ∙ ap (λ (m : ℕ). byte (entry image m) k) (f ∙ ap (keyEntry keys) (sym z))
     go j h k l (no z) = put .elsewhere (16 * j + k) (inl (omega arith)) ∙ s .bytes j (omega arith) k l
 

@@ -3,17 +3,17 @@ use Prim.Native.Nat.{ℕ, zero, suc, _+_, _*_, _-_, _<_, _≤_}
 use native.Mathlib.Omega.{arith}
 use native.Mathlib.Decide.{decLt, decLe}
 use mathlib.Core.Path.{_≡_, refl, sym, ap, _∙_, subst}
-use mathlib.Core.Logic.{_⊎_, inl, inr}
 use mathlib.Core.List.{List}
 use lib.ListN.{length, getD, take, drop, length-take, length-drop}
 use lib.Seq.{getD-take, getD-drop, take-take, ext-getD}
 use Rattle.model.specs.Lists.{byte, within}
-use Rattle.model.specs.Blocks.{Header}
-use Rattle.model.specs.Lexicon.{firstEntry, entryCount, entry, formLength, formOf, continuation}
+use Rattle.model.specs.Blocks.{Header, header}
+use Rattle.model.specs.Lexicon.{firstEntry, entryCount, entry, formLength, formOf}
 use Rattle.model.proofs.Booleans.{within-out}
 use Rattle.model.proofs.Rest.{every-getD}
 use Rattle.image.specs.Accepted.{Accepted}
-use Rattle.lexicon.proofs.Laws.{form-short, form-size, form-letters, continuation-right, lexicon-within, first-more, first-last}
+use Rattle.lexicon.proofs.Laws.{form-short, form-size, form-letters, lexicon-within, first-more, first-last}
+use Rattle.lexicon.specs.Sole.{WayOf}
 use Rattle.forms.specs.Slots.{slotLength, slotForm, slotOnward, slotEntry, skipTo, Slotted}
 use Rattle.orders.specs.Orders.{keyEntry}
 use Rattle.forms.specs.Filling.{SkipsOf, Held, Sharing}
@@ -28,7 +28,7 @@ module _ (image : List ℕ) (h : Header) (a : Accepted image h) (slots : List �
     inside : holds i < h .entries
     inside = arranged-within image h a (held .keys) (held .arranged) i there
 
-    slot-byte : (k : ℕ) → k < 14 → getD slots (16 * i + k) 0 ≡ byte (entry image (holds i)) k
+    slot-byte : (k : ℕ) → k < 13 → getD slots (16 * i + k) 0 ≡ byte (entry image (holds i)) k
     slot-byte k l = held .held .bytes i there k l
 
     length-is : slotLength slots i ≡ formLength (entry image (holds i))
@@ -63,12 +63,8 @@ module _ (image : List ℕ) (h : Header) (a : Accepted image h) (slots : List �
         let read : getD slots (16 * i + 1 + k) 0 ≡ getD (formOf (entry image (holds i))) k 0 = sym (getD-take (slotLength slots i) (drop (16 * i + 1) slots) k 0 l ∙ getD-drop (16 * i + 1) slots k 0) ∙ ap (λ (f : List ℕ). getD f k 0) slot-form in
         omega (arith, read, range .1, a .laid .limits .letters-most)
 
-    slot-onward : (slotOnward slots i < 64) ⊎ (slotOnward slots i ≡ 255)
-    slot-onward = go (continuation-right image h (a .laid) (entries-ok image h a) (holds i) inside)
-      where
-        go : (continuation (entry image (holds i)) < h .lexicons) ⊎ (continuation (entry image (holds i)) ≡ 255) → (slotOnward slots i < 64) ⊎ (slotOnward slots i ≡ 255)
-        go (inl l) = inl (omega (arith, slot-byte 13 (omega arith), l, a .laid .limits .lexicons-most))
-        go (inr e) = inr (slot-byte 13 (omega arith) ∙ e)
+    slot-onward : WayOf (entry image (holds i)) (header image .form) (slotOnward slots i)
+    slot-onward = held .held .onward i there
 
     slot-number : slotEntry slots i ≡ holds i
     slot-number = held .held .numbered i there
@@ -124,9 +120,9 @@ module _ (image : List ℕ) (h : Header) (a : Accepted image h) (slots : List �
           few = omega (arith, high-most, most);
           form-short = λ i l. slot-short i (there i l);
           letters-in = λ i l k m. slot-letter i (there i l) k m;
-          onward-in = λ i l. slot-onward i (there i l);
+          onward-in = λ i l. slot-onward i (there i l) .in-bound;
           form-is = λ i m l. slot-form i (there i l) ∙ ap (λ (j : ℕ). formOf (entry image j)) (sym (slot-number i (there i l)));
-          onward-is = λ i m l. slot-byte i (there i l) 13 (omega arith) ∙ ap (λ (j : ℕ). continuation (entry image j)) (sym (slot-number i (there i l)));
+          onward-is = λ i m l. subst (λ (j : ℕ). WayOf (entry image j) (header image .form) (slotOnward slots i)) (sym (slot-number i (there i l))) (slot-onward i (there i l));
           entry-in = λ i m l. subst (λ (j : ℕ). (low ≤ j) × (j < high)) (sym (slot-number i (there i l))) (range .entry-in i m l);
           apart = λ i j m l n z. range .apart i j m l n (sym (slot-number i (there i (omega arith))) ∙ z ∙ slot-number j (there j n));
           all = λ j m l. let w = range .all j m l in (w .0, (w .1 .0, (w .1 .1 .0, slot-number (w .0) (there (w .0) (w .1 .1 .0)) ∙ w .1 .1 .1)));

@@ -29,7 +29,9 @@ fn put_slot(image: &[u8], h: Header, e: usize, slots: &mut [u8], i: usize)
     ensures { λ _. ⌜ SlotPut (now (image .entry)) (now (slots .entry)) (now (slots .exit)) i e ⌝ }
 {
     let at = lexicon::entry_start(h, e);
-    copy(image, at, slots, 16 * i, 14);
+    copy(image, at, slots, 16 * i, 13);
+    let way = lexicon::ways::way_of(image, h, e);
+    slots[16 * i + 13] = way as u8;
     image::seal::put_number(slots, 16 * i + 14, e);
 }
 

@@ -2,16 +2,16 @@
 use Prim.Native.Nat.{ℕ, zero, suc, _+_, _*_, _-_, _/_, _%_, _<_, _≤_}
 use native.Mathlib.Nat.{le-refl, mul-comm, mul-assoc, mul-add, add-mul, div-add-mod', mul-suc, mul-le-mul, mod-lt, mod-eq-of-lt, div-eq-of-lt, mul-div-le, le-div-iff-mul-le, div-lt-iff-lt-mul, div-self, mod-self, add-mul-div-right, add-mul-mod-self-right}
 use native.Mathlib.Omega.{arith}
-use mathlib.Core.Bool.{Bool, true, false, cond}
+use mathlib.Core.Bool.{Bool, true, false, _&&_, cond}
 use mathlib.Core.Path.{_≡_, refl, sym, ap, _∙_}
 use mathlib.Core.List.{List, [], _∷_, map}
 use lib.ListN.{length, getD, take, drop, length-take, length-drop}
 use lib.Seq.{getD-take, getD-drop}
 use lib.Dec.{eqb}
 use Rattle.model.specs.Lists.{sum, byte}
-use Rattle.model.specs.Blocks.{Header, Kind, fitting, kinds, rowOf, blocksBefore, inAll, recordWidth, perBlock, firstBlock, recordStart, blockTotal, recordAt}
-use Rattle.image.specs.Laid.{Limited, Laid}
-use Rattle.image.specs.Kinds.{IsKind}
+use Rattle.model.specs.Blocks.{Header, Kind, fitting, filled, entryWidth, kinds, rowOf, blocksBefore, inAll, recordWidth, perBlock, firstBlock, recordStart, blockTotal, recordAt}
+use Rattle.image.specs.Laid.{Counted, Limited, Laid}
+use Rattle.image.specs.Kinds.{IsKind, placeOf}
 
 -- a row whose records have room in its blocks
 pub record Fitted (r : Kind) : Type 0 where
@@ -23,6 +23,27 @@ abbrev AllFitted : List Kind → Type 0
 AllFitted [] = Unit {0}
 AllFitted (r ∷ rs) = Fitted r × AllFitted rs
 
+-- as many of a width as fit stand in a block's 506 bytes for records
+pub some-fit : (width : ℕ) → 1 ≤ width → width ≤ 506 → 1 ≤ fitting width
+some-fit width wide narrow = le-div-iff-mul-le {k = width} {x = 1} {y = 506} wide .1 (omega arith)
+
+pub fit-most : (width : ℕ) → width * fitting width ≤ 506
+fit-most width = mul-div-le 506 width
+
+-- blocks "rounded up" have room
+filled-fitted : (kind width n : ℕ) → 1 ≤ width → width ≤ 506 → Fitted (filled kind width n)
+filled-fitted kind width n wide narrow = record { wide = wide; narrow = narrow; filled = room (fitting width) (some-fit width wide narrow) }
+  where
+    room : (m : ℕ) → 1 ≤ m → n ≤ (n + (m - 1)) / m * m
+    room m some = omega (arith, div-add-mod' (n + (m - 1)) m, mod-lt (n + (m - 1)) {m = m} some)
+
+pub entry-wide : (form : ℕ) → (16 ≤ entryWidth form) × (entryWidth form ≤ 24)
+entry-wide form = go (eqb form 2)
+  where
+    go : (b : Bool) → (16 ≤ cond b 24 16) × (cond b 24 16 ≤ 24)
+    go true = (omega arith, omega arith)
+    go false = (omega arith, omega arith)
+
 -- the limits give every row that room
 kinds-fitted : (h : Header) → Limited h → AllFitted (kinds h)
 unfolding kinds
@@ -32,14 +53,27 @@ kinds-fitted h l =
     let three : Fitted (rowOf 3 (kinds h)) = record { wide = omega arith; narrow = omega arith; filled = omega arith } in
     let four : Fitted (rowOf 4 (kinds h)) = record { wide = omega arith; narrow = omega arith; filled = omega arith } in
     let five : Fitted (rowOf 5 (kinds h)) = record { wide = omega arith; narrow = omega arith; filled = omega arith } in
-    let six : Fitted (rowOf 6 (kinds h)) = record { wide = omega arith; narrow = omega arith; filled = omega arith } in
-    let seven : Fitted (rowOf 7 (kinds h)) = record { wide = omega arith; narrow = omega arith; filled = omega arith } in
+    let six : Fitted (rowOf 6 (kinds h)) = filled-fitted 6 (entryWidth (h .form)) (h .entries) (omega (arith, entry-wide (h .form))) (omega (arith, entry-wide (h .form))) in
+    let seven : Fitted (rowOf 7 (kinds h)) = filled-fitted 7 16 (h .sets) (omega arith) (omega arith) in
     (one, (two, (three, (seven, (four, (five, (six, tt)))))))
 
 -- "1 to 128 blocks"
 pub total-most : (h : Header) → Limited h → blockTotal h ≤ 128
-unfolding blockTotal kinds
-total-most h l = omega arith
+total-most h l = l .blocks-most
+
+pub counted : (h : Header) → Limited h → Counted h
+counted h l = record {
+  letters-least = l .letters-least;
+  letters-most = l .letters-most;
+  pairs-least = l .pairs-least;
+  pairs-most = l .pairs-most;
+  rules-most = l .rules-most;
+  lexicons-least = l .lexicons-least;
+  lexicons-most = l .lexicons-most;
+  entries-least = l .entries-least;
+  entries-most = l .entries-most;
+  sets-most = l .sets-most;
+}
 
 -- the row of a kind that has a record
 module _ (kind : ℕ) where
@@ -60,13 +94,6 @@ module _ (kind : ℕ) where
           → 1 ≤ cond b r (rowOf kind rs) .inAll → cond b n (blocksBefore kind (n + r .blocks) rs) + cond b r (rowOf kind rs) .blocks ≤ n + (r .blocks + sum (map (λ r. r .blocks) rs))
       go true rest some = omega arith
       go false rest some = omega (arith, rest some)
-
--- as many of a width as fit stand in a block's 506 bytes for records
-pub some-fit : (width : ℕ) → 1 ≤ width → width ≤ 506 → 1 ≤ fitting width
-some-fit width wide narrow = le-div-iff-mul-le {k = width} {x = 1} {y = 506} wide .1 (omega arith)
-
-pub fit-most : (width : ℕ) → width * fitting width ≤ 506
-fit-most width = mul-div-le 506 width
 
 in-block : (width i : ℕ) → 1 ≤ width → width ≤ 506 → width * (i % fitting width) + width ≤ 506
 in-block width i wide narrow =
@@ -188,3 +215,30 @@ by-kind f none (suc (suc (suc (suc (suc zero))))) is = refl
 by-kind f none (suc (suc (suc (suc (suc (suc zero)))))) is = refl
 by-kind f none (suc (suc (suc (suc (suc (suc (suc zero))))))) is = refl
 by-kind f none (suc (suc (suc (suc (suc (suc (suc (suc n)))))))) is = absurd (omega arith)
+
+pub place-few : (form kind : ℕ) → IsKind kind → placeOf form kind < 9
+place-few form kind is = go (eqb form 2 && eqb kind 6)
+  where
+    go : (b : Bool) → cond b 8 kind < 9
+    go true = omega arith
+    go false = omega arith
+
+-- a table with a place more, for the entries of form 2
+pub by-form : (two : Bool) (none a b c d e f g other kind : ℕ) → IsKind kind
+    → getD (none ∷ a ∷ b ∷ c ∷ d ∷ e ∷ f ∷ g ∷ other ∷ []) (cond (two && eqb kind 6) 8 kind) 0 ≡ getD (none ∷ a ∷ b ∷ c ∷ d ∷ e ∷ cond two other f ∷ g ∷ []) kind 0
+by-form two none a b c d e f g other zero is = absurd (omega arith)
+by-form true none a b c d e f g other (suc zero) is = refl
+by-form true none a b c d e f g other (suc (suc zero)) is = refl
+by-form true none a b c d e f g other (suc (suc (suc zero))) is = refl
+by-form true none a b c d e f g other (suc (suc (suc (suc zero)))) is = refl
+by-form true none a b c d e f g other (suc (suc (suc (suc (suc zero))))) is = refl
+by-form true none a b c d e f g other (suc (suc (suc (suc (suc (suc zero)))))) is = refl
+by-form true none a b c d e f g other (suc (suc (suc (suc (suc (suc (suc zero))))))) is = refl
+by-form false none a b c d e f g other (suc zero) is = refl
+by-form false none a b c d e f g other (suc (suc zero)) is = refl
+by-form false none a b c d e f g other (suc (suc (suc zero))) is = refl
+by-form false none a b c d e f g other (suc (suc (suc (suc zero)))) is = refl
+by-form false none a b c d e f g other (suc (suc (suc (suc (suc zero))))) is = refl
+by-form false none a b c d e f g other (suc (suc (suc (suc (suc (suc zero)))))) is = refl
+by-form false none a b c d e f g other (suc (suc (suc (suc (suc (suc (suc zero))))))) is = refl
+by-form two none a b c d e f g other (suc (suc (suc (suc (suc (suc (suc (suc n)))))))) is = absurd (omega arith)

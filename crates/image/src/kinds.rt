@@ -5,13 +5,13 @@ ghost use mathlib.Core.Path.{_≡_};
 ghost use Prim.Native.Nat.{_<_, _≤_};
 ghost use Rattle.model.specs.Blocks.{filling, inAll, recordWidth, perBlock, firstBlock, recordStart};
 ghost use Rattle.image.specs.Header.{headerOf};
-ghost use Rattle.image.specs.Laid.{Limited};
-ghost use Rattle.image.specs.Kinds.{IsKind};
+ghost use Rattle.image.specs.Laid.{Counted, Limited};
+ghost use Rattle.image.specs.Kinds.{IsKind, placeOf};
 
-// Of form 1, by kind.
-const WIDTH: [usize; 8] = [0, 14, 2, 2, 506, 2, 16, 16];
+// By kind, of form 1; the last place is that of the entries of form 2.
+const WIDTH: [usize; 9] = [0, 14, 2, 2, 506, 2, 16, 16, 24];
 
-const PER_BLOCK: [usize; 8] = [0, 36, 253, 253, 1, 253, 31, 31];
+const PER_BLOCK: [usize; 9] = [0, 36, 253, 253, 1, 253, 31, 31, 21];
 
 // Its places by name, for the code that reads records of one kind.
 pub const LETTER_WIDTH: usize = WIDTH[2];
@@ -28,18 +28,31 @@ pub const PAIRS_START: usize = 2 * 512 + 4;
 // The block of sets, where there are any; else the tables begin there.
 const SETS_BLOCK: usize = 3;
 
+// The place of a kind in the two tables.
+fn place_of(h: Header, kind: usize) -> usize
+    requires { ⌜ IsKind kind ⌝ }
+    ensures { λ r. ⌜ (r ≡ placeOf (h .form) kind) × (r < 9) ⌝ }
+{
+    if h.form == 2 {
+        if kind == 6 {
+            return 8;
+        }
+    }
+    kind
+}
+
 pub fn width(h: Header, kind: usize) -> usize
     requires { ⌜ IsKind kind ⌝ }
     ensures { λ r. ⌜ r ≡ recordWidth (headerOf h) kind ⌝ }
 {
-    WIDTH[kind]
+    WIDTH[place_of(h, kind)]
 }
 
 pub fn per_block(h: Header, kind: usize) -> usize
     requires { ⌜ IsKind kind ⌝ }
     ensures { λ r. ⌜ r ≡ perBlock (headerOf h) kind ⌝ }
 {
-    PER_BLOCK[kind]
+    PER_BLOCK[place_of(h, kind)]
 }
 
 // How many records of a kind an image has.
@@ -62,7 +75,7 @@ pub fn in_all(h: Header, kind: usize) -> usize
 
 // The blocks of sets: one, where there are any.
 fn set_blocks(h: Header) -> usize
-    requires { ⌜ Limited (headerOf h) ⌝ }
+    requires { ⌜ Counted (headerOf h) ⌝ }
     ensures { λ r. ⌜ (r ≡ filling 16 (h .sets)) × (r ≤ 1) ⌝ }
 {
     if h.sets == 0 {
@@ -73,7 +86,7 @@ fn set_blocks(h: Header) -> usize
 
 // The first block of a kind.
 pub fn first_block(h: Header, kind: usize) -> usize
-    requires { ⌜ Limited (headerOf h) ⌝ }
+    requires { ⌜ Counted (headerOf h) ⌝ }
     requires { ⌜ IsKind kind ⌝ }
     ensures { λ r. ⌜ r ≡ firstBlock (headerOf h) kind ⌝ }
 {

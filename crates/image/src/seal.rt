@@ -36,7 +36,7 @@ pub fn put_number(bytes: &mut [u8], at: usize, n: usize)
     bytes[at + 1] = (n / 256 % 256) as u8;
 }
 
-fn seal_block(block: &mut [u8], k: usize)
+pub fn seal_block(block: &mut [u8], k: usize)
     requires { ⌜ length (now block) ≡ 512 ⌝ }
     ensures { λ _. ⌜ now (block .exit) ≡ sealedBlock k (now (block .entry)) ⌝ }
 {

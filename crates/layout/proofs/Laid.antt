@@ -11,16 +11,16 @@ use Rattle.model.specs.Lists.{below, every, within}
 use Rattle.model.specs.Blocks.{Header, header, block, blockCount, blockTotal, withinLimits, laidOut}
 use Rattle.model.specs.Refusals.{rightLength, rightLayout}
 use Rattle.model.proofs.Booleans.{and-in, and-out, in5, out4, out5, within-in, within-out, true-of, of-true}
-use Rattle.model.proofs.Sealing.{right-blocks}
-use Rattle.image.specs.Laid.{Limited, Laid}
+use Rattle.model.proofs.Sealing.{right-blocks, right-few}
+use Rattle.image.specs.Laid.{Counted, Limited, Laid}
 
 -- the limits of the five counts that document 01 has
 abbrev withinFive : Header → Bool
 withinFive h = within 2 120 (h .letters) && within 1 250 (h .pairs) && within 0 32 (h .rules) && within 1 64 (h .lexicons) && within 1 2800 (h .entries)
 
-pub limited : (h : Header) → withinLimits h ≡ true → Limited h
+pub counted-of : (h : Header) → withinLimits h ≡ true → Counted h
 unfolding withinLimits
-limited h e =
+counted-of h e =
     let u = and-out (withinFive h) (within 0 31 (h .sets)) (of-true (withinLimits h) e) in
     let t = out5 (within 2 120 (h .letters)) (within 1 250 (h .pairs)) (within 0 32 (h .rules)) (within 1 64 (h .lexicons)) (within 1 2800 (h .entries)) (u .0) in
     let a = within-out 2 120 (h .letters) (t .0) in
@@ -33,7 +33,7 @@ limited h e =
 
 -- and back: counts that keep the limits pass, and a limit that is not kept fails
 module _ (h : Header) where
-  pub limits-kept : Limited h → withinLimits h ≡ true
+  pub limits-kept : Counted h → withinLimits h ≡ true
   unfolding withinLimits
   limits-kept l =
       true-of (withinLimits h)
@@ -46,15 +46,15 @@ module _ (h : Header) where
       (within-in 1 2800 (h .entries) (l .entries-least) (l .entries-most)))
       (within-in 0 31 (h .sets) (omega arith) (l .sets-most)))
 
-  pub limits-broken : (Limited h → ⊥) → withinLimits h ≡ false
+  pub limits-broken : (Counted h → ⊥) → withinLimits h ≡ false
   limits-broken f = go (withinLimits h) refl
     where
       go : (b : Bool) → withinLimits h ≡ b → withinLimits h ≡ false
-      go true e = absurd (f (limited h e))
+      go true e = absurd (f (counted-of h e))
       go false e = e
 
   -- where every other limit is kept, the last decides
-  pub limits-last : (h .entries ≤ 2800 → Limited h) → withinLimits h ≡ leb (h .entries) 2800
+  pub limits-last : (h .entries ≤ 2800 → Counted h) → withinLimits h ≡ leb (h .entries) 2800
   limits-last f = go (decLe (h .entries) 2800)
     where
       go : Dec (h .entries ≤ 2800) → withinLimits h ≡ leb (h .entries) 2800
@@ -66,26 +66,46 @@ module _ (image : List ℕ) (h : Header) (e : h ≡ header image) where
   abbrev blocks : Header → Bool
   blocks h = every (λ k. laidOut h k (block image k)) (below (blockCount image))
 
-  layout-is : rightLayout image ≡ (eqb (h .form) 1 && withinLimits h && eqb (blockCount image) (blockTotal h) && blocks h)
+  layout-is : rightLayout image ≡ (within 1 2 (h .form) && withinLimits h && eqb (blockCount image) (blockTotal h) && blocks h)
   unfolding rightLayout
-  layout-is = ap (λ (g : Header). eqb (g .form) 1 && withinLimits g && eqb (blockCount image) (blockTotal g) && blocks g) (sym e)
+  layout-is = ap (λ (g : Header). within 1 2 (g .form) && withinLimits g && eqb (blockCount image) (blockTotal g) && blocks g) (sym e)
 
-  pub layout-form : (h .form ≡ 1 → ⊥) → rightLayout image ≡ false
-  layout-form f = layout-is ∙ rw (ne-eqb (h .form) 1 f) refl
+  pub layout-form : within 1 2 (h .form) ≡ false → rightLayout image ≡ false
+  layout-form f = layout-is ∙ rw f refl
 
-  pub layout-limits : h .form ≡ 1 → withinLimits h ≡ false → rightLayout image ≡ false
-  layout-limits f l = layout-is ∙ rw (eq-eqb (h .form) 1 f, l) refl
+  pub layout-limits : within 1 2 (h .form) ≡ true → withinLimits h ≡ false → rightLayout image ≡ false
+  layout-limits f l = layout-is ∙ rw (f, l) refl
 
-  pub layout-total : h .form ≡ 1 → withinLimits h ≡ true → (blockCount image ≡ blockTotal h → ⊥) → rightLayout image ≡ false
-  layout-total f l t = layout-is ∙ rw (eq-eqb (h .form) 1 f, l, ne-eqb (blockCount image) (blockTotal h) t) refl
+  pub layout-total : within 1 2 (h .form) ≡ true → withinLimits h ≡ true → (blockCount image ≡ blockTotal h → ⊥) → rightLayout image ≡ false
+  layout-total f l t = layout-is ∙ rw (f, l, ne-eqb (blockCount image) (blockTotal h) t) refl
 
-  pub layout-blocks : h .form ≡ 1 → withinLimits h ≡ true → blockCount image ≡ blockTotal h → rightLayout image ≡ blocks h
-  layout-blocks f l t = layout-is ∙ rw (eq-eqb (h .form) 1 f, l, eq-eqb (blockCount image) (blockTotal h) t) refl
+  pub layout-blocks : within 1 2 (h .form) ≡ true → withinLimits h ≡ true → blockCount image ≡ blockTotal h → rightLayout image ≡ blocks h
+  layout-blocks f l t = layout-is ∙ rw (f, l, eq-eqb (blockCount image) (blockTotal h) t) refl
+
+-- counts within their limits, a form and a total of blocks that are right
+pub limited : (h : Header) → Counted h → within 1 2 (h .form) ≡ true → blockTotal h ≤ 128 → Limited h
+limited h c f few =
+    let u = within-out 1 2 (h .form) (of-true (within 1 2 (h .form)) f) in
+    record {
+      letters-least = c .letters-least;
+      letters-most = c .letters-most;
+      pairs-least = c .pairs-least;
+      pairs-most = c .pairs-most;
+      rules-most = c .rules-most;
+      lexicons-least = c .lexicons-least;
+      lexicons-most = c .lexicons-most;
+      entries-least = c .entries-least;
+      entries-most = c .entries-most;
+      sets-most = c .sets-most;
+      form-least = u .0;
+      form-most = u .1;
+      blocks-most = few;
+    }
 
 pub laid : (image : List ℕ) → rightLength image ≡ true → rightLayout image ≡ true → Laid image (header image)
 unfolding rightLayout
 laid image a b =
     let h = header image in
-    let t = out4 (eqb (h .form) 1) (withinLimits h) (eqb (blockCount image) (blockTotal h)) (every (λ k. laidOut h k (block image k)) (below (blockCount image))) (of-true (rightLayout image) b) in
+    let t = out4 (within 1 2 (h .form)) (withinLimits h) (eqb (blockCount image) (blockTotal h)) (every (λ k. laidOut h k (block image k)) (below (blockCount image))) (of-true (rightLayout image) b) in
     let n = eqb→eq (blockCount image) (blockTotal h) (t .2) in
-    record { header-is = refl; whole = right-blocks image a ∙ ap (λ (m : ℕ). 512 * m) n; limits = limited h (true-of (withinLimits h) (t .1)) }
+    record { header-is = refl; whole = right-blocks image a ∙ ap (λ (m : ℕ). 512 * m) n; limits = limited h (counted-of h (true-of (withinLimits h) (t .1))) (true-of (within 1 2 (h .form)) (t .0)) (omega (arith, right-few image a)) }

@@ -4,11 +4,11 @@ ghost use mathlib.Core.Bool.{true, _&&_};
 ghost use Prim.Native.Nat.{_+_, _*_, _<_, _≤_};
 ghost use lib.ListN.{length};
 ghost use lib.Dec.{eqb};
-ghost use Rattle.model.specs.Lists.{below, every};
+ghost use Rattle.model.specs.Lists.{below, every, within};
 ghost use Rattle.model.specs.Blocks.{block, blockCount, blockNumber, blockCheck, checkOf, perBlock, recordsAt, laidOut, withinLimits, blockTotal};
 ghost use Rattle.model.specs.Refusals.{rightLength, rightChecks, rightLayout};
 ghost use Rattle.image.specs.Header.{headerOf};
-ghost use Rattle.image.specs.Laid.{Limited};
+ghost use Rattle.image.specs.Laid.{Counted, Limited};
 ghost use Rattle.layout.specs.Placed.{Placed};
 use image::Header;
 use image::kinds;
@@ -39,6 +39,16 @@ pub fn right_checks(image: &[u8]) -> bool
         k += 1;
     }
     true
+}
+
+// The form is one that there is.
+fn right_form(h: Header) -> bool
+    ensures { λ r. ⌜ r ≡ within 1 2 (h .form) ⌝ }
+{
+    if h.form < 1 {
+        return false;
+    }
+    h.form <= 2
 }
 
 // The counts are within their limits.
@@ -77,7 +87,7 @@ fn within_limits(h: Header) -> bool
 
 // The kind of block k.
 fn kind_at(h: Header, k: usize) -> usize
-    requires { ⌜ Limited (headerOf h) ⌝ }
+    requires { ⌜ Counted (headerOf h) ⌝ }
     requires { ⌜ k < blockTotal (headerOf h) ⌝ }
     ensures { λ r. ⌜ Placed (headerOf h) k r ⌝ }
 {
@@ -97,8 +107,8 @@ fn kind_at(h: Header, k: usize) -> usize
 }
 
 // How many records block k holds: those of its kind that the blocks before it have left, as many as a block holds.
-fn records_at(h: Header, kind: usize, k: usize) -> usize
-    requires { ⌜ Limited (headerOf h) ⌝ }
+pub fn records_at(h: Header, kind: usize, k: usize) -> usize
+    requires { ⌜ Counted (headerOf h) ⌝ }
     requires { ⌜ Placed (headerOf h) k kind × (k < 128) ⌝ }
     ensures { λ r. ⌜ (r ≡ recordsAt (headerOf h) k) × (r ≤ perBlock (headerOf h) kind) ⌝ }
 {
@@ -150,8 +160,8 @@ fn all_laid_out(image: &[u8], h: Header) -> bool
 }
 
 // The number of blocks that the counts ask for.
-fn block_total(h: Header) -> usize
-    requires { ⌜ Limited (headerOf h) ⌝ }
+pub fn block_total(h: Header) -> usize
+    requires { ⌜ Counted (headerOf h) ⌝ }
     ensures { λ r. ⌜ r ≡ blockTotal (headerOf h) ⌝ }
 {
     let most = kinds::per_block(h, 6);
@@ -164,7 +174,7 @@ pub fn right_layout(image: &[u8]) -> bool
     ensures { λ r. ⌜ r ≡ rightLayout (now (image .entry)) ⌝ }
 {
     let h = image::read_header(image);
-    if h.form != 1 {
+    if !right_form(h) {
         return false;
     }
     if !within_limits(h) {

@@ -1,68 +1,119 @@
 -- Entries as bytes of the image, what test 8 leaves for those that follow, and how the lexicons tile the entries.
-use Prim.Native.Nat.{ℕ, zero, suc, _+_, _*_, _<_, _≤_}
+use Prim.Native.Nat.{ℕ, zero, suc, _+_, _*_, _/_, _%_, _<_, _≤_}
 use native.Mathlib.Nat.{add-assoc}
 use native.Mathlib.Numerals.{add-one}
 use native.Mathlib.Omega.{arith}
 use native.Mathlib.Decide.{decLt, decLe}
-use mathlib.Core.Bool.{Bool, true, false, _&&_, _||_}
+use mathlib.Core.Bool.{Bool, true, false, _&&_, _||_, not, cond}
 use mathlib.Core.Path.{_≡_, refl, sym, ap, ap₂, _∙_, subst}
 use mathlib.Core.Logic.{_⊎_, inl, inr}
-use mathlib.Core.List.{List, [], _∷_, _++_, map, List·Memᴰ}
+use mathlib.Core.List.{List, [], _∷_, _++_, map, List·Memᴰ, List·Memᴰ·head, List·Memᴰ·tail}
 use lib.ListN.{length, take, drop, length-take, length-drop}
 use lib.Seq.{drop-drop, take-take, getD-take, getD-drop}
 use lib.Dec.{T, leb, ltb, eqb, leb→le, le→leb, ltb→lt, lt→ltb, eqb→eq}
 use borrow.Author.Tests.{le-leb, lt-leb}
-use Rattle.model.specs.Lists.{below, every, sum, within, isZero, byte, number}
-use Rattle.model.specs.Blocks.{Header, kinds, recordWidth, firstBlock, recordStart}
-use Rattle.model.specs.Lexicon.{entryCount, firstEntry, inLexicon, entry, formLength, formOf, continuation, isEntryOf, isEntry}
+use Rattle.model.specs.Lists.{below, every, any, sum, within, isZero, byte, bit, number}
+use Rattle.model.specs.Blocks.{Header, kinds, entryWidth, recordWidth, firstBlock, recordStart}
+use Rattle.model.specs.RuleTables.{inSet}
+use Rattle.model.specs.Lexicon.{mayStop, goesTo, rightWays, entryCount, firstEntry, inLexicon, entry, formLength, formOf, continuation, isEntryOf, isEntry}
 use Rattle.model.specs.Refusals.{rightEntries}
 use Rattle.model.specs.Beside.{formStart}
 use Rattle.model.proofs.Booleans.{and-out, and-in, out4, within-out}
-use Rattle.model.proofs.Lists.{below-has, drop-take, every-at, map-below}
+use Rattle.model.proofs.Lists.{below-has, below-from, drop-take, every-at, every-same, map-below}
 use Rattle.model.proofs.Rest.{every-getD}
 use Rattle.image.specs.Laid.{Laid}
 use Rattle.image.proofs.Records.{record-block, record-before, record-inside, record-part, record-byte, record-first}
 
--- an entry's length, letters and continuation are its first 14 bytes
+width-least : (form : ℕ) → 16 ≤ entryWidth form
+width-least form = go (eqb form 2)
+  where
+    go : (b : Bool) → 16 ≤ cond b 24 16
+    go true = omega arith
+    go false = omega arith
+
+any-same : (f h : ℕ → Bool) (xs : List ℕ) → ((x : ℕ) → List·Memᴰ x xs → f x ≡ h x) → any f xs ≡ any h xs
+any-same f h [] e = refl
+any-same f h (x ∷ xs) e = ap₂ (λ (a b : Bool). a || b) (e x (List·Memᴰ·head refl)) (any-same f h xs (λ y m. e y (List·Memᴰ·tail m)))
+
+-- an entry's length, letters and the byte after them are its first 14 bytes
 pub entry-wide : (h : Header) → 14 ≤ recordWidth h 6
 unfolding kinds
-entry-wide h = omega arith
+entry-wide h = omega (arith, width-least (h .form))
+
+-- the bytes of an entry that its form knows
+pub width-is : (h : Header) → recordWidth h 6 ≡ entryWidth (h .form)
+unfolding kinds
+width-is h = refl
 
 -- a beginning of the bytes from 1 on, of a list and of one that is cut after it
 form-cut : (l : List ℕ) (width n : ℕ) → 1 + n ≤ width → take n (drop 1 (take width l)) ≡ take n (drop 1 l)
 form-cut l width n h = sym (drop-take 1 n (take width l)) ∙ ap (drop 1) (take-take (1 + n) width l h) ∙ drop-take 1 n l
 
 -- what is asked of an entry is asked of those bytes
-module _ (may : ℕ → Bool) (lexicons : ℕ) where
-  pub entry-long : (l : List ℕ) → 12 < byte l 0 → isEntryOf l may lexicons ≡ false
+-- what it says of its ways on is in those bytes
+pub set-cut : (l : List ℕ) (width x : ℕ) → x < 64 → 24 ≤ width → inSet (drop 16 (take width l)) x ≡ inSet (drop 16 l) x
+unfolding inSet
+set-cut l width x few wide =
+    ap (λ (n : ℕ). bit n (x % 8)) (getD-drop 16 (take width l) (x / 8) 0 ∙ getD-take width l (16 + x / 8) 0 (omega arith) ∙ sym (getD-drop 16 l (x / 8) 0))
+
+module _ (l : List ℕ) (width : ℕ) where
+  byte-cut : 14 ≤ width → byte (take width l) 13 ≡ byte l 13
+  byte-cut wide = getD-take width l 13 0 (omega arith)
+
+  stop-cut : (form : ℕ) → 14 ≤ width → mayStop (take width l) form ≡ mayStop l form
+  unfolding mayStop
+  stop-cut form wide = ap (λ (n : ℕ). eqb n (cond (eqb form 2) 1 255)) (byte-cut wide)
+
+  goes-cut : (x : ℕ) → x < 64 → 24 ≤ width → goesTo (take width l) 2 x ≡ goesTo l 2 x
+  unfolding goesTo
+  goes-cut x few wide = set-cut l width x few wide
+
+  pub ways-cut : (form lexicons : ℕ) → entryWidth form ≤ width → rightWays (take width l) form lexicons ≡ rightWays l form lexicons
+  unfolding rightWays
+  ways-cut form lexicons wide = go (eqb form 2) wide
+    where
+      many : 24 ≤ width → (leb (byte (take width l) 13) 1 && every (λ x. ltb x lexicons || not (goesTo (take width l) 2 x)) (below 64) && (mayStop (take width l) 2 || any (goesTo (take width l) 2) (below 64))) ≡ (leb (byte l 13) 1 && every (λ x. ltb x lexicons || not (goesTo l 2 x)) (below 64) && (mayStop l 2 || any (goesTo l 2) (below 64)))
+      many wide = λ i.
+          leb (byte-cut (omega arith) i) 1
+          && every-same (λ x. ltb x lexicons || not (goesTo (take width l) 2 x)) (λ x. ltb x lexicons || not (goesTo l 2 x)) (below 64) (λ x m. ap (λ (b : Bool). ltb x lexicons || not b) (goes-cut x (below-from 64 x m) wide)) i
+          && (stop-cut 2 (omega arith) i || any-same (goesTo (take width l) 2) (goesTo l 2) (below 64) (λ x m. goes-cut x (below-from 64 x m) wide) i)
+
+      go : (b : Bool) → cond b 24 16 ≤ width
+          → cond b (leb (byte (take width l) 13) 1 && every (λ x. ltb x lexicons || not (goesTo (take width l) 2 x)) (below 64) && (mayStop (take width l) 2 || any (goesTo (take width l) 2) (below 64))) (ltb (byte (take width l) 13) lexicons || eqb (byte (take width l) 13) 255)
+          ≡ cond b (leb (byte l 13) 1 && every (λ x. ltb x lexicons || not (goesTo l 2 x)) (below 64) && (mayStop l 2 || any (goesTo l 2) (below 64))) (ltb (byte l 13) lexicons || eqb (byte l 13) 255)
+      go true wide = many wide
+      go false wide = ap (λ (n : ℕ). ltb n lexicons || eqb n 255) (byte-cut (omega arith))
+
+module _ (form : ℕ) (may : ℕ → Bool) (lexicons : ℕ) where
+  pub entry-long : (l : List ℕ) → 12 < byte l 0 → isEntryOf l form may lexicons ≡ false
   unfolding isEntryOf
   entry-long l h = rw (lt-leb (formLength l) 12 h) refl
 
-  pub entry-cut : (l : List ℕ) (width : ℕ) → 14 ≤ width → isEntryOf (take width l) may lexicons ≡ isEntryOf l may lexicons
+  pub entry-cut : (l : List ℕ) (width : ℕ) → entryWidth form ≤ width → isEntryOf (take width l) form may lexicons ≡ isEntryOf l form may lexicons
   unfolding isEntryOf formOf
   entry-cut l width wide = go (decLe (byte l 0) 12)
     where
       same : byte (take width l) 0 ≡ byte l 0
-      same = getD-take width l 0 0 (omega arith)
+      same = getD-take width l 0 0 (omega (arith, width-least form))
 
-      go : Dec (byte l 0 ≤ 12) → isEntryOf (take width l) may lexicons ≡ isEntryOf l may lexicons
+      go : Dec (byte l 0 ≤ 12) → isEntryOf (take width l) form may lexicons ≡ isEntryOf l form may lexicons
       go (yes h) =
           let n = byte l 0 in
-          let form = form-cut l width n (omega arith) in
-          rw (same, form, take-take 13 width l (omega arith), getD-take width l 13 0 (omega arith)) refl
+          let letters = form-cut l width n (omega (arith, width-least form)) in
+          rw (same, letters, take-take 13 width l (omega (arith, width-least form)), ways-cut l width form lexicons wide) refl
       go (no h) = entry-long (take width l) (omega (arith, same)) ∙ sym (entry-long l (omega arith))
 
-  -- by the form length n and the continuation m that were read, of the bytes from `at` on
+  -- by the form length n that was read, of the bytes from `at` on
   module _ (image : List ℕ) (at : ℕ) where
-    pub entry-there : (n m : ℕ) → n ≡ byte image at → m ≡ byte image (at + 13) → n ≤ 12
-        → isEntryOf (drop at image) may lexicons
+    pub entry-there : (n : ℕ) → n ≡ byte image at → n ≤ 12
+        → isEntryOf (drop at image) form may lexicons
         ≡ (every may (drop (at + 1) (take (at + (1 + n)) image))
         && every isZero (drop (at + (1 + n)) (take (at + 13) image))
-        && (ltb m lexicons || eqb m 255))
+        && rightWays (drop at image) form lexicons)
     unfolding isEntryOf formOf
-    entry-there n m e q h =
+    entry-there n e h =
         let length-is : formLength (drop at image) ≡ n = length-there ∙ sym e in
-        rw (length-is, form-between n, rest-there n, getD-drop at image 13 0 ∙ sym q, le-leb n 12 h) refl
+        rw (length-is, form-between n, rest-there n, le-leb n 12 h) refl
       where
         form-between : (n : ℕ) → take n (drop 1 (drop at image)) ≡ drop (at + 1) (take (at + (1 + n)) image)
         form-between n = ap (take n) (drop-drop 1 at image) ∙ sym (drop-take (at + 1) n image) ∙ ap (λ (k : ℕ). drop (at + 1) (take k image)) (add-assoc at 1 n)
@@ -93,10 +144,10 @@ module _ (image : List ℕ) (h : Header) (laid : Laid image h) where
   -- those 14 bytes of an entry are bytes of the image
   pub entry-inside : (e j : ℕ) → e < h .entries → j < 14 → recordStart h 6 e + j < length image
   unfolding kinds
-  entry-inside e j l k = record-inside laid 6 e j l (omega arith)
+  entry-inside e j l k = record-inside laid 6 e j l (omega (arith, width-least (h .form)))
 
   -- and after an entry come the check of its block or other entries
-  pub entry-room : (e : ℕ) → e < h .entries → recordStart h 6 e + 16 < length image
+  pub entry-room : (e : ℕ) → e < h .entries → recordStart h 6 e + entryWidth (h .form) < length image
   unfolding kinds recordStart
   entry-room e l = omega (arith, laid .whole, record-block h (laid .limits) 6 e l, record-before h (laid .limits) 6 e l)
 
@@ -131,9 +182,9 @@ module _ (image : List ℕ) (h : Header) (laid : Laid image h) where
       ∙ getD-drop (formStart image e) image i 0
 
   -- test 8 by the header's counts
-  pub right-is : rightEntries image ≡ (eqb (firstEntry image (h .lexicons)) (h .entries) && every (λ e. isEntry (entry image e) (h .letters) (h .lexicons)) (below (h .entries)))
+  pub right-is : rightEntries image ≡ (eqb (firstEntry image (h .lexicons)) (h .entries) && every (λ e. isEntry (entry image e) (h .form) (h .letters) (h .lexicons)) (below (h .entries)))
   unfolding rightEntries firstEntry
-  right-is = ap (λ (g : Header). eqb (firstEntry image (g .lexicons)) (g .entries) && every (λ e. isEntry (entry image e) (g .letters) (g .lexicons)) (below (g .entries))) (sym (laid .header-is))
+  right-is = ap (λ (g : Header). eqb (firstEntry image (g .lexicons)) (g .entries) && every (λ e. isEntry (entry image e) (g .form) (g .letters) (g .lexicons)) (below (g .entries))) (sym (laid .header-is))
 
 -- sums of counts
 sum-more : (xs : List ℕ) (x : ℕ) → sum (xs ++ (x ∷ [])) ≡ sum xs + x
@@ -194,20 +245,23 @@ module _ (image : List ℕ) where
 
 -- an image that passed test 8 too
 module _ (image : List ℕ) (h : Header) (laid : Laid image h) (right : T (rightEntries image)) where
-  right-parts : T (eqb (firstEntry image (h .lexicons)) (h .entries)) × T (every (λ e. isEntry (entry image e) (h .letters) (h .lexicons)) (below (h .entries)))
+  right-parts : T (eqb (firstEntry image (h .lexicons)) (h .entries)) × T (every (λ e. isEntry (entry image e) (h .form) (h .letters) (h .lexicons)) (below (h .entries)))
   right-parts =
-      and-out (eqb (firstEntry image (h .lexicons)) (h .entries)) (every (λ e. isEntry (entry image e) (h .letters) (h .lexicons)) (below (h .entries)))
+      and-out (eqb (firstEntry image (h .lexicons)) (h .entries)) (every (λ e. isEntry (entry image e) (h .form) (h .letters) (h .lexicons)) (below (h .entries)))
       (subst T (right-is image h laid) right)
 
-  pub entry-right : (e : ℕ) → e < h .entries → T (isEntry (entry image e) (h .letters) (h .lexicons))
-  entry-right e l = every-at (λ e. isEntry (entry image e) (h .letters) (h .lexicons)) (below (h .entries)) (below-has (h .entries) e l) (right-parts .1)
+  pub entry-right : (e : ℕ) → e < h .entries → T (isEntry (entry image e) (h .form) (h .letters) (h .lexicons))
+  entry-right e l = every-at (λ e. isEntry (entry image e) (h .form) (h .letters) (h .lexicons)) (below (h .entries)) (below-has (h .entries) e l) (right-parts .1)
 
   module _ (e : ℕ) (within-entries : e < h .entries) where
-    entry-parts : T (leb (formLength (entry image e)) 12) × T (every (within 2 (h .letters)) (formOf (entry image e))) × T (every isZero (drop (1 + formLength (entry image e)) (take 13 (entry image e)))) × T (ltb (continuation (entry image e)) (h .lexicons) || eqb (continuation (entry image e)) 255)
+    entry-parts : T (leb (formLength (entry image e)) 12) × T (every (within 2 (h .letters)) (formOf (entry image e))) × T (every isZero (drop (1 + formLength (entry image e)) (take 13 (entry image e)))) × T (rightWays (entry image e) (h .form) (h .lexicons))
     unfolding isEntryOf isEntry
     entry-parts =
-        out4 (leb (formLength (entry image e)) 12) (every (within 2 (h .letters)) (formOf (entry image e))) (every isZero (drop (1 + formLength (entry image e)) (take 13 (entry image e)))) (ltb (continuation (entry image e)) (h .lexicons) || eqb (continuation (entry image e)) 255)
+        out4 (leb (formLength (entry image e)) 12) (every (within 2 (h .letters)) (formOf (entry image e))) (every isZero (drop (1 + formLength (entry image e)) (take 13 (entry image e)))) (rightWays (entry image e) (h .form) (h .lexicons))
         (entry-right e within-entries)
+
+    pub ways-right : T (rightWays (entry image e) (h .form) (h .lexicons))
+    ways-right = entry-parts .3
 
     pub form-short : formLength (entry image e) ≤ 12
     form-short = leb→le (formLength (entry image e)) 12 (entry-parts .0)
@@ -222,13 +276,6 @@ module _ (image : List ℕ) (h : Header) (laid : Laid image h) (right : T (right
     form-letter-at i l =
         let n : i < length (formOf (entry image e)) = omega (arith, form-size image h laid e within-entries form-short) in
         subst (λ (b : ℕ). (2 ≤ b) × (b ≤ h .letters)) (form-byte image h laid e i form-short l) (within-out 2 (h .letters) (byte (formOf (entry image e)) i) (every-getD (within 2 (h .letters)) (formOf (entry image e)) i 0 n form-letters))
-
-    pub continuation-right : (continuation (entry image e) < h .lexicons) ⊎ (continuation (entry image e) ≡ 255)
-    continuation-right = go (continuation (entry image e)) (ltb (continuation (entry image e)) (h .lexicons)) refl (entry-parts .3)
-      where
-        go : (c : ℕ) (b : Bool) → ltb c (h .lexicons) ≡ b → T (b || eqb c 255) → (c < h .lexicons) ⊎ (c ≡ 255)
-        go c true q t = inl (ltb→lt c (h .lexicons) (rw q tt))
-        go c false q t = inr (eqb→eq c 255 t)
 
   -- the lexicons tile the entries
   pub first-last : firstEntry image (h .lexicons) ≡ h .entries

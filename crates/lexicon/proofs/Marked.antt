@@ -9,7 +9,7 @@ use lib.Seq.{getD-drop}
 use lib.Dec.{T, leb, ltb, eqb}
 use Rattle.model.specs.Lists.{below, every, within, isZero}
 use Rattle.model.specs.Blocks.{Header}
-use Rattle.model.specs.Lexicon.{firstEntry, entry, formLength, formOf, continuation, isEntryOf, isEntry}
+use Rattle.model.specs.Lexicon.{firstEntry, entry, formLength, formOf, rightWays, isEntryOf, isEntry}
 use Rattle.model.specs.Refusals.{isLexical, rightPairs, rightEntries, rightForms}
 use borrow.Author.Tests.{not-false}
 use Rattle.model.proofs.Booleans.{and-out, and-assoc, of-true, within-out}
@@ -22,20 +22,20 @@ use Rattle.letters.proofs.MarkLaws.{letter-marked, lexical-marked}
 use Rattle.lexicon.specs.Entries.{MarkedLetters, isLexiconOf}
 use Rattle.lexicon.proofs.Laws.{right-is}
 
-module _ (bytes : List ℕ) (lexicons : ℕ) where
-  entry-same : (f g : ℕ → Bool) → ((a : ℕ) → f a ≡ g a) → isEntryOf bytes f lexicons ≡ isEntryOf bytes g lexicons
+module _ (bytes : List ℕ) (form lexicons : ℕ) where
+  entry-same : (f g : ℕ → Bool) → ((a : ℕ) → f a ≡ g a) → isEntryOf bytes form f lexicons ≡ isEntryOf bytes form g lexicons
   unfolding isEntryOf
   entry-same f g e =
-      ap (λ (b : Bool). leb (formLength bytes) 12 && b && every isZero (drop (1 + formLength bytes) (take 13 bytes)) && (ltb (continuation bytes) lexicons || eqb (continuation bytes) 255))
+      ap (λ (b : Bool). leb (formLength bytes) 12 && b && every isZero (drop (1 + formLength bytes) (take 13 bytes)) && rightWays bytes form lexicons)
       (every-same f g (formOf bytes) (λ a m. e a))
 
   -- the letters by two tests
-  entry-both : (f g : ℕ → Bool) → isEntryOf bytes (λ a. f a && g a) lexicons ≡ (isEntryOf bytes f lexicons && every g (formOf bytes))
+  entry-both : (f g : ℕ → Bool) → isEntryOf bytes form (λ a. f a && g a) lexicons ≡ (isEntryOf bytes form f lexicons && every g (formOf bytes))
   unfolding isEntryOf
   entry-both f g =
       let short = leb (formLength bytes) 12 in
       let zeros = every isZero (drop (1 + formLength bytes) (take 13 bytes)) in
-      let goes = ltb (continuation bytes) lexicons || eqb (continuation bytes) 255 in
+      let goes = rightWays bytes form lexicons in
       ap (λ (b : Bool). short && b && zeros && goes) (every-and f g (formOf bytes)) ∙ last short (every f (formOf bytes)) (every g (formOf bytes)) zeros goes
     where
       last : (a b c d e : Bool) → (a && (b && c) && d && e) ≡ (a && b && d && e && c)
@@ -58,14 +58,14 @@ module _ (image : List ℕ) (h : Header) (laid : Laid image h) where
   counts = eqb (firstEntry image (h .lexicons)) (h .entries)
 
   abbrev each : Bool
-  each = every (λ e. isEntry (entry image e) (h .letters) (h .lexicons)) (below (h .entries))
+  each = every (λ e. isEntry (entry image e) (h .form) (h .letters) (h .lexicons)) (below (h .entries))
 
   pub letters-lexicon : isLexiconOf (isMarked (marksOf (within 2 (h .letters)))) image h ≡ rightEntries image
   unfolding isEntry
   letters-lexicon =
       ap (λ (b : Bool). counts && b)
-      (every-same (λ e. isEntryOf (entry image e) (isMarked (marksOf (within 2 (h .letters)))) (h .lexicons)) (λ e. isEntry (entry image e) (h .letters) (h .lexicons)) (below (h .entries))
-      (λ e m. entry-same (entry image e) (h .lexicons) (isMarked (marksOf (within 2 (h .letters)))) (within 2 (h .letters)) (letter-marked (h .letters) (laid .limits .letters-most))))
+      (every-same (λ e. isEntryOf (entry image e) (h .form) (isMarked (marksOf (within 2 (h .letters)))) (h .lexicons)) (λ e. isEntry (entry image e) (h .form) (h .letters) (h .lexicons)) (below (h .entries))
+      (λ e m. entry-same (entry image e) (h .form) (h .lexicons) (isMarked (marksOf (within 2 (h .letters)))) (within 2 (h .letters)) (letter-marked (h .letters) (laid .limits .letters-most))))
       ∙ sym (right-is image h laid)
 
   -- test 14 by the header's count
@@ -95,12 +95,12 @@ module _ (image : List ℕ) (h : Header) (laid : Laid image h) where
   unfolding isEntry
   spelled-lexicon right =
       ap (λ (b : Bool). counts && b)
-      (every-same (λ e. isEntryOf (entry image e) (isMarked (marksOf (isFormLetter image))) (h .lexicons)) (λ e. isEntry (entry image e) (h .letters) (h .lexicons) && every (isLexical image) (formOf (entry image e))) (below (h .entries)) (λ e m. looked e)
-      ∙ every-and (λ e. isEntry (entry image e) (h .letters) (h .lexicons)) (λ e. every (isLexical image) (formOf (entry image e))) (below (h .entries)))
+      (every-same (λ e. isEntryOf (entry image e) (h .form) (isMarked (marksOf (isFormLetter image))) (h .lexicons)) (λ e. isEntry (entry image e) (h .form) (h .letters) (h .lexicons) && every (isLexical image) (formOf (entry image e))) (below (h .entries)) (λ e m. looked e)
+      ∙ every-and (λ e. isEntry (entry image e) (h .form) (h .letters) (h .lexicons)) (λ e. every (isLexical image) (formOf (entry image e))) (below (h .entries)))
       ∙ and-assoc counts each (every (λ e. every (isLexical image) (formOf (entry image e))) (below (h .entries)))
       ∙ ap₂ (λ (a b : Bool). a && b) (sym (right-is image h laid)) (sym forms-is)
     where
-      looked : (e : ℕ) → isEntryOf (entry image e) (isMarked (marksOf (isFormLetter image))) (h .lexicons) ≡ (isEntry (entry image e) (h .letters) (h .lexicons) && every (isLexical image) (formOf (entry image e)))
+      looked : (e : ℕ) → isEntryOf (entry image e) (h .form) (isMarked (marksOf (isFormLetter image))) (h .lexicons) ≡ (isEntry (entry image e) (h .form) (h .letters) (h .lexicons) && every (isLexical image) (formOf (entry image e)))
       looked e =
-          entry-same (entry image e) (h .lexicons) (isMarked (marksOf (isFormLetter image))) (λ a. within 2 (h .letters) a && isLexical image a) (lexical-is right)
-          ∙ entry-both (entry image e) (h .lexicons) (within 2 (h .letters)) (isLexical image)
+          entry-same (entry image e) (h .form) (h .lexicons) (isMarked (marksOf (isFormLetter image))) (λ a. within 2 (h .letters) a && isLexical image a) (lexical-is right)
+          ∙ entry-both (entry image e) (h .form) (h .lexicons) (within 2 (h .letters)) (isLexical image)

@@ -18,7 +18,7 @@ pub record MarkedLetters (marked : List ℕ) (letters : ℕ) (look : Bool) : Typ
 module _ (may : ℕ → Bool) (image : List ℕ) (h : Header) where
   -- "an entry breaks its layout": none does
   abbrev pub areEntriesOf : Bool
-  areEntriesOf = every (λ e. isEntryOf (entry image e) may (h .lexicons)) (below (h .entries))
+  areEntriesOf = every (λ e. isEntryOf (entry image e) (h .form) may (h .lexicons)) (below (h .entries))
 
   -- "lexicon counts don't add to E, or an entry breaks its layout": neither holds
   abbrev pub isLexiconOf : Bool

@@ -1,5 +1,6 @@
 // The lexicons of an image: how many entries each has, where an entry stands, and tests 8 and 14 of the image check.
 mod bounds;
+pub mod ways;
 
 use image::Header;
 use image::kinds;
@@ -8,9 +9,9 @@ ghost use mathlib.Core.Path.{_≡_};
 ghost use mathlib.Core.Bool.{_&&_, _||_, not};
 ghost use Prim.Native.Nat.{_+_, _*_, _<_, _≤_};
 ghost use lib.ListN.{length, take, drop};
-ghost use lib.Dec.{T, ltb, eqb};
+ghost use lib.Dec.{T};
 ghost use Rattle.model.specs.Lists.{every};
-ghost use Rattle.model.specs.Blocks.{recordStart};
+ghost use Rattle.model.specs.Blocks.{entryWidth, recordStart};
 ghost use Rattle.model.specs.Lexicon.{entryCount, firstEntry, entry, formLength, continuation, isEntryOf};
 ghost use Rattle.model.specs.Refusals.{rightPairs, rightEntries, rightForms};
 ghost use Rattle.image.specs.Header.{headerOf};
@@ -73,16 +74,6 @@ pub fn continuation_of(image: &[u8], h: Header, e: usize) -> usize
     image::byte_at(image, entry_start(h, e) + 13)
 }
 
-// Whether a continuation is a lexicon or 255, the end of a path.
-fn is_continuation(continuation: usize, lexicons: usize) -> bool
-    ensures { λ r. ⌜ r ≡ (ltb continuation lexicons || eqb continuation 255) ⌝ }
-{
-    if continuation < lexicons {
-        return true;
-    }
-    continuation == 255
-}
-
 // Whether the letters of a form are all marked, or whether it is known that they are: `look` says that it is not.
 fn is_form(image: &[u8], from: usize, end: usize, marked: &[u8; 256], look: bool) -> bool
     requires { ⌜ (from ≤ end) × (end ≤ length (now image)) ⌝ }
@@ -105,11 +96,11 @@ fn is_entry(
     marked: &[u8; 256],
     look: bool,
 ) -> bool
-    requires { ⌜ at + 16 < length (now image) ⌝ }
+    requires { ⌜ (at + entryWidth (h .form) < length (now image)) × (h .lexicons ≤ 64) ⌝ }
     requires { ⌜ Bounds 2 0 (now low) ⌝ }
     requires { ⌜ Bounds (h .letters) 255 (now high) ⌝ }
     requires { ⌜ MarkedLetters (now marked) (h .letters) look ⌝ }
-    ensures { λ r. ⌜ r ≡ isEntryOf (drop at (now (image .entry))) (isMarked (now (marked .entry))) (h .lexicons) ⌝ }
+    ensures { λ r. ⌜ r ≡ isEntryOf (drop at (now (image .entry))) (h .form) (isMarked (now (marked .entry))) (h .lexicons) ⌝ }
 {
     let form_length = image::byte_at(image, at);
     if form_length > 12 {
@@ -121,7 +112,7 @@ fn is_entry(
     if !is_form(image, at + 1, at + (1 + form_length), marked, look) {
         return false;
     }
-    is_continuation(image::byte_at(image, at + 13), h.lexicons)
+    ways::are_right(image, at, h)
 }
 
 // Whether every entry is laid out as one whose letters are all marked.

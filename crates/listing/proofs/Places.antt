@@ -1,25 +1,26 @@
 -- What opening an entry, and ending the path, do to a place, as the model's tree has it.
 use Prim.Native.Nat.{ℕ, suc, _+_, _-_, _<_, _≤_}
 use native.Mathlib.Omega.{arith}
-use mathlib.Core.Bool.{true, false}
+use mathlib.Core.Bool.{Bool, true, false}
 use mathlib.Core.Path.{_≡_, refl, sym, ap, ap₂, _∙_, subst}
 use mathlib.Core.Logic.{inl, inr}
 use mathlib.Core.List.{List}
 use lib.ListN.{take, drop}
-use lib.Dec.{T, ltb, eqb, ltb→lt}
+use lib.Dec.{T, eqb}
 use borrow.Author.Tests.{ne-eqb, lt-ltb, le-ltb}
 use Rattle.model.specs.Lists.{every, within}
 use Rattle.model.specs.Blocks.{Header, header, recordStart}
-use Rattle.model.specs.Lexicon.{entry, formLength, formOf, continuation}
+use Rattle.model.specs.Lexicon.{entry, formLength, formOf, mayStop, goesTo}
 use Rattle.model.specs.GrammarOf.{grammarOf}
 use Rattle.model.specs.Query.{Query}
 use Rattle.model.specs.Refusals.{rightEntries}
 use Rattle.model.specs.Beside.{formStart}
 use Rattle.model.specs.Tree.{goAt}
-use Rattle.model.proofs.Booleans.{and-out, of-true, false-of}
-use Rattle.model.proofs.Endings.{image-one-way}
+use Rattle.model.proofs.Booleans.{of-true}
 use Rattle.image.specs.Accepted.{Accepted}
+use Rattle.digits.specs.Ways.{Names}
 use Rattle.lexicon.proofs.Laws as entries
+use Rattle.listing.proofs.Ranges.{some-none, entry-ways}
 use Rattle.listing.specs.declared.place.Place.{Place}
 use Rattle.listing.specs.Levels.{levelOf}
 use Rattle.listing.specs.Places.{root, ended, waysAfter, stopsAfter, restOf, withLast, nodeOf, Standing, OnlyStops}
@@ -102,23 +103,16 @@ stopped-node place image q n p = refl
 pub stopped-stands : (place : Place) (image : List ℕ) → Standing image place → Standing image (withLast place ended)
 stopped-stands place image s = record { in-order = s .in-order; in-image = s .in-image; letters-right = s .letters-right; last-right = inr (inl refl); nulls-in = s .nulls-in; surface-in = s .surface-in; states-live = s .states-live }
 
--- whether it may end, by the byte of the last entry
+-- whether it may end, by the ways on of the last entry
 module _ (image : List ℕ) (last : ℕ) where
   pub stops-none : ended ≤ last → false ≡ stopsAfter image last
   unfolding stopsAfter
   stops-none h = rw (le-ltb last ended h) refl
 
-  pub stops-entry : last < ended → (byte : ℕ) → byte ≡ continuation (entry image last) → eqb byte 255 ≡ stopsAfter image last
+  pub stops-entry : last < ended → (stop : Bool) → stop ≡ mayStop (entry image last) (header image .form) → stop ≡ stopsAfter image last
   unfolding stopsAfter grammarOf
-  stops-entry h byte e = rw (lt-ltb last ended h, e) refl
+  stops-entry h stop e = rw (lt-ltb last ended h) e
 
-  -- an entry has one way on
-  pub only-stops : stopsAfter image last ≡ true → OnlyStops image last
-  unfolding stopsAfter waysAfter
-  only-stops t =
-      let u = and-out (ltb last ended) (grammarOf image .ends last) (of-true (stopsAfter image last) t) in
-      let h = ltb→lt last ended (u .0) in
-      record {
-        stops = t;
-        none-next = λ e. rw (ne-eqb last root (λ f. omega arith), ne-eqb last ended (λ f. omega arith)) (false-of (grammarOf image .follows last e) (image-one-way image last e (u .1)));
-      }
+  -- it ends, and names no lexicon
+  pub only-stops : last < ended → header image .lexicons ≤ 64 → Names (goesTo (entry image last) (header image .form)) 0 → stopsAfter image last ≡ true → OnlyStops image last
+  only-stops h few names t = record { stops = t; none-next = λ e. entry-ways image last 0 h few names e ∙ some-none image (header image .lexicons) e }

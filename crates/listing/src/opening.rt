@@ -1,6 +1,6 @@
-// Which entries may open at a place: those of the lexicon that comes next, and where a path is asked for the one that it names.
+// Which entries may open at a place: those of the lexicons that come next, and where a path is asked for the one that it names.
 ghost use mathlib.Core.Path.{_≡_};
-ghost use mathlib.Core.Bool.{Bool};
+ghost use mathlib.Core.Bool.{Bool, false};
 ghost use mathlib.Core.Logic.{_⊎_};
 ghost use Prim.Native.Nat.{ℕ, _+_, _*_, _/_, _<_, _≤_};
 ghost use Rattle.model.specs.Blocks.{header};
@@ -8,9 +8,10 @@ ghost use Rattle.model.specs.Lexicon.{firstEntry, entryCount};
 ghost use Rattle.image.specs.Header.{headerOf};
 ghost use Rattle.image.specs.Accepted.{Accepted};
 ghost use Rattle.image.specs.Index.{indexOf};
+ghost use Rattle.rules.specs.Paths.{inSome};
 ghost use Rattle.listing.specs.Asked.{pathPattern};
-ghost use Rattle.listing.specs.Places.{root};
-ghost use Rattle.listing.specs.Opening.{mayEnter, mayEnterIn, Ranged, WaysOf, NextOf};
+ghost use Rattle.listing.specs.Places.{root, waysAfter};
+ghost use Rattle.listing.specs.Opening.{mayEnter, mayEnterSome, Known, SetOf, WaysOf, NextWays};
 use crate::asked::PathAsked;
 use crate::place::ROOT;
 use image::Header;
@@ -35,38 +36,141 @@ pub fn lexicon_range(image: &[u8], index: &[u8], h: Header, x: usize) -> Range
     }
 }
 
-// Those of lexicon x that may open with n entries read.
-fn open_range(
+// Entries that may open: those from low up to high, and then those of the lexicons of a set. What comes before low has been passed.
+pub struct Ways {
+    pub low: usize,
+    pub high: usize,
+    pub rest: u64,
+}
+
+// The next of them, and those from it on.
+pub struct Next {
+    pub entry: usize,
+    pub ways: Ways,
+}
+
+fn later(m: usize, n: usize) -> usize
+    ensures { λ r. ⌜ ((m ≤ r) × (n ≤ r)) × ((r ≡ m) ⊎ (r ≡ n)) ⌝ }
+{
+    if m < n {
+        return n;
+    }
+    m
+}
+
+// The first entry of a set's lexicons from one on: lexicon after lexicon, from the lowest up, as entries are numbered.
+fn next_of_set(image: &[u8], index: &[u8], h: Header, bits: u64, from: usize) -> Next
+    requires { ⌜ Accepted (now image) (headerOf h) ⌝ }
+    requires { ⌜ now index ≡ indexOf (now image) ⌝ }
+    requires { ⌜ Known bits (header (now image) .lexicons) × (from ≤ h .entries) ⌝ }
+    ensures { λ r. ⌜ NextWays (now (image .entry)) (inSome (now (image .entry)) (header (now (image .entry)) .lexicons) bits) from r ⌝ }
+{
+    let entries = h.entries;
+    let mut rest = bits;
+    while rest != 0 {
+        let x = digits::lowest(rest);
+        rest = digits::without(rest, x);
+        let range = lexicon_range(image, index, h, x);
+        let first = later(from, range.low);
+        if first < range.high {
+            return Next {
+                entry: first,
+                ways: Ways {
+                    low: first,
+                    high: range.high,
+                    rest: rest,
+                },
+            };
+        }
+    }
+    Next {
+        entry: entries,
+        ways: Ways {
+            low: entries,
+            high: entries,
+            rest: 0,
+        },
+    }
+}
+
+// The next entry that may open, from one on that is not before the first of them; the number of entries where there is none.
+pub fn next_entry(image: &[u8], index: &[u8], h: Header, ways: Ways, from: usize) -> Next
+    requires { ⌜ Accepted (now image) (headerOf h) ⌝ }
+    requires { ⌜ now index ≡ indexOf (now image) ⌝ }
+    requires { ⌜ Known (ways .rest) (header (now image) .lexicons) ⌝ }
+    requires { ⌜ (ways .low ≤ from) × (from ≤ h .entries) ⌝ }
+    ensures { λ r. ⌜ ((may : ℕ → Bool) → WaysOf (now (image .entry)) may ways → NextWays (now (image .entry)) may from r) ⌝ }
+{
+    let high = ways.high;
+    if from < high {
+        return Next {
+            entry: from,
+            ways: Ways {
+                low: from,
+                high: high,
+                rest: ways.rest,
+            },
+        };
+    }
+    next_of_set(image, index, h, ways.rest, from)
+}
+
+// The lexicons that come next after entry `last`, or first, as a set.
+pub fn set_on(image: &[u8], h: Header, last: usize) -> u64
+    requires { ⌜ Accepted (now image) (headerOf h) ⌝ }
+    requires { ⌜ (last ≡ root) ⊎ (last < h .entries) ⌝ }
+    ensures { λ r. ⌜ SetOf (now (image .entry)) (waysAfter (now (image .entry)) last) r ⌝ }
+{
+    if last == ROOT {
+        return 1;
+    }
+    let ways = lexicon::ways::ways_of(image, h, last);
+    ways.bits
+}
+
+// Those of a set's lexicons that may open with n entries read.
+fn open_ways(
     image: &[u8],
     index: &[u8],
     h: Header,
     asked: PathAsked,
     path: &[u8],
-    x: usize,
+    bits: u64,
     n: usize,
-) -> Range
+) -> Ways
     requires { ⌜ Accepted (now image) (headerOf h) ⌝ }
     requires { ⌜ now index ≡ indexOf (now image) ⌝ }
-    requires { ⌜ x < h .lexicons ⌝ }
-    ensures { λ r. ⌜ Ranged (mayEnterIn (now (image .entry)) (pathPattern asked (now (path .entry))) x n) (header (now (image .entry)) .entries) (r .low) (r .high) ⌝ }
+    requires { ⌜ Known bits (header (now image) .lexicons) ⌝ }
+    ensures ways { λ r. ⌜ WaysOf (now (image .entry)) (mayEnterSome (now (image .entry)) (pathPattern asked (now (path .entry))) bits n) r ⌝ }
+    ensures before { λ r. ⌜ ((e : ℕ) → e < r .low → mayEnterSome (now (image .entry)) (pathPattern asked (now (path .entry))) bits n e ≡ false) ⌝ }
 {
-    let all = lexicon_range(image, index, h, x);
     match asked {
-        PathAsked::Anything => all,
+        PathAsked::Anything => Ways {
+            low: 0,
+            high: 0,
+            rest: bits,
+        },
         PathAsked::Exactly => {
+            let none = Ways {
+                low: 0,
+                high: 0,
+                rest: 0,
+            };
             if path.len() / 2 <= n {
-                return Range { low: 0, high: 0 };
+                return none;
             }
             let e = image::number_at(path, 2 * n);
-            if e < all.low {
-                return Range { low: 0, high: 0 };
+            if h.entries <= e {
+                return none;
             }
-            if all.high <= e {
-                return Range { low: 0, high: 0 };
+            let first = next_of_set(image, index, h, bits, e);
+            if first.entry != e {
+                return none;
             }
-            Range {
+            Ways {
                 low: e,
                 high: e + 1,
+                rest: 0,
             }
         }
     }
@@ -81,30 +185,13 @@ pub fn ways_on(
     path: &[u8],
     last: usize,
     n: usize,
-) -> Range
+) -> Ways
     requires { ⌜ Accepted (now image) (headerOf h) ⌝ }
     requires { ⌜ now index ≡ indexOf (now image) ⌝ }
     requires { ⌜ (last ≡ root) ⊎ (last < h .entries) ⌝ }
-    ensures { λ r. ⌜ WaysOf (mayEnter (now (image .entry)) (pathPattern asked (now (path .entry))) last n) (header (now (image .entry)) .entries) r ⌝ }
+    ensures ways { λ r. ⌜ WaysOf (now (image .entry)) (mayEnter (now (image .entry)) (pathPattern asked (now (path .entry))) last n) r ⌝ }
+    ensures before { λ r. ⌜ ((e : ℕ) → e < r .low → mayEnter (now (image .entry)) (pathPattern asked (now (path .entry))) last n e ≡ false) ⌝ }
 {
-    if last == ROOT {
-        return open_range(image, index, h, asked, path, 0, n);
-    }
-    let x = lexicon::continuation_of(image, h, last);
-    if x == 255 {
-        return Range { low: 0, high: 0 };
-    }
-    open_range(image, index, h, asked, path, x, n)
-}
-
-// The next entry that may open, from one on that is not before the first of them; the number of entries where there is none.
-pub fn next_entry(h: Header, ways: Range, from: usize) -> usize
-    requires { ⌜ (ways .low ≤ from) × (from ≤ h .entries) ⌝ }
-    ensures { λ r. ⌜ ((may : ℕ → Bool) → WaysOf may (h .entries) ways → NextOf may (h .entries) from r) ⌝ }
-{
-    let high = ways.high;
-    if from < high {
-        return from;
-    }
-    h.entries
+    let bits = set_on(image, h, last);
+    open_ways(image, index, h, asked, path, bits, n)
 }

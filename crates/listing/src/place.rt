@@ -59,17 +59,25 @@ pub fn may_stop(image: &[u8], h: Header, place: Place) -> bool
     if ENDED <= last {
         return false;
     }
-    lexicon::continuation_of(image, h, last) == 255
+    let ways = lexicon::ways::ways_of(image, h, last);
+    ways.stop
 }
 
-// True only where the path can only end here: then it is ended without looking for entries. An entry of form 1 has one way on. Where it is false, time
-// is lost and nothing else.
+// True only where the path can only end here: then it is ended without looking for entries. Where it is false, time is lost and nothing else.
 pub fn only_stops(image: &[u8], h: Header, place: Place) -> bool
     requires { ⌜ Accepted (now image) (headerOf h) ⌝ }
     requires { ⌜ Standing (now image) place ⌝ }
     ensures { λ r. ⌜ (r ≡ true → OnlyStops (now (image .entry)) (place .last)) ⌝ }
 {
-    may_stop(image, h, place)
+    let last = place.last;
+    if ENDED <= last {
+        return false;
+    }
+    let ways = lexicon::ways::ways_of(image, h, last);
+    if ways.bits != 0 {
+        return false;
+    }
+    ways.stop
 }
 
 // The path ends.

@@ -1,22 +1,25 @@
 -- Where no entry both ends a path and goes on, the order of the step lists with endings is that of document 01's step lists. So it is for every image of form 1.
 use Prim.Native.Nat.{ℕ, zero, suc, _+_}
-use mathlib.Core.Bool.{Bool, true, false, not}
+use mathlib.Core.Bool.{Bool, true, false, _&&_, not}
 use mathlib.Core.Path.{_≡_, refl, sym, ap, _∙_, subst}
 use mathlib.Core.Logic.{inl, inr}
 use mathlib.Core.List.{List, [], _∷_, _++_, map, List·Memᴰ, List·Memᴰ·head, List·Memᴰ·tail, Memᴰ·map}
 use lib.ListN.{length, length-append}
 use lib.Dec.{T, ltb, eqb}
+use borrow.Author.Tests.{eqb-true}
 use native.Mathlib.Omega.{arith}
-use Rattle.model.specs.Lists.{every, joined, sameList}
+use Rattle.model.specs.Lists.{below, every, any, joined, sameList, byte}
+use Rattle.model.specs.Blocks.{header}
 use Rattle.model.specs.Grammar.{Grammar, OneWay}
 use Rattle.model.specs.GrammarOf.{grammarOf}
-use Rattle.model.specs.Readings.{Reading, withoutNulls, spelled, afterLetter, upTo, beyond, endingList, stepList, endingSteps, steps, Before, Ascending, isReading, isPath, isLinked, pairingLength, fewNulls, isLine, passes}
-use Rattle.model.specs.Lexicon.{inLexicon, entry, continuation, linked, pathLength}
+use Rattle.model.specs.Readings.{Reading, stepsBy, withoutNulls, spelled, afterLetter, upTo, beyond, endingList, stepList, endingSteps, steps, Before, Ascending, isReading, isPath, isLinked, pairingLength, fewNulls, isLine, passes}
+use Rattle.model.specs.Lexicon.{inLexicon, entry, mayStop, goesTo, linked, pathLength}
 use Rattle.model.specs.Query.{Query}
 use Rattle.model.specs.Tree.{readings}
-use Rattle.model.proofs.Listing.{IsListing, listing}
-use Rattle.model.proofs.Booleans.{and-out, out3, out8, same-out}
-use Rattle.model.proofs.Lists.{map-from}
+use Rattle.model.specs.Calls.{stepsOf}
+use Rattle.model.proofs.Listing.{ListsBy, IsListing, listing}
+use Rattle.model.proofs.Booleans.{and-out, not-both, out3, out8, same-out}
+use Rattle.model.proofs.Lists.{map-from, any-from}
 
 letters-left : (a k t : ℕ) (xs : List ℕ) → length (withoutNulls (a ∷ xs)) ≡ suc k + t → length (withoutNulls xs) ≡ afterLetter a (suc k) + t
 letters-left zero k t xs e = e
@@ -115,16 +118,25 @@ module _ (g : Grammar) where
       ends-last w (g .follows x) (g .ends x) es e f fs (u .2) s
 
 -- an entry of an image of form 1 has one way on
-pub image-one-way : (image : List ℕ) → OneWay (grammarOf image)
+no-way : (r : List ℕ) (form x : ℕ) → form ≡ 1 → T (mayStop r form) → T (goesTo r form x) → ⊥
+unfolding goesTo
+no-way r form x e s t = let u = and-out (eqb (byte r 13) x) (not (mayStop r 1)) (rw e at t) in not-both (mayStop r 1) (rw e at s) (u .1)
+
+pub image-one-way : (image : List ℕ) → header image .form ≡ 1 → OneWay (grammarOf image)
 unfolding grammarOf
-image-one-way image e f s t = let u = and-out (not (eqb (continuation (entry image e)) 255)) (inLexicon image (continuation (entry image e)) f) t in never (eqb (continuation (entry image e)) 255) s (u .0)
+image-one-way image one e f s t =
+    let u = any-from (λ x. goesTo (entry image e) (header image .form) x && inLexicon image x f) (below (header image .lexicons)) t in
+    let v = and-out (goesTo (entry image e) (header image .form) (u .0)) (inLexicon image (u .0) f) (u .2) in
+    no-way (entry image e) (header image .form) (u .0) one s (v .0)
+
+pub image-ends-last : (image es : List ℕ) (e f : ℕ) (fs : List ℕ) → header image .form ≡ 1 → T (isLinked (grammarOf image) (es ++ (e ∷ f ∷ fs))) → T (grammarOf image .ends e) → ⊥
+image-ends-last image es e f fs one = ends-last (grammarOf image) (image-one-way image one) (grammarOf image .begins) false es e f fs
+
+-- "the list of all readings follows the image's form"
+pub image-listing : (image : List ℕ) (q : Query) → ListsBy (stepsOf image) (grammarOf image) q (readings (grammarOf image) q)
+unfolding stepsOf stepsBy
+image-listing image q = go (eqb (header image .form) 1) refl
   where
-    never : (b : Bool) → T b → T (not b) → ⊥
-    never true s t = t
-    never false s t = s
-
-pub image-ends-last : (image es : List ℕ) (e f : ℕ) (fs : List ℕ) → T (isLinked (grammarOf image) (es ++ (e ∷ f ∷ fs))) → T (grammarOf image .ends e) → ⊥
-image-ends-last image es e f fs = ends-last (grammarOf image) (image-one-way image) (grammarOf image .begins) false es e f fs
-
-pub image-listing : (image : List ℕ) (q : Query) → IsListing (grammarOf image) q (readings (grammarOf image) q)
-image-listing image q = plain-listing (grammarOf image) (image-one-way image) q
+    go : (b : Bool) → eqb (header image .form) 1 ≡ b → ListsBy (stepsBy b (grammarOf image)) (grammarOf image) q (readings (grammarOf image) q)
+    go true e = plain-listing (grammarOf image) (image-one-way image (eqb-true (header image .form) 1 e)) q
+    go false e = listing (grammarOf image) q

@@ -83,6 +83,10 @@ filling width n = (n + (fitting width - 1)) / fitting width
 abbrev pub filled : ℕ → ℕ → ℕ → Kind
 filled kind width n = row kind (filling width n) width n
 
+-- how wide an entry is: document 01's 16 bytes, and document 02, (e): "Form 2 of the image has entries of 24 bytes, 21 to a block"
+abbrev pub entryWidth : ℕ → ℕ
+entryWidth form = cond (eqb form 2) 24 16
+
 -- the rows "in this order", which is that of the blocks; the header decides, so that a form or a count can. Of the sets: "in one block of kind 7 directly after
 -- the pairs. Each record is 16 bytes .. The block is there exactly when a sixth count .. isn't 0"
 unfoldable pub kinds : Header → List Kind
@@ -93,7 +97,7 @@ kinds h =
     ∷ filled 7 16 (h .sets)
     ∷ row 4 (h .rules) 506 (h .rules)
     ∷ row 5 1 2 (h .lexicons)
-    ∷ filled 6 16 (h .entries)
+    ∷ filled 6 (entryWidth (h .form)) (h .entries)
     ∷ []
 
 -- the row of a kind; nothing, where there is none

@@ -3,9 +3,10 @@ use Prim.Native.Nat.{ℕ}
 use mathlib.Core.Bool.{cond}
 use mathlib.Core.List.{List, []}
 use lib.ListN.{take}
-use Rattle.model.specs.Blocks.{sealedImage}
+use lib.Dec.{eqb}
+use Rattle.model.specs.Blocks.{header, sealedImage}
 use Rattle.model.specs.GrammarOf.{grammarOf}
-use Rattle.model.specs.Readings.{Reading}
+use Rattle.model.specs.Readings.{Reading, stepsBy}
 use Rattle.model.specs.Query.{Request, queryOf}
 use Rattle.model.specs.Tree.{readings}
 use Rattle.model.specs.Refusals.{Verdict, firstFailing, rightLength, requestTests}
@@ -31,6 +32,10 @@ replyAfter (Verdict.refused k) rows l = Reply.refused k
 abbrev pub rowsAfter : Verdict → ℕ → List Reading → List Reading
 rowsAfter Verdict.accepted rows l = take rows l
 rowsAfter (Verdict.refused k) rows l = []
+
+-- "the list of all readings follows the image's form": of form 1 document 01's step lists, of another those with endings
+unfoldable pub stepsOf : List ℕ → Reading → List ℕ
+stepsOf image = stepsBy (eqb (header image .form) 1) (grammarOf image)
 
 module _ (image : List ℕ) (request : Request) where
   unfoldable pub requestVerdict : Verdict

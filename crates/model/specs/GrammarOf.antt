@@ -1,16 +1,16 @@
--- The grammar that an image of form 1 stands for.
+-- The grammar that an image stands for, by its form.
 use Prim.Native.Nat.{ℕ}
-use mathlib.Core.Bool.{_&&_, not}
+use mathlib.Core.Bool.{_&&_}
 use mathlib.Core.List.{List, [], map}
 use lib.ListN.{getD}
-use lib.Dec.{eqb}
-use Rattle.model.specs.Lists.{below}
+use Rattle.model.specs.Lists.{below, any}
 use Rattle.model.specs.Blocks.{header}
 use Rattle.model.specs.RuleTables.{pairs, boundaryPair, table, columnsOf, nextState, isFinal}
-use Rattle.model.specs.Lexicon.{inLexicon, entry, formOf, continuation}
+use Rattle.model.specs.Lexicon.{inLexicon, entry, formOf, mayStop, goesTo}
 use Rattle.model.specs.Grammar.{Grammar}
 
--- "the first from lexicon 0, each next from its predecessor's continuation, the last and only the last with 255"
+-- "the first from lexicon 0, each next from its predecessor's continuation, the last and only the last with 255"; of form 2: each next from one of the lexicons
+-- that its predecessor names, and "An entry may both end and go on."
 unfoldable pub grammarOf : List ℕ → Grammar
 grammarOf image =
     let ps = pairs image in
@@ -27,6 +27,6 @@ grammarOf image =
       entries = header image .entries;
       form = λ e. formOf (entry image e);
       begins = inLexicon image 0;
-      follows = λ e f. not (eqb (continuation (entry image e)) 255) && inLexicon image (continuation (entry image e)) f;
-      ends = λ e. eqb (continuation (entry image e)) 255;
+      follows = λ e f. any (λ x. goesTo (entry image e) (header image .form) x && inLexicon image x f) (below (header image .lexicons));
+      ends = λ e. mayStop (entry image e) (header image .form);
     }

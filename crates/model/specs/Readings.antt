@@ -1,6 +1,6 @@
 -- Document 01, "Readings and step order": readings of a grammar, their step lists, and the order of step lists.
 use Prim.Native.Nat.{ℕ, zero, suc, _<_}
-use mathlib.Core.Bool.{Bool, false, _&&_}
+use mathlib.Core.Bool.{Bool, true, false, _&&_}
 use mathlib.Core.Path.{_≡_}
 use mathlib.Core.Logic.{_⊎_}
 use mathlib.Core.List.{List, [], _∷_, _++_, map, List·Memᴰ}
@@ -118,6 +118,11 @@ module _ (g : Grammar) where
 
   abbrev pub endingSteps : Reading → List ℕ
   endingSteps r = endingList (r .path) (r .pairing)
+
+-- document 01's step lists, or those with endings
+unfoldable pub stepsBy : Bool → Grammar → Reading → List ℕ
+stepsBy true g = steps g
+stepsBy false g = endingSteps g
 
 -- "Readings are ordered by the first differing number; a beginning of another comes first."
 abbrev pub Before : List ℕ → List ℕ → Type 0

@@ -40,7 +40,7 @@ module _ (image : List ℕ) where
   unfoldable pub rightLayout : Bool
   rightLayout =
       let h = header image in
-      eqb (h .form) 1
+      within 1 2 (h .form)
       && withinLimits h
       && eqb (blockCount image) (blockTotal h)
       && every (λ k. laidOut h k (block image k)) (below (blockCount image))
@@ -68,7 +68,7 @@ module _ (image : List ℕ) where
   rightEntries =
       let h = header image in
       eqb (sum (map (entryCount image) (below (h .lexicons)))) (h .entries)
-      && every (λ e. isEntry (entry image e) (h .letters) (h .lexicons)) (below (h .entries))
+      && every (λ e. isEntry (entry image e) (h .form) (h .letters) (h .lexicons)) (below (h .entries))
 
   -- a letter that some pair has on its lexical side
   unfoldable pub isLexical : ℕ → Bool

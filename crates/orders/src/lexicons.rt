@@ -21,57 +21,53 @@ fn append(row: &mut [u8], x: usize, lexicons: usize)
     }
 }
 
-// 1 at each lexicon that some entry goes on to.
-fn followed(image: &[u8], h: Header) -> [u8; 64]
+// The lexicons that some entry goes on to, as a set.
+fn followed(image: &[u8], h: Header) -> u64
     requires { ⌜ Accepted (now image) (headerOf h) ⌝ }
 {
     let entries = h.entries;
-    let mut marks = [0u8; 64];
+    let mut all: u64 = 0;
     let mut e: usize = 0;
     while e < entries {
-        let c = lexicon::continuation_of(image, h, e);
-        if c < 64 {
-            marks[c] = 1;
-        }
+        let ways = lexicon::ways::ways_of(image, h, e);
+        all = all | ways.bits;
         e += 1;
     }
-    marks
+    all
 }
 
-// Whether all continuations of entries low up to high are taken.
-fn is_ready(image: &[u8], h: Header, low: usize, high: usize, taken: &[u8; 64]) -> bool
+// Whether all lexicons that entries low up to high go on to are taken.
+fn is_ready(image: &[u8], h: Header, low: usize, high: usize, taken: u64) -> bool
     requires { ⌜ Accepted (now image) (headerOf h) ⌝ }
     requires { ⌜ high ≤ h .entries ⌝ }
 {
     let mut e = low;
     while e < high {
-        let c = lexicon::continuation_of(image, h, e);
-        if c < 64 {
-            if taken[c] == 0 {
-                return false;
-            }
+        let ways = lexicon::ways::ways_of(image, h, e);
+        let bits = ways.bits;
+        if (bits & taken) != bits {
+            return false;
         }
         e += 1;
     }
     true
 }
 
+fn has(set: u64, x: usize) -> bool
+    requires { ⌜ x < 64 ⌝ }
+{
+    (set >> x) % 2 == 1
+}
+
 // Whether lexicon x is to be taken now: at the last round without a look at its continuations.
-fn is_due(
-    image: &[u8],
-    h: Header,
-    x: usize,
-    last: bool,
-    wanted: &[u8; 64],
-    taken: &[u8; 64],
-) -> bool
+fn is_due(image: &[u8], h: Header, x: usize, last: bool, wanted: u64, taken: u64) -> bool
     requires { ⌜ Accepted (now image) (headerOf h) ⌝ }
     requires { ⌜ x < h .lexicons ⌝ }
 {
-    if wanted[x] == 0 {
+    if !has(wanted, x) {
         return false;
     }
-    if taken[x] != 0 {
+    if has(taken, x) {
         return false;
     }
     let many = lexicon::entry_count(image, h, x);
@@ -85,31 +81,23 @@ fn is_due(
     is_ready(image, h, low, low + many, taken)
 }
 
-// One round over the lexicons, from the last to the first. Whether one was taken.
-fn take_round(
-    image: &[u8],
-    h: Header,
-    last: bool,
-    wanted: &[u8; 64],
-    taken: &mut [u8; 64],
-    row: &mut [u8],
-) -> bool
+// One round over the lexicons, from the last to the first: those that are taken after it.
+fn take_round(image: &[u8], h: Header, last: bool, wanted: u64, taken: u64, row: &mut [u8]) -> u64
     requires { ⌜ Accepted (now image) (headerOf h) ⌝ }
     requires { ⌜ Ordered (now row) (h .lexicons) ⌝ }
     ensures { λ _. ⌜ Ordered (now (row .exit)) (h .lexicons) ⌝ }
 {
     let lexicons = h.lexicons;
-    let mut some = false;
+    let mut now = taken;
     let mut x = lexicons;
     while x > 0 {
         x -= 1;
-        if is_due(image, h, x, last, wanted, taken) {
+        if is_due(image, h, x, last, wanted, now) {
             append(row, x, lexicons);
-            taken[x] = 1;
-            some = true;
+            now = now | (1u64 << x);
         }
     }
-    some
+    now
 }
 
 // The whole row.
@@ -120,13 +108,15 @@ pub fn fill_order(image: &[u8], h: Header, row: &mut [u8])
 {
     row[0] = 0;
     let wanted = followed(image, h);
-    let mut taken = [0u8; 64];
+    let mut taken: u64 = 0;
     let mut rounds = h.lexicons;
     while rounds > 0 {
         rounds -= 1;
-        if !take_round(image, h, false, &wanted, &mut taken, row) {
+        let more = take_round(image, h, false, wanted, taken, row);
+        if more == taken {
             rounds = 0;
         }
+        taken = more;
     }
-    let _ = take_round(image, h, true, &wanted, &mut taken, row);
+    let _ = take_round(image, h, true, wanted, taken, row);
 }

@@ -1,28 +1,30 @@
 -- Paths as the code reads them: their entry numbers, whether each entry opens where the one before leads, and the letters of their joined forms.
 use Prim.Native.Nat.{ℕ, _+_, _*_, _-_, _/_, _%_, _<_, _≤_}
 use native.Mathlib.Omega.{arith}
-use mathlib.Core.Bool.{Bool, true, false, _&&_, not}
+use mathlib.Core.Bool.{Bool, true, false, _&&_, _||_}
 use mathlib.Core.Path.{_≡_, refl, sym, ap, ap₂, _∙_, subst}
-use mathlib.Core.List.{List, [], _∷_, _++_, map}
+use mathlib.Core.List.{List, [], _∷_, _++_, map, List·Memᴰ, List·Memᴰ·head, List·Memᴰ·tail}
 use lib.ListN.{length, getD, drop, List·getD-append, drop-of-length-le}
 use lib.Seq.{getD-append-add}
-use lib.Dec.{T, leb, ltb, eqb, ltb→lt}
-use borrow.Author.Tests.{lt-ltb, le-ltb, le-leb, lt-leb, eq-eqb, ne-eqb}
-use Rattle.model.specs.Lists.{every, joined, within, byte, number}
+use lib.Dec.{T, leb, ltb, eqb, ltb→lt, eqb→eq}
+use native.Mathlib.Numerals.{add-one}
+use Rattle.model.specs.Lists.{below, every, any, joined, within, byte, bit, number}
 use Rattle.model.specs.Blocks.{Header, header, recordStart}
-use Rattle.model.specs.Lexicon.{entryCount, firstEntry, inLexicon, entry, formLength, formOf, continuation, linked, pathLength}
+use Rattle.model.specs.Lexicon.{inLexicon, entry, formLength, formOf, mayStop, goesTo, linked, pathLength}
 use Rattle.model.specs.Refusals.{rightEntries}
 use Rattle.model.specs.GrammarOf.{grammarOf}
 use Rattle.model.specs.Readings.{isLinked}
 use Rattle.model.specs.Beside.{formStart}
 use Rattle.model.specs.Query.{entryNumbers}
-use Rattle.model.proofs.Booleans.{and-out, and-in, of-true}
-use Rattle.model.proofs.Lists.{length-numbers, number-in, every-append}
+use Rattle.model.proofs.Booleans.{and-out, and-in, true-of, false-of, of-true, eq→eqb}
+use Rattle.model.proofs.Lists.{length-numbers, number-in, every-append, below-has, below-from, any-has, any-from, any-more}
 use Rattle.model.proofs.Rest.{drop-step, every-getD}
 use Rattle.image.specs.Laid.{Laid}
 use Rattle.image.specs.Accepted.{Accepted}
 use Rattle.lexicon.proofs.Laws.{entry-inside, form-size, form-byte, form-short, form-letters}
-use Rattle.rules.specs.Paths.{Entered, formsOf}
+use Rattle.rules.specs.Paths.{Entered, formsOf, inSome}
+use Rattle.digits.specs.Ways.{Names}
+use Rattle.digits.proofs.Bits.{power-bit}
 
 -- the count of entries that a header tells is the image's
 pub laid-entries : {image : List ℕ} {h : Header} → Laid image h → h .entries ≡ header image .entries
@@ -42,60 +44,83 @@ module _ (path : List ℕ) where
   abbrev pub lengthRight : Bool
   lengthRight = eqb (length path % 2) 0 && pathLength (entryNumbers path)
 
--- entry e may open in lexicon x
-module _ (image : List ℕ) (x e entries : ℕ) where
-  abbrev pub mayOpen : Bool
-  mayOpen = not (eqb x 255) && inLexicon image x e && ltb e entries
+-- sets of lexicons
+pub any-same : (f g : ℕ → Bool) (xs : List ℕ) → ((x : ℕ) → List·Memᴰ x xs → f x ≡ g x) → any f xs ≡ any g xs
+any-same f g [] e = refl
+any-same f g (x ∷ xs) e = ap₂ (λ (a b : Bool). a || b) (e x (List·Memᴰ·head refl)) (any-same f g xs (λ y m. e y (List·Memᴰ·tail m)))
 
-  pub may-open-nowhere : x ≡ 255 → mayOpen ≡ false
-  may-open-nowhere h = ap (λ (b : Bool). not b && inLexicon image x e && ltb e entries) (eq-eqb x 255 h)
+any-one : (f : ℕ → Bool) (c n : ℕ) → c < n → any (λ x. eqb c x && f x) (below n) ≡ f c
+any-one f c n l = both (any (λ x. eqb c x && f x) (below n)) (f c)
+    (λ t. let u = any-from (λ x. eqb c x && f x) (below n) t in let v = and-out (eqb c (u .0)) (f (u .0)) (u .2) in subst (λ (x : ℕ). T (f x)) (sym (eqb→eq c (u .0) (v .0))) (v .1))
+    (λ t. any-has (λ x. eqb c x && f x) (below n) (below-has n c l) (and-in (eqb c c) (f c) (eq→eqb c c refl) t))
+  where
+    both : (a b : Bool) → (T a → T b) → (T b → T a) → a ≡ b
+    both true b f g = sym (true-of b (f tt))
+    both false b f g = sym (false-of b g)
 
-  module _ (some : x ≡ 255 → ⊥) where
-    in-some : mayOpen ≡ (inLexicon image x e && ltb e entries)
-    in-some = ap (λ (b : Bool). not b && inLexicon image x e && ltb e entries) (ne-eqb x 255 some)
+module _ (image : List ℕ) (lexicons bits e : ℕ) where
+  abbrev pub named : ℕ → Bool
+  named x = bit bits x && inLexicon image x e
 
-    pub may-open-before : e < firstEntry image x → mayOpen ≡ false
-    unfolding inLexicon
-    may-open-before h = in-some ∙ ap (λ (b : Bool). b && ltb e (firstEntry image x + entryCount image x) && ltb e entries) (lt-leb (firstEntry image x) e h)
+  -- one lexicon more that does not have it
+  pub none-more : (x : ℕ) → any named (below x) ≡ false → named x ≡ false → any named (below (x + 1)) ≡ false
+  none-more x a b = ap (λ (n : ℕ). any named (below n)) (add-one x) ∙ any-more named (below x) x ∙ rw (a, b) refl
 
-    pub may-open-after : firstEntry image x ≤ e → firstEntry image x + entryCount image x ≤ e → mayOpen ≡ false
-    unfolding inLexicon
-    may-open-after h k = in-some ∙ ap₂ (λ (a b : Bool). a && b && ltb e entries) (le-leb (firstEntry image x) e h) (le-ltb e (firstEntry image x + entryCount image x) k)
+  -- one that has it
+  pub some-here : (x : ℕ) → x < lexicons → named x ≡ true → inSome image lexicons bits e ≡ true
+  some-here x l t = true-of (inSome image lexicons bits e) (any-has named (below lexicons) (below-has lexicons x l) (of-true (named x) t))
 
-    pub may-open-inside : firstEntry image x ≤ e → e < firstEntry image x + entryCount image x → mayOpen ≡ ltb e entries
-    unfolding inLexicon
-    may-open-inside h k = in-some ∙ ap₂ (λ (a b : Bool). a && b && ltb e entries) (le-leb (firstEntry image x) e h) (lt-ltb e (firstEntry image x + entryCount image x) k)
-
-  -- one that may open is one of the image
-  pub may-open-entry : mayOpen ≡ true → e < entries
-  may-open-entry h = ltb→lt e entries (and-out (not (eqb x 255) && inLexicon image x e) (ltb e entries) (of-true mayOpen h) .1)
-
--- the rest of a path, where lexicon x is next, or 255 after its last entry
-abbrev pub linkedFrom : List ℕ → ℕ → List ℕ → Bool
-linkedFrom image x es = linked (grammarOf image .entries) (grammarOf image .follows) (grammarOf image .ends) (λ e. not (eqb x 255) && inLexicon image x e) (eqb x 255) es
+-- the rest of a path, from where these lexicons are next, or it may stop
+abbrev pub linkedFrom : List ℕ → ℕ → Bool → List ℕ → Bool
+linkedFrom image bits stop es = linked (grammarOf image .entries) (grammarOf image .follows) (grammarOf image .ends) (inSome image (header image .lexicons) bits) stop es
 
 module _ (image : List ℕ) where
-  pub linked-start : (es : List ℕ) → linkedFrom image 0 es ≡ isLinked (grammarOf image) es
-  unfolding grammarOf
-  linked-start es = refl
-
-  pub linked-end : (x i : ℕ) (es : List ℕ) → length es ≤ i → linkedFrom image x (drop i es) ≡ eqb x 255
+  linked-may : (es : List ℕ) (may other : ℕ → Bool) (stop : Bool) → ((e : ℕ) → may e ≡ other e) → linked (grammarOf image .entries) (grammarOf image .follows) (grammarOf image .ends) may stop es ≡ linked (grammarOf image .entries) (grammarOf image .follows) (grammarOf image .ends) other stop es
   unfolding linked
-  linked-end x i es h = ap (linkedFrom image x) (drop-of-length-le es h)
+  linked-may [] may other stop same = refl
+  linked-may (e ∷ es) may other stop same =
+      ap (λ (b : Bool). b && ltb e (grammarOf image .entries) && linked (grammarOf image .entries) (grammarOf image .follows) (grammarOf image .ends) (grammarOf image .follows e) (grammarOf image .ends e) es) (same e)
 
-  linked-cons : (x e : ℕ) (es : List ℕ) → linkedFrom image x (e ∷ es) ≡ (mayOpen image x e (header image .entries) && linkedFrom image (continuation (entry image e)) es)
+  pub linked-start : 1 ≤ header image .lexicons → (es : List ℕ) → linkedFrom image 1 false es ≡ isLinked (grammarOf image) es
+  unfolding grammarOf
+  linked-start some es = linked-may es (inSome image (header image .lexicons) 1) (inLexicon image 0) false (λ e. any-same (λ x. bit 1 x && inLexicon image x e) (λ x. eqb 0 x && inLexicon image x e) (below (header image .lexicons)) (λ x m. ap (λ (b : Bool). b && inLexicon image x e) (power-bit 0 x)) ∙ any-one (λ x. inLexicon image x e) 0 (header image .lexicons) some)
+
+  pub linked-end : (bits : ℕ) (stop : Bool) (i : ℕ) (es : List ℕ) → length es ≤ i → linkedFrom image bits stop (drop i es) ≡ stop
+  unfolding linked
+  linked-end bits stop i es h = ap (linkedFrom image bits stop) (drop-of-length-le es h)
+
+  abbrev pub mayOpen : ℕ → ℕ → ℕ → Bool
+  mayOpen bits e entries = inSome image (header image .lexicons) bits e && ltb e entries
+
+  linked-cons : (bits : ℕ) (stop : Bool) (e : ℕ) (es : List ℕ) → linkedFrom image bits stop (e ∷ es) ≡ (mayOpen bits e (header image .entries) && linked (grammarOf image .entries) (grammarOf image .follows) (grammarOf image .ends) (grammarOf image .follows e) (grammarOf image .ends e) es)
   unfolding linked grammarOf
-  linked-cons x e es = refl
+  linked-cons bits stop e es = refl
 
-  module _ (es : List ℕ) (i x e : ℕ) (inside : i < length es) (this : getD es i 0 ≡ e) where
-    linked-step : linkedFrom image x (drop i es) ≡ (mayOpen image x e (header image .entries) && linkedFrom image (continuation (entry image e)) (drop (i + 1) es))
-    linked-step = ap (linkedFrom image x) (drop-step es 0 i inside ∙ ap {B = List ℕ} (λ e. e ∷ drop (i + 1) es) this) ∙ linked-cons x e (drop (i + 1) es)
+  -- after entry e, by its ways on
+  pub linked-ways : (e bits : ℕ) (stop : Bool) → header image .lexicons ≤ 64 → stop ≡ mayStop (entry image e) (header image .form) → Names (goesTo (entry image e) (header image .form)) bits → (es : List ℕ)
+      → linked (grammarOf image .entries) (grammarOf image .follows) (grammarOf image .ends) (grammarOf image .follows e) (grammarOf image .ends e) es ≡ linkedFrom image bits stop es
+  unfolding grammarOf
+  linked-ways e bits stop few s names es =
+      linked-may es (grammarOf image .follows e) (inSome image (header image .lexicons) bits) (grammarOf image .ends e)
+      (λ f. any-same (λ x. goesTo (entry image e) (header image .form) x && inLexicon image x f) (λ x. bit bits x && inLexicon image x f) (below (header image .lexicons)) (λ x m. ap (λ (b : Bool). b && inLexicon image x f) (names x (omega (arith, below-from (header image .lexicons) x m)))))
+      ∙ ap (λ (b : Bool). linkedFrom image bits b es) (sym s)
 
-    pub linked-fails : mayOpen image x e (header image .entries) ≡ false → linkedFrom image x (drop i es) ≡ false
-    linked-fails f = linked-step ∙ ap (λ (b : Bool). b && linkedFrom image (continuation (entry image e)) (drop (i + 1) es)) f
+  module _ (es : List ℕ) (i bits : ℕ) (stop : Bool) (e : ℕ) (inside : i < length es) (this : getD es i 0 ≡ e) where
+    abbrev after : Bool
+    after = linked (grammarOf image .entries) (grammarOf image .follows) (grammarOf image .ends) (grammarOf image .follows e) (grammarOf image .ends e) (drop (i + 1) es)
 
-    pub linked-on : mayOpen image x e (header image .entries) ≡ true → linkedFrom image x (drop i es) ≡ linkedFrom image (continuation (entry image e)) (drop (i + 1) es)
-    linked-on f = linked-step ∙ ap (λ (b : Bool). b && linkedFrom image (continuation (entry image e)) (drop (i + 1) es)) f
+    linked-step : linkedFrom image bits stop (drop i es) ≡ (mayOpen bits e (header image .entries) && after)
+    linked-step = ap (linkedFrom image bits stop) (drop-step es 0 i inside ∙ ap {B = List ℕ} (λ e. e ∷ drop (i + 1) es) this) ∙ linked-cons bits stop e (drop (i + 1) es)
+
+    pub linked-fails : mayOpen bits e (header image .entries) ≡ false → linkedFrom image bits stop (drop i es) ≡ false
+    linked-fails f = linked-step ∙ ap (λ (b : Bool). b && after) f
+
+    pub linked-on : mayOpen bits e (header image .entries) ≡ true → linkedFrom image bits stop (drop i es) ≡ after
+    linked-on f = linked-step ∙ ap (λ (b : Bool). b && after) f
+
+  -- one that may open is one of the image
+  pub may-open-entry : (bits e entries : ℕ) → mayOpen bits e entries ≡ true → e < entries
+  may-open-entry bits e entries h = ltb→lt e entries (and-out (inSome image (header image .lexicons) bits e) (ltb e entries) (of-true (mayOpen bits e entries) h) .1)
 
   -- each entry of a linked path is one of the image
   pub linked-entries : (path : List ℕ) → T (isLinked (grammarOf image) (entryNumbers path)) → Entered image path

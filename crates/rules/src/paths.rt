@@ -1,18 +1,17 @@
 // A path as two bytes to an entry number: tests 11 and 12, and the letters of its joined forms.
-ghost use mathlib.Core.Bool.{_&&_, not};
+ghost use mathlib.Core.Bool.{_&&_};
 ghost use mathlib.Core.Path.{_≡_};
-ghost use mathlib.Core.Logic.{_⊎_};
 ghost use Prim.Native.Nat.{_<_, _%_};
 ghost use lib.ListN.{length, getD};
-ghost use lib.Dec.{ltb, eqb};
-ghost use Rattle.model.specs.Lexicon.{inLexicon, entry, formLength, formOf, pathLength};
+ghost use lib.Dec.{leb, ltb, eqb};
+ghost use Rattle.model.specs.Lexicon.{entry, formLength, formOf, pathLength};
 ghost use Rattle.model.specs.GrammarOf.{grammarOf};
 ghost use Rattle.model.specs.Readings.{isLinked};
 ghost use Rattle.model.specs.Query.{entryNumbers};
 ghost use Rattle.image.specs.Header.{headerOf};
 ghost use Rattle.image.specs.Laid.{Laid};
 ghost use Rattle.image.specs.Accepted.{Accepted};
-ghost use Rattle.rules.specs.Paths.{Entered, formsOf};
+ghost use Rattle.rules.specs.Paths.{Entered, formsOf, inSome};
 use image::Header;
 use letters::Lexical;
 
@@ -23,42 +22,60 @@ pub fn path_length_right(path: &[u8]) -> bool
     image::right_count(path.len(), 16)
 }
 
-// Whether entry e may open in lexicon x, where 255 is the end of a path.
-fn may_open(image: &[u8], h: Header, x: usize, e: usize) -> bool
-    requires { ⌜ Laid (now image) (headerOf h) ⌝ }
-    requires { ⌜ (x < h .lexicons) ⊎ (x ≡ 255) ⌝ }
-    ensures { λ r. ⌜ r ≡ (not (eqb x 255) && inLexicon (now (image .entry)) x e && ltb e (h .entries)) ⌝ }
+// Whether the lowest lexicon of a set, whose entries are from first up to next, has entry e.
+fn is_here(rest: u64, first: usize, next: usize, e: usize) -> bool
+    ensures { λ r. ⌜ r ≡ (eqb (rest % 2) 1 && (leb first e && ltb e next)) ⌝ }
 {
-    if x == 255 {
+    if rest % 2 != 1 {
         return false;
     }
-    let first = lexicon::first_entry(image, h, x);
     if e < first {
         return false;
     }
-    if first + lexicon::entry_count(image, h, x) <= e {
-        return false;
-    }
-    e < h.entries
+    e < next
 }
 
-// Test 12: each entry opens in the lexicon where the one before leads, and the last one leads nowhere.
+// Whether entry e may open in one of the lexicons that a set names.
+fn may_open(image: &[u8], h: Header, bits: u64, e: usize) -> bool
+    requires { ⌜ Laid (now image) (headerOf h) ⌝ }
+    ensures { λ r. ⌜ r ≡ (inSome (now (image .entry)) (h .lexicons) bits e && ltb e (h .entries)) ⌝ }
+{
+    let lexicons = h.lexicons;
+    let mut first: usize = 0;
+    let mut rest = bits;
+    let mut x: usize = 0;
+    while x < lexicons {
+        let next = first + lexicon::entry_count(image, h, x);
+        if is_here(rest, first, next, e) {
+            return e < h.entries;
+        }
+        first = next;
+        rest = rest / 2;
+        x += 1;
+    }
+    false
+}
+
+// Test 12: each entry opens in a lexicon where the one before leads, the first in lexicon 0, and the path may stop at the last.
 pub fn path_linked(image: &[u8], h: Header, path: &[u8]) -> bool
     requires { ⌜ Accepted (now image) (headerOf h) ⌝ }
     ensures { λ r. ⌜ r ≡ isLinked (grammarOf (now (image .entry))) (entryNumbers (now (path .entry))) ⌝ }
 {
     let count = path.len() / 2;
-    let mut x: usize = 0;
+    let mut bits: u64 = 1;
+    let mut stop = false;
     let mut i: usize = 0;
     while i < count {
         let e = image::number_at(path, 2 * i);
-        if !may_open(image, h, x, e) {
+        if !may_open(image, h, bits, e) {
             return false;
         }
-        x = lexicon::continuation_of(image, h, e);
+        let ways = lexicon::ways::ways_of(image, h, e);
+        bits = ways.bits;
+        stop = ways.stop;
         i += 1;
     }
-    x == 255
+    stop
 }
 
 // Letter t of the form of entry e.

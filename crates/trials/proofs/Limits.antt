@@ -226,16 +226,16 @@ next-block : (map (λ e. formOf (entry two-blocks e)) (30 ∷ 31 ∷ 32 ∷ []) 
 unfolding computed
 next-block = (refl, refl)
 
-entry-forms : map (λ e. isEntry e 9 2) (entryBytes [] 0 0 ∷ entryBytes (replicate 12 2) 1 65535 ∷ entryBytes (replicate 12 9) 255 0 ∷ entryBytes (replicate 13 2) 1 0 ∷ entryBytes (1 ∷ []) 1 0 ∷ entryBytes (2 ∷ 10 ∷ []) 1 0 ∷ [])
+entry-forms : map (λ e. isEntry e 1 9 2) (entryBytes [] 0 0 ∷ entryBytes (replicate 12 2) 1 65535 ∷ entryBytes (replicate 12 9) 255 0 ∷ entryBytes (replicate 13 2) 1 0 ∷ entryBytes (1 ∷ []) 1 0 ∷ entryBytes (2 ∷ 10 ∷ []) 1 0 ∷ [])
     ≡ true ∷ true ∷ true ∷ false ∷ false ∷ false ∷ []
 unfolding computed
 entry-forms = refl
 
-entry-continuations : map (λ x. isEntry (entryBytes (2 ∷ []) x 0) 9 2) (0 ∷ 1 ∷ 2 ∷ 254 ∷ 255 ∷ []) ≡ true ∷ true ∷ false ∷ false ∷ true ∷ []
+entry-continuations : map (λ x. isEntry (entryBytes (2 ∷ []) x 0) 1 9 2) (0 ∷ 1 ∷ 2 ∷ 254 ∷ 255 ∷ []) ≡ true ∷ true ∷ false ∷ false ∷ true ∷ []
 unfolding computed
 entry-continuations = refl
 
-entry-rest : map (λ i. isEntry (set (entryBytes (2 ∷ []) 0 0) i 2) 9 2) (2 ∷ 12 ∷ 14 ∷ []) ≡ false ∷ false ∷ true ∷ []
+entry-rest : map (λ i. isEntry (set (entryBytes (2 ∷ []) 0 0) i 2) 1 9 2) (2 ∷ 12 ∷ 14 ∷ []) ≡ false ∷ false ∷ true ∷ []
 unfolding computed
 entry-rest = refl
 

@@ -9,7 +9,7 @@ use lib.Seq.{getD-take}
 use lib.Dec.{T, ltb, eqb, eqb→eq}
 use borrow.Author.Tests.{le-ltb, eq-eqb}
 use Rattle.model.specs.Lists.{every, sum, isZero, byte, number}
-use Rattle.model.specs.Blocks.{Header, Kind, kinds, row, filled, fitting, rowOf, blocksBefore, kindFrom, blockKind, recordCount, blockTotal, kindAt, recordsAt, withinLimits, laidOut}
+use Rattle.model.specs.Blocks.{Header, Kind, kinds, row, filled, entryWidth, fitting, rowOf, blocksBefore, kindFrom, blockKind, recordCount, blockTotal, kindAt, recordsAt, withinLimits, laidOut}
 use Rattle.model.proofs.Booleans.{and-out, not-out, left-true, right-true}
 use Rattle.without_sets.specs.Plain.{plainKinds, plainKindAt, plainLimits, plainLaidOut}
 
@@ -20,7 +20,7 @@ twice false x y z = refl
 
 -- the rows that follow the place of the sets
 abbrev laterKinds : Header → List Kind
-laterKinds h = row 4 (h .rules) 506 (h .rules) ∷ row 5 1 2 (h .lexicons) ∷ filled 6 16 (h .entries) ∷ []
+laterKinds h = row 4 (h .rules) 506 (h .rules) ∷ row 5 1 2 (h .lexicons) ∷ filled 6 (entryWidth (h .form)) (h .entries) ∷ []
 
 -- neither the header's kind nor the sets'
 abbrev pub isOther : ℕ → Bool
@@ -38,7 +38,7 @@ other-kind false false false false false = tt
 plain-other : (h : Header) (k : ℕ) → T (isOther (plainKindAt h (suc k)))
 plain-other h k =
     rw (le-ltb (suc k) 1 (omega arith))
-    (other-kind (ltb (suc k) 2) (ltb (suc k) 3) (ltb (suc k) (3 + h .rules)) (ltb (suc k) (3 + h .rules + 1)) (ltb (suc k) (3 + h .rules + 1 + filled 6 16 (h .entries) .blocks)))
+    (other-kind (ltb (suc k) 2) (ltb (suc k) 3) (ltb (suc k) (3 + h .rules)) (ltb (suc k) (3 + h .rules + 1)) (ltb (suc k) (3 + h .rules + 1 + filled 6 (entryWidth (h .form)) (h .entries) .blocks)))
 
 -- the unused bytes from n on, byte n first; past the end of the list none is there and none is missed
 zero-from : (n : ℕ) (l : List ℕ) → every isZero (drop n l) ≡ (isZero (byte l n) && every isZero (drop (suc n) l))

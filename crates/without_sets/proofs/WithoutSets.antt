@@ -8,10 +8,10 @@ use mathlib.Core.List.{List, [], _∷_, map}
 use lib.ListN.{getD, take, drop}
 use lib.Dec.{T, ltb, eqb, eqb→eq}
 use borrow.Author.Tests.{ne-eqb}
-use Rattle.model.specs.Lists.{below, every, sum, within}
+use Rattle.model.specs.Lists.{below, every, any, sum, within}
 use Rattle.model.specs.Blocks.{Kind, header, block, blockCount, fitting, blockTotal, withinLimits, laidOut, recordStart, recordAt}
 use Rattle.model.specs.RuleTables.{boundaryPair, pairs, pairsAndBoundary, letterSets, table, columnCount, isSet, isTable, columnsOf, nextState, isFinal}
-use Rattle.model.specs.Lexicon.{inLexicon, entry, formOf, continuation}
+use Rattle.model.specs.Lexicon.{inLexicon, entry, formOf, mayStop, goesTo}
 use Rattle.model.specs.Grammar.{Grammar}
 use Rattle.model.specs.GrammarOf.{grammarOf}
 use Rattle.model.specs.Refusals.{Verdict, accepted, refused, unless, firstFailing, rightLength, rightChecks, rightLayout, rightLetters, rightPairs, rightTables, rightColumns, rightEntries, rightForms, formatTests, imageTests, imageVerdict}
@@ -41,7 +41,7 @@ module _ (image : List ℕ) where
   unfolding header
   plain-layout-none e =
       let h = header image in
-      let u = out4 (eqb (h .form) 1) (plainLimits h) (eqb (blockCount image) (sum (map (λ r. r .blocks) (plainKinds h)))) (every (λ k. plainLaidOut h k (block image k)) (below (blockCount image))) (of-true (plainLayout image) e) in
+      let u = out4 (within 1 2 (h .form)) (plainLimits h) (eqb (blockCount image) (sum (map (λ r. r .blocks) (plainKinds h)))) (every (λ k. plainLaidOut h k (block image k)) (below (blockCount image))) (of-true (plainLayout image) e) in
       let n = eqb→eq (blockCount image) (sum (map (λ r. r .blocks) (plainKinds h))) (u .2) in
       first-none h (block image 0) (every-at (λ k. plainLaidOut h k (block image k)) (below (blockCount image)) (below-has (blockCount image) 0 (omega arith)) (u .3))
 
@@ -49,7 +49,7 @@ module _ (image : List ℕ) where
   unfolding rightLayout
   layout-limits t =
       let h = header image in
-      out4 (eqb (h .form) 1) (withinLimits h) (eqb (blockCount image) (blockTotal h)) (every (λ k. laidOut h k (block image k)) (below (blockCount image))) t .1
+      out4 (within 1 2 (h .form)) (withinLimits h) (eqb (blockCount image) (blockTotal h)) (every (λ k. laidOut h k (block image k)) (below (blockCount image))) t .1
 
   -- the verdict by the answers of 3, 6 and 7
   abbrev verdictBy : Bool → Bool → Bool → Verdict
@@ -80,7 +80,7 @@ module _ (image : List ℕ) where
     plain-layout =
         let h = header image in
         ap₂ (λ (a b : Bool). a && b)
-        (ap₂ (λ (a : Bool) (n : ℕ). eqb (h .form) 1 && a && eqb (blockCount image) n) (sym (same-limits h none)) (sym (same-total h none)))
+        (ap₂ (λ (a : Bool) (n : ℕ). within 1 2 (h .form) && a && eqb (blockCount image) n) (sym (same-limits h none)) (sym (same-total h none)))
         (every-same (λ k. plainLaidOut h k (block image k)) (λ k. laidOut h k (block image k)) (below (blockCount image))
         (λ k m. sym (same-laid h none k (block image k) (λ e. rw e none))))
 
@@ -138,8 +138,8 @@ module _ (image : List ℕ) where
             entries = header image .entries;
             form = λ e. formOf (entry image e);
             begins = inLexicon image 0;
-            follows = λ e f. not (eqb (continuation (entry image e)) 255) && inLexicon image (continuation (entry image e)) f;
-            ends = λ e. eqb (continuation (entry image e)) 255;
+            follows = λ e f. any (λ x. goesTo (entry image e) (header image .form) x && inLexicon image x f) (below (header image .lexicons));
+            ends = λ e. mayStop (entry image e) (header image .form);
           } in g)
           (map-same (columnsOf image) (plainColumns image) (below (header image .rules)) (λ r m. sym (plain-columns r (below-from (header image .rules) r m))))
 

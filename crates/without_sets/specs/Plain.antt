@@ -5,10 +5,10 @@ use mathlib.Core.Bool.{Bool, _&&_, _||_, not}
 use mathlib.Core.List.{List, [], _∷_, map}
 use lib.ListN.{getD, take, drop}
 use lib.Dec.{leb, ltb, eqb}
-use Rattle.model.specs.Lists.{below, every, count, first, sum, within, isZero}
-use Rattle.model.specs.Blocks.{Header, Kind, header, block, blockCount, blockKind, recordCount, row, filled, fitting, rowOf, blocksBefore, kindFrom}
+use Rattle.model.specs.Lists.{below, every, any, count, first, sum, within, isZero}
+use Rattle.model.specs.Blocks.{Header, Kind, header, block, blockCount, blockKind, recordCount, row, filled, entryWidth, fitting, rowOf, blocksBefore, kindFrom}
 use Rattle.model.specs.RuleTables.{Pair, Sides, boundaryPair, pairs, pairsAndBoundary, table, column, columnCount, stateCount, marksAt, rowsAt, tableEnd, nextState, isFinal}
-use Rattle.model.specs.Lexicon.{inLexicon, entry, formOf, continuation}
+use Rattle.model.specs.Lexicon.{inLexicon, entry, formOf, mayStop, goesTo}
 use Rattle.model.specs.Grammar.{Grammar}
 use Rattle.model.specs.Refusals.{Verdict, firstFailing, rightLength, rightChecks, rightLetters, rightPairs, rightEntries, rightForms}
 
@@ -21,7 +21,7 @@ module _ (h : Header) where
       ∷ row 3 1 2 (h .pairs)
       ∷ row 4 (h .rules) 506 (h .rules)
       ∷ row 5 1 2 (h .lexicons)
-      ∷ filled 6 16 (h .entries)
+      ∷ filled 6 (entryWidth (h .form)) (h .entries)
       ∷ []
 
   abbrev pub plainWidth : ℕ → ℕ
@@ -85,7 +85,7 @@ module _ (image : List ℕ) where
   abbrev pub plainLayout : Bool
   plainLayout =
       let h = header image in
-      eqb (h .form) 1
+      within 1 2 (h .form)
       && plainLimits h
       && eqb (blockCount image) (sum (map (λ r. r .blocks) (plainKinds h)))
       && every (λ k. plainLaidOut h k (block image k)) (below (blockCount image))
@@ -120,6 +120,6 @@ module _ (image : List ℕ) where
         entries = header image .entries;
         form = λ e. formOf (entry image e);
         begins = inLexicon image 0;
-        follows = λ e f. not (eqb (continuation (entry image e)) 255) && inLexicon image (continuation (entry image e)) f;
-        ends = λ e. eqb (continuation (entry image e)) 255;
+        follows = λ e f. any (λ x. goesTo (entry image e) (header image .form) x && inLexicon image x f) (below (header image .lexicons));
+        ends = λ e. mayStop (entry image e) (header image .form);
       }

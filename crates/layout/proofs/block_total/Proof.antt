@@ -1,31 +1,36 @@
 -- `block_total` meets its contract: the entries stand last.
 use borrow.Author.Needs.{needs}
 use native.Mathlib.Omega.{arith}
+use native.Mathlib.Nat.{div-le-self}
 use mathlib.Core.Path.{_≡_}
 use Prim.Native.Nat.{ℕ, _+_, _-_, _/_, _≤_}
-use Rattle.model.specs.Blocks.{Header, kinds, perBlock, firstBlock, blockTotal}
-use Rattle.image.specs.Laid.{Limited}
+use Rattle.model.specs.Blocks.{Header, kinds, entryWidth, perBlock, firstBlock, blockTotal}
+use Rattle.image.specs.Laid.{Counted}
 use Rattle.image.specs.Header.{headerOf}
+use Rattle.image.proofs.Records.{some-fit, entry-wide}
 use Rattle.layout.proofs.block_total.Statement.{statement}
 use Rattle.layout.proofs.block_total.Tie as tie
 
 -- by what the table of kinds tells
-module _ (h : Header) (limits : Limited h) (most first : ℕ) (e1 : most ≡ perBlock h 6) (e2 : first ≡ firstBlock h 6) where
+module _ (h : Header) (limits : Counted h) (most first : ℕ) (e1 : most ≡ perBlock h 6) (e2 : first ≡ firstBlock h 6) where
+  fits : (w : ℕ) → 16 ≤ w → w ≤ 24 → (1 ≤ 506 / w) × (506 / w ≤ 506)
+  fits w wide narrow = (some-fit w (omega arith) (omega arith), div-le-self 506 w)
+
   some : 1 ≤ most
   unfolding kinds
-  some = omega (arith, e1)
+  some = let w = entry-wide (h .form) in omega (arith, e1, fits (entryWidth (h .form)) (w .0) (w .1))
 
   few : most ≤ 506
   unfolding kinds
-  few = omega (arith, e1)
+  few = let w = entry-wide (h .form) in omega (arith, e1, fits (entryWidth (h .form)) (w .0) (w .1))
 
   total-is : first + (h .entries + (most - 1)) / most ≡ blockTotal h
   unfolding kinds blockTotal
   total-is = rw (e1, e2) (omega arith)
 
-  total-few : first + (h .entries + (most - 1)) / most ≤ 200
-  unfolding kinds blockTotal
-  total-few = omega (arith, total-is, limits .rules-most, limits .entries-most, limits .sets-most)
+  total-few : first + (h .entries + (most - 1)) / most ≤ 4000
+  unfolding kinds
+  total-few = omega (arith, e2, few, div-le-self (h .entries + (most - 1)) most, limits .rules-most, limits .entries-most, limits .sets-most)
 
 module _ (c : tie.After-struct-known) where
   abbrev start : tie.Start

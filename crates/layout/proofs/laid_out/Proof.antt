@@ -8,7 +8,7 @@ use lib.ListN.{take, drop}
 use Rattle.model.specs.Lists.{every, isZero, byte}
 use Rattle.model.specs.Blocks.{fitting, kindAt, recordWidth}
 use Rattle.image.specs.Header.{headerOf}
-use Rattle.image.proofs.Records.{total-most}
+use Rattle.image.proofs.Records.{total-most, counted}
 use Rattle.layout.proofs.Placing.{laid-kind, laid-count, laid-rest}
 use Rattle.layout.proofs.laid_out.Statement.{statement}
 use Rattle.layout.proofs.laid_out.Tie as tie
@@ -27,7 +27,7 @@ small c =
     omega (arith, e, mul-le-mul {n₁ = w} {m₁ = n .result} {n₂ = w} {m₂ = fitting w} (le-refl w) (n .ensures .1), mul-div-le 506 w)
 
 kind-at-requires : tie.Need-kind-at-requires
-kind-at-requires c κs = search needs
+kind-at-requires c κs = (counted (headerOf (c .before .args .h)) (c .before .pre .1 .0), c .before .pre .1 .1)
 
 byte-at-requires : tie.Need-byte-at-requires
 byte-at-requires c κs = search needs
@@ -40,7 +40,7 @@ returns c =
 records-at-requires : tie.Need-records-at-requires
 records-at-requires c κs =
     let s = c .before .before .before .before in
-    (s .pre .1 .0, (c .before .before .kind-at .ensures, omega (arith, s .pre .1 .1, total-most (headerOf (s .args .h)) (s .pre .1 .0))))
+    (counted (headerOf (s .args .h)) (s .pre .1 .0), (c .before .before .kind-at .ensures, omega (arith, s .pre .1 .1, total-most (headerOf (s .args .h)) (s .pre .1 .0))))
 
 byte-at-requires-2 : tie.Need-byte-at-requires-2
 byte-at-requires-2 c κs = search needs

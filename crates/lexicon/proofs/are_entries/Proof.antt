@@ -16,13 +16,13 @@ use Rattle.letters.specs.Marks.{isMarked}
 use Rattle.model.proofs.Lists.{length-below, getD-below}
 use Rattle.model.proofs.Rest.{every-on, every-fails, every-done}
 use Rattle.image.proofs.Records.{total-most, fit-most, record-slot, record-end, next-within, next-block, record-part}
-use Rattle.lexicon.proofs.Laws.{entry-wide, entry-cut, entry-room}
+use Rattle.lexicon.proofs.Laws.{width-is, entry-cut, entry-room}
 use Rattle.lexicon.proofs.are_entries.Statement.{statement}
 use Rattle.lexicon.proofs.are_entries.Tie as tie
 
 -- what is asked of entry e
-abbrev isRight : List ℕ → List ℕ → ℕ → ℕ → Bool
-isRight image marked lexicons e = isEntryOf (entry image e) (isMarked marked) lexicons
+abbrev isRight : List ℕ → List ℕ → Header → ℕ → Bool
+isRight image marked h e = isEntryOf (entry image e) (h .form) (isMarked marked) (h .lexicons)
 
 -- entry left₀ - left comes next, at its place, with this many to come in its block
 abbrev Inv-loop : tie.InvT-loop
@@ -30,7 +30,7 @@ Inv-loop image h marked look wide most between low high left₀ at₀ room₀ le
     (left ≤ left₀)
     × (room + (left₀ - left) % perBlock (headerOf h) 6 ≡ perBlock (headerOf h) 6)
     × (at ≡ recordStart (headerOf h) 6 (left₀ - left))
-    × (every (isRight image marked (h .lexicons)) (drop (left₀ - left) (below left₀)) ≡ every (isRight image marked (h .lexicons)) (below left₀))
+    × (every (isRight image marked (headerOf h)) (drop (left₀ - left) (below left₀)) ≡ every (isRight image marked (headerOf h)) (below left₀))
 
 abbrev μ-loop : tie.MeasureT-loop
 μ-loop image h marked look wide most between low high left₀ at₀ room₀ left at room = left
@@ -65,7 +65,7 @@ module _ (c : tie.After-is-entry Inv-loop μ-loop) where
   h = headerOf (start .args .h)
 
   abbrev right : ℕ → Bool
-  right = isRight (start .args .image .now) (start .args .marked .now) (h .lexicons)
+  right = isRight (start .args .image .now) (start .args .marked .now) h
 
   abbrev number : ℕ
   number = h .entries - turn .loop .left
@@ -80,9 +80,9 @@ module _ (c : tie.After-is-entry Inv-loop μ-loop) where
   looked =
       let image = start .args .image .now in
       let may = isMarked (start .args .marked .now) in
-      ap (λ (l : List ℕ). isEntryOf l may (h .lexicons)) (record-part (start .pre .0) 6 number)
-      ∙ entry-cut may (h .lexicons) (drop (recordStart h 6 number) image) (recordWidth h 6) (entry-wide h)
-      ∙ ap (λ (n : ℕ). isEntryOf (drop n image) may (h .lexicons)) (sym place)
+      ap (λ (l : List ℕ). isEntryOf l (h .form) may (h .lexicons)) (record-part (start .pre .0) 6 number)
+      ∙ entry-cut (h .form) may (h .lexicons) (drop (recordStart h 6 number) image) (recordWidth h 6) (omega (arith, width-is h))
+      ∙ ap (λ (n : ℕ). isEntryOf (drop n image) (h .form) may (h .lexicons)) (sym place)
       ∙ sym (c .is-entry .ensures)
 
   there : number < length (below (h .entries))
@@ -167,7 +167,7 @@ is-entry-requires c κs =
     let at = c .before .before .before in
     let made = at .before .before in
     let a = start-of made in (
-      omega (arith, entry-room (a .args .image .now) (headerOf (a .args .h)) (a .pre .0) (a .args .h .entries - at .loop .left) (omega arith)),
+      (omega (arith, entry-room (a .args .image .now) (headerOf (a .args .h)) (a .pre .0) (a .args .h .entries - at .loop .left) (omega arith)), a .pre .0 .limits .lexicons-most),
       (made .before .before .bounds-of .ensures, (made .bounds-of2 .ensures, a .pre .1)),
     )
 
@@ -201,7 +201,7 @@ loop-again-2 c = let t = within (c .before .before) (c .if2 .left) in (omega ari
 returns-2 : tie.Need-returns-2 Inv-loop μ-loop
 returns-2 c =
     let a = start-of (c .before .before .before) .args in
-    let f = isRight (a .image .now) (a .marked .now) (a .h .lexicons) in
+    let f = isRight (a .image .now) (a .marked .now) (headerOf (a .h)) in
     sym (every-done (below (a .h .entries)) (a .h .entries - c .before .loop .left) (omega (arith, length-below (a .h .entries))) f) ∙ c .before .loop .inv .3
 
 pub are-entries-spec : {M : Type 1} → statement M

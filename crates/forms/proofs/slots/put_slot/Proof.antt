@@ -1,11 +1,14 @@
 -- `forms::slots::put_slot` meets its contract.
-use Prim.Native.Nat.{ℕ, _-_}
+use Prim.Native.Nat.{ℕ, _+_, _*_, _-_, _<_}
+use lib.ListN.{length, set, length-set}
 use native.Mathlib.Omega.{arith}
-use mathlib.Core.Path.{sym, subst}
+use mathlib.Core.Path.{sym, ap, subst}
 use mathlib.Core.List.{List}
+use mathlib.Core.Logic.{⊎-elim}
 use borrow.Author.Needs.{needs}
 use Rattle.image.specs.Header.{headerOf}
 use Rattle.lexicon.proofs.Laws.{entry-inside}
+use Rattle.forms.proofs.Stores.{stored-long}
 use Rattle.forms.proofs.SlotLaws.{slot-put}
 use Rattle.forms.specs.Filling.{SlotPut}
 use Rattle.forms.proofs.slots.put_slot.Statement.{statement}
@@ -22,6 +25,25 @@ copy-requires c κs =
     let s = c .before .before .before .before in
     omega (arith, entry-inside (s .args .image .now) (headerOf (s .args .h)) (s .pre .0) (s .args .e) 13 (s .pre .1 .0) (omega arith), c .before .entry-start .ensures .0, s .pre .1)
 
+way-of-requires : tie.Need-way-of-requires
+way-of-requires c κs = search needs
+
+-- a way is a byte
+byte-wide : (c : tie.After-way-of) → c .way-of .result < 256
+byte-wide c = ⊎-elim (λ l. omega arith) (λ r. ⊎-elim (λ e. omega arith) (λ e. omega arith) r) (c .way-of .ensures .in-bound)
+
+cast-slots : tie.Need-cast-slots
+cast-slots c = omega (arith, byte-wide c)
+
+mul-slots : tie.Need-mul-slots
+mul-slots c = search needs
+
+add-slots : tie.Need-add-slots
+add-slots c = search needs
+
+slice-write-slots : tie.Need-slice-write-slots
+slice-write-slots c = search needs
+
 mul-put-number : tie.Need-mul-put-number
 mul-put-number c = search needs
 
@@ -29,20 +51,31 @@ add-put-number : tie.Need-add-put-number
 add-put-number c = search needs
 
 put-number-requires : tie.Need-put-number-requires
-put-number-requires c κs = search needs
+put-number-requires c κs =
+    let way = c .before in
+    let copied = way .before .before .before in
+    let s = copied .before .before .before .before .before in
+    omega (arith, length-set (copied .copy .last .1 .1 .0) (16 * s .args .i + 13) (way .way-of .result), copied .copy .ensures .long, s .pre .1)
 
 same-length : tie.Need-same-length
-same-length c = search needs
+same-length c =
+    let put = c .before .before in
+    let way = put .before .before in
+    let copied = way .before .before .before in
+    let s = copied .before .before .before .before .before in
+    let mid = set (copied .copy .last .1 .1 .0) (16 * s .args .i + 13) (way .way-of .result) in
+    omega (arith, ap length (put .put-number .ensures), stored-long mid (16 * s .args .i + 14) (s .args .e), length-set (copied .copy .last .1 .1 .0) (16 * s .args .i + 13) (way .way-of .result), copied .copy .ensures .long)
 
 returns : tie.Need-returns
 returns c =
     let put = c .before .before in
-    let copied = put .before .before .before .before in
+    let way = put .before .before in
+    let copied = way .before .before .before in
     let s = copied .before .before .before .before .before in
     let a = s .args in
     let new = copied .copy .last .1 .1 .0 in
     subst (λ (x : List ℕ). SlotPut (a .image .now) (a .slots .now) x (a .i) (a .e)) (sym (put .put-number .ensures))
-    (slot-put (a .image .now) (headerOf (a .h)) (s .pre .0) (a .slots .now) new (copied .before .before .entry-start .result) (a .i) (a .e) (copied .before .before .entry-start .ensures .0) (omega (arith, s .pre .0 .limits .entries-most, s .pre .1 .0)) (omega (arith, s .pre .1 .1)) (copied .copy .ensures))
+    (slot-put (a .image .now) (headerOf (a .h)) (s .pre .0) (a .slots .now) new (copied .before .before .entry-start .result) (a .i) (a .e) (way .way-of .result) (copied .before .before .entry-start .ensures .0) (omega (arith, s .pre .0 .limits .entries-most, s .pre .1 .0)) (omega (arith, s .pre .1 .1)) (copied .copy .ensures) (way .way-of .ensures))
 
 pub put-slot-spec : {M : Type 1} → statement M
 put-slot-spec =
@@ -51,6 +84,11 @@ put-slot-spec =
     entry-start-requires
     mul-copy
     copy-requires
+    way-of-requires
+    cast-slots
+    mul-slots
+    add-slots
+    slice-write-slots
     mul-put-number
     add-put-number
     put-number-requires

@@ -5,7 +5,7 @@ use mathlib.Core.Path.{_≡_, ap₂}
 use Prim.Native.Nat.{ℕ, _+_, _*_, _-_, _/_, _<_, _≤_}
 use Rattle.model.specs.Blocks.{Header, recordWidth, recordStart}
 use Rattle.image.specs.Header.{headerOf}
-use Rattle.image.proofs.Records.{total-most, kind-fitted, some-fit, fit-most, start-by, record-block, record-before}
+use Rattle.image.proofs.Records.{total-most, counted, kind-fitted, some-fit, fit-most, start-by, record-block, record-before}
 use Rattle.image.proofs.kinds.record_start.Statement.{statement}
 use Rattle.image.proofs.kinds.record_start.Tie as tie
 
@@ -55,7 +55,7 @@ width-requires : tie.Need-width-requires
 width-requires c κs = search needs
 
 first-block-requires : tie.Need-first-block-requires
-first-block-requires c κs = search needs
+first-block-requires c κs = let s = c .before .before in (counted (headerOf (s .args .h)) (s .pre .0), s .pre .1 .0)
 
 mul-result : tie.Need-mul-result
 mul-result c = omega (arith, sum-is c, small c)

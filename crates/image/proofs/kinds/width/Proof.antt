@@ -1,10 +1,19 @@
 -- `width` meets its contract: the table's places are the definition's.
 use borrow.Author.Needs.{needs}
+use mathlib.Core.Bool.{Bool, true, false, cond}
+use mathlib.Core.List.{[], _∷_}
+use mathlib.Core.Path.{_≡_, refl, sym, ap, _∙_}
+use Prim.Native.Nat.{ℕ, _/_}
+use lib.ListN.{getD}
+use lib.Dec.{eqb}
 use Rattle.model.specs.Blocks.{kinds, recordWidth}
 use Rattle.image.specs.Header.{headerOf}
-use Rattle.image.proofs.Records.{by-kind}
+use Rattle.image.proofs.Records.{by-kind, by-form}
 use Rattle.image.proofs.kinds.width.Statement.{statement}
 use Rattle.image.proofs.kinds.width.Tie as tie
+
+place-of-requires : tie.Need-place-of-requires
+place-of-requires c κs = search needs
 
 mul-result : tie.Need-mul-result
 mul-result c = search needs
@@ -14,7 +23,11 @@ array-read-result c = search needs
 
 returns : tie.Need-returns
 unfolding kinds
-returns c = by-kind (recordWidth (headerOf (c .args .h))) 0 (c .args .kind) (c .pre)
+returns c =
+    let s = c .before in
+    ap (λ (n : ℕ). getD (0 ∷ 14 ∷ 2 ∷ 2 ∷ 506 ∷ 2 ∷ 16 ∷ 16 ∷ 24 ∷ []) n 0) (c .place-of .ensures .0)
+    ∙ by-form (eqb (s .args .h .form) 2) 0 14 2 2 506 2 16 16 24 (s .args .kind) (s .pre)
+    ∙ by-kind (recordWidth (headerOf (s .args .h))) 0 (s .args .kind) (s .pre)
 
 pub width-spec : {M : Type 1} → statement M
-width-spec = tie.close (tie.spec mul-result array-read-result returns)
+width-spec = tie.close (tie.spec place-of-requires mul-result array-read-result returns)

@@ -5,19 +5,16 @@ use Rattle.orders.proofs.lexicons.followed.Statement.{statement}
 use Rattle.orders.proofs.lexicons.followed.Tie as tie
 
 abbrev Inv-loop : tie.InvT-loop
-Inv-loop image h entries marks₀ e₀ marks e = e ≤ entries
+Inv-loop image h entries all₀ e₀ all e = e ≤ entries
 
 abbrev μ-loop : tie.MeasureT-loop
-μ-loop image h entries marks₀ e₀ marks e = entries - e
+μ-loop image h entries all₀ e₀ all e = entries - e
 
 loop-holds : tie.Need-loop-holds Inv-loop μ-loop
 loop-holds c = search needs
 
-continuation-of-requires : tie.Need-continuation-of-requires Inv-loop μ-loop
-continuation-of-requires c κs = search needs
-
-array-write-marks : tie.Need-array-write-marks Inv-loop μ-loop
-array-write-marks c = search needs
+ways-of-requires : tie.Need-ways-of-requires Inv-loop μ-loop
+ways-of-requires c κs = search needs
 
 add-e : tie.Need-add-e Inv-loop μ-loop
 add-e c = search needs
@@ -38,8 +35,7 @@ followed-spec =
     Inv-loop
     μ-loop
     loop-holds
-    continuation-of-requires
-    array-write-marks
+    ways-of-requires
     add-e
     loop-less
     loop-again

@@ -8,14 +8,14 @@ use Rattle.orders.proofs.AcceptedLaws.{entries-ok}
 use Rattle.orders.proofs.lexicons.is_due.Statement.{statement}
 use Rattle.orders.proofs.lexicons.is_due.Tie as tie
 
-element-copy-out-if1 : tie.Need-element-copy-out-if1
-element-copy-out-if1 c = search needs
+has-requires : tie.Need-has-requires
+has-requires c κs = search needs
 
 returns : tie.Need-returns
 returns c = search needs
 
-element-copy-out-if2 : tie.Need-element-copy-out-if2
-element-copy-out-if2 c = search needs
+has-requires-2 : tie.Need-has-requires-2
+has-requires-2 c κs = search needs
 
 returns-2 : tie.Need-returns-2
 returns-2 c = search needs
@@ -48,9 +48,9 @@ pub is-due-spec : {M : Type 1} → statement M
 is-due-spec =
     tie.close
     (tie.spec
-    element-copy-out-if1
+    has-requires
     returns
-    element-copy-out-if2
+    has-requires-2
     returns-2
     entry-count-requires
     returns-3

@@ -13,11 +13,8 @@ abbrev μ-loop : tie.MeasureT-loop
 loop-holds : tie.Need-loop-holds Inv-loop μ-loop
 loop-holds c = search needs
 
-continuation-of-requires : tie.Need-continuation-of-requires Inv-loop μ-loop
-continuation-of-requires c κs = search needs
-
-element-copy-out-if2 : tie.Need-element-copy-out-if2 Inv-loop μ-loop
-element-copy-out-if2 c = search needs
+ways-of-requires : tie.Need-ways-of-requires Inv-loop μ-loop
+ways-of-requires c κs = search needs
 
 returns : tie.Need-returns Inv-loop μ-loop
 returns c = search needs
@@ -41,8 +38,7 @@ is-ready-spec =
     Inv-loop
     μ-loop
     loop-holds
-    continuation-of-requires
-    element-copy-out-if2
+    ways-of-requires
     returns
     add-e
     loop-less

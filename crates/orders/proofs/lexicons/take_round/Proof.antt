@@ -6,10 +6,10 @@ use Rattle.orders.proofs.lexicons.take_round.Statement.{statement}
 use Rattle.orders.proofs.lexicons.take_round.Tie as tie
 
 abbrev Inv-loop : tie.InvT-loop
-Inv-loop image h last wanted taken₀ row₀ lexicons some₀ x₀ taken row some x = (x ≤ lexicons) × Ordered row lexicons
+Inv-loop image h last wanted taken row₀ lexicons now₀ x₀ row now x = (x ≤ lexicons) × Ordered row lexicons
 
 abbrev μ-loop : tie.MeasureT-loop
-μ-loop image h last wanted taken₀ row₀ lexicons some₀ x₀ taken row some x = x
+μ-loop image h last wanted taken row₀ lexicons now₀ x₀ row now x = x
 
 loop-holds : tie.Need-loop-holds Inv-loop μ-loop
 loop-holds c = search needs
@@ -23,8 +23,8 @@ is-due-requires c κs = search needs
 append-requires : tie.Need-append-requires Inv-loop μ-loop
 append-requires c κs = search needs
 
-element-write-taken : tie.Need-element-write-taken Inv-loop μ-loop
-element-write-taken c = search needs
+shl-now : tie.Need-shl-now Inv-loop μ-loop
+shl-now c = search needs
 
 loop-less : tie.Need-loop-less Inv-loop μ-loop
 loop-less c = search needs
@@ -54,7 +54,7 @@ take-round-spec =
     sub-x
     is-due-requires
     append-requires
-    element-write-taken
+    shl-now
     loop-less
     loop-again
     loop-less-2

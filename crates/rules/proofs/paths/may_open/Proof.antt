@@ -1,53 +1,128 @@
--- `may_open` meets its contract: not after the end of a path, and from the first entry of the lexicon up to its last.
+-- `may_open` meets its contract: lexicon after lexicon, with the set moved on by one digit each.
+use borrow.Author.Needs.{needs}
+use borrow.Author.Tests.{not-true, not-false}
 use native.Mathlib.Omega.{arith}
-use mathlib.Core.Logic.{⊎-elim}
-use mathlib.Core.Path.{sym}
-use Prim.Native.Nat.{_<_}
-use Rattle.rules.proofs.PathLaws.{may-open-nowhere, may-open-before, may-open-after, may-open-inside}
+use native.Mathlib.Nat.{zero-add}
+use mathlib.Core.Bool.{Bool, true, false, _&&_}
+use mathlib.Core.List.{List}
+use mathlib.Core.Path.{_≡_, refl, sym, ap, ap₂, _∙_, subst}
+use Prim.Native.Nat.{ℕ, suc, _+_, _*_, _-_, _%_, _/_, _<_, _≤_}
+use lib.Dec.{leb, ltb, eqb}
+use Rattle.model.specs.Lists.{below, any, bit}
+use Rattle.model.specs.Lexicon.{entryCount, firstEntry, inLexicon}
+use Rattle.model.proofs.Booleans.{left-true, left-false}
+use Rattle.lexicon.proofs.Laws.{first-none, first-more}
+use Rattle.rules.specs.Paths.{inSome}
+use Rattle.rules.proofs.PathLaws.{named, none-more, some-here}
 use Rattle.rules.proofs.paths.may_open.Statement.{statement}
 use Rattle.rules.proofs.paths.may_open.Tie as tie
 
--- past the test, x is a lexicon
-lexicon : (c : tie.Else1) → c .before .before .args .x < c .before .before .args .h .lexicons
-lexicon c = ⊎-elim (λ l. l) (λ e. absurd (c .if1 .left e)) (c .before .before .pre .1)
+abbrev Inv-loop : tie.InvT-loop
+Inv-loop image h bits e lexicons first₀ rest₀ x₀ first rest x =
+    (x ≤ lexicons) × ((first ≡ firstEntry image x) × ((first ≤ 65535 * x) × (((i : ℕ) → bit rest i ≡ bit bits (x + i)) × (any (named image lexicons bits e) (below x) ≡ false))))
 
-returns : tie.Need-returns
-returns c = let a = c .before .before .args in sym (may-open-nowhere (a .image .now) (a .x) (a .e) (a .h .entries) (c .if1 .taken))
+abbrev μ-loop : tie.MeasureT-loop
+μ-loop image h bits e lexicons first₀ rest₀ x₀ first rest x = lexicons - x
 
-first-entry-requires : tie.Need-first-entry-requires
-first-entry-requires c κs = (c .before .before .pre .0, omega (arith, lexicon c))
+-- what is asked of lexicon x
+here-is : (image : List ℕ) (lexicons bits e x first next rest : ℕ) → first ≡ firstEntry image x → next ≡ first + entryCount image x → ((i : ℕ) → bit rest i ≡ bit bits (x + i))
+    → (eqb (rest % 2) 1 && (leb first e && ltb e next)) ≡ named image lexicons bits e x
+unfolding inLexicon
+here-is image lexicons bits e x first next rest a b d =
+    let z : x + 0 ≡ x = omega arith in
+    let n : next ≡ firstEntry image x + entryCount image x = b ∙ ap (λ (k : ℕ). k + entryCount image x) a in
+    let u : bit rest 0 ≡ bit bits x = d 0 ∙ ap (bit bits) z in
+    λ i. u i && (leb (a i) e && ltb e (n i))
 
-returns-2 : tie.Need-returns-2
+-- the turn's lexicon
+module _ (c : tie.After-is-here Inv-loop μ-loop) where
+  abbrev at : tie.At-loop Inv-loop μ-loop
+  at = c .before .before .before
+
+  abbrev start : tie.Start Inv-loop μ-loop
+  start = at .before .before
+
+  abbrev image : List ℕ
+  image = start .args .image .now
+
+  abbrev lexicons : ℕ
+  lexicons = start .args .h .lexicons
+
+  abbrev bits : ℕ
+  bits = start .args .bits
+
+  abbrev e : ℕ
+  e = start .args .e
+
+  abbrev x : ℕ
+  x = at .loop .x
+
+  seen : c .is-here .result ≡ named image lexicons bits e x
+  seen =
+      c .is-here .ensures
+      ∙ here-is image lexicons bits e x (at .loop .first) (at .loop .first + c .before .entry-count .result) (at .loop .rest) (at .loop .inv .1 .0) (ap (λ (n : ℕ). at .loop .first + n) (c .before .entry-count .ensures .0)) (at .loop .inv .1 .1 .1 .0)
+
+loop-holds : tie.Need-loop-holds Inv-loop μ-loop
+loop-holds c = let s = c .before in (omega arith, (sym (first-none (s .args .image .now)), (omega arith, (λ i. ap (bit (s .args .bits)) (sym (zero-add i)), refl))))
+
+entry-count-requires : tie.Need-entry-count-requires Inv-loop μ-loop
+entry-count-requires c κs = let s = c .before .before .before in (s .pre, omega arith)
+
+add-next : tie.Need-add-next Inv-loop μ-loop
+add-next c = let a = c .before .before in omega (arith, a .loop .inv .1 .1 .0, c .entry-count .ensures .1, a .before .before .pre .limits .lexicons-most)
+
+is-here-requires : tie.Need-is-here-requires Inv-loop μ-loop
+is-here-requires c κs = search needs
+
+returns : tie.Need-returns Inv-loop μ-loop
+returns c =
+    let h = c .before .before in
+    sym (left-true (inSome (image h) (lexicons h) (bits h) (e h)) (ltb (e h) (start h .args .h .entries)) (some-here (image h) (lexicons h) (bits h) (e h) (x h) (omega arith) (sym (seen h) ∙ c .before .if1 .taken)))
+
+add-x : tie.Need-add-x Inv-loop μ-loop
+add-x c = search needs
+
+loop-less : tie.Need-loop-less Inv-loop μ-loop
+loop-less c = search needs
+
+loop-again : tie.Need-loop-again Inv-loop μ-loop
+loop-again c =
+    let h = c .before in
+    let a = at h in
+    let count = h .before .entry-count in (
+      omega arith,
+      (
+        ap₂ (λ (m n : ℕ). m + n) (a .loop .inv .1 .0) (count .ensures .0) ∙ sym (first-more (image h) (x h)),
+        (
+          omega (arith, a .loop .inv .1 .1 .0, count .ensures .1),
+          (
+            λ i. let k : x h + suc i ≡ x h + 1 + i = omega arith in a .loop .inv .1 .1 .1 .0 (suc i) ∙ ap (bit (bits h)) k,
+            none-more (image h) (lexicons h) (bits h) (e h) (x h) (a .loop .inv .1 .1 .1 .1) (sym (seen h) ∙ c .if1 .left),
+          ),
+        ),
+      ),
+    )
+
+returns-2 : tie.Need-returns-2 Inv-loop μ-loop
 returns-2 c =
-    let a = c .before .before .before .before .args in
-    sym (may-open-before (a .image .now) (a .x) (a .e) (a .h .entries) (c .before .before .if1 .left) (omega (arith, c .before .first-entry .ensures .0)))
-
-entry-count-requires : tie.Need-entry-count-requires
-entry-count-requires c κs = (c .before .before .before .before .pre .0, lexicon (c .before .before))
-
-add-if3 : tie.Need-add-if3
-add-if3 c = omega (arith, c .before .before .first-entry .ensures .1, c .entry-count .ensures .1, lexicon (c .before .before .before), c .before .before .before .before .before .pre .0 .limits .lexicons-most)
-
-returns-3 : tie.Need-returns-3
-returns-3 c =
-    let first = c .before .before .before in
-    let a = first .before .before .before .args in
-    sym (may-open-after (a .image .now) (a .x) (a .e) (a .h .entries) (first .before .if1 .left) (omega (arith, first .first-entry .ensures .0)) (omega (arith, first .first-entry .ensures .0, c .before .entry-count .ensures .0)))
-
-returns-4 : tie.Need-returns-4
-returns-4 c =
-    let first = c .before .before .before .before in
-    let a = first .before .before .before .args in
-    sym (may-open-inside (a .image .now) (a .x) (a .e) (a .h .entries) (first .before .if1 .left) (omega (arith, first .first-entry .ensures .0)) (omega (arith, first .first-entry .ensures .0, c .before .before .entry-count .ensures .0)))
+    let a = c .before in
+    let s = a .before .before in
+    let done : s .args .h .lexicons ≡ a .loop .x = omega arith in
+    sym (left-false (inSome (s .args .image .now) (s .args .h .lexicons) (s .args .bits) (s .args .e)) (ltb (s .args .e) (s .args .h .entries))
+    (ap (λ (n : ℕ). any (named (s .args .image .now) (s .args .h .lexicons) (s .args .bits) (s .args .e)) (below n)) done ∙ a .loop .inv .1 .1 .1 .1))
 
 pub may-open-spec : {M : Type 1} → statement M
 may-open-spec =
     tie.close
     (tie.spec
-    returns
-    first-entry-requires
-    returns-2
+    Inv-loop
+    μ-loop
+    loop-holds
     entry-count-requires
-    add-if3
-    returns-3
-    returns-4)
+    add-next
+    is-here-requires
+    returns
+    add-x
+    loop-less
+    loop-again
+    returns-2)

@@ -4,8 +4,8 @@ use native.Mathlib.Omega.{arith}
 use mathlib.Core.Bool.{Bool, _||_}
 use mathlib.Core.Path.{sym, ap}
 use lib.Dec.{eqb}
-use Rattle.lexicon.proofs.is_continuation.Statement.{statement}
-use Rattle.lexicon.proofs.is_continuation.Tie as tie
+use Rattle.lexicon.proofs.ways.is_continuation.Statement.{statement}
+use Rattle.lexicon.proofs.ways.is_continuation.Tie as tie
 
 returns : tie.Need-returns
 returns c = let a = c .before .args in ap (λ (b : Bool). b || eqb (a .continuation) 255) (sym (lt-ltb (a .continuation) (a .lexicons) (omega arith)))

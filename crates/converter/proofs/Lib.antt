@@ -1,0 +1,4 @@
+pub mod Stores
+pub mod EntryLaws
+pub mod BlockLaws
+pub mod Replies

@@ -1,0 +1,42 @@
+-- `open_block` meets its contract: zeros, and two bytes over them.
+use borrow.Author.Needs.{needs}
+use Prim.Native.Nat.{ℕ, _<_}
+use native.Mathlib.Omega.{arith}
+use mathlib.Core.Path.{_≡_, refl, sym, ap, _∙_}
+use mathlib.Core.List.{List}
+use lib.ListN.{length, set, replicate}
+use Rattle.converter.proofs.Stores.{zeros}
+use Rattle.converter.proofs.blocks.open_block.Statement.{statement}
+use Rattle.converter.proofs.blocks.open_block.Tie as tie
+
+cast-block : tie.Need-cast-block
+cast-block c = record { fits = omega (arith, c .before .before .before .before .before .pre .1) }
+
+slice-write-block : tie.Need-slice-write-block
+slice-write-block c = omega (arith, c .before .before .clear .kept .0, c .before .before .before .before .before .pre .0)
+
+returns : tie.Need-returns
+returns c =
+    let cleared = c .before .before in
+    let s = cleared .before .before .before in
+    ap (λ (l : List ℕ). set (set l 2 6) 3 (s .args .n)) (cleared .clear .ensures ∙ ap zeros (s .pre .0))
+
+clear-requires : tie.Need-clear-requires
+clear-requires c κs = search needs
+
+slice-write-block-2 : tie.Need-slice-write-block-2
+slice-write-block-2 c = search needs
+
+same-length : tie.Need-same-length
+same-length c = search needs
+
+pub open-block-spec : {M : Type 1} → statement M
+open-block-spec =
+    tie.close
+    (tie.spec
+    clear-requires
+    slice-write-block
+    cast-block
+    slice-write-block-2
+    same-length
+    returns)
