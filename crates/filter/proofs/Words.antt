@@ -3,7 +3,7 @@ use Prim.Native.Nat.{ℕ, zero, suc, _*_, _-_, _/_, _%_, _^_, _<_, _≤_}
 use native.Mathlib.Omega.{arith}
 use native.Mathlib.Nat.{pow-suc}
 use mathlib.Core.Bool.{Bool, cond}
-use mathlib.Core.Logic.{_⊎_, inl, inr}
+use mathlib.Core.Logic.{_⊎_, inl, inr, ⊎-elim}
 use mathlib.Core.Path.{_≡_, refl, sym, ap, _∙_, subst, fun-ext}
 use mathlib.Core.List.{List}
 use lib.ListN.{length, getD}
@@ -12,7 +12,7 @@ use lib.Dec.{T, ltb, eqb, eqb→eq, ltb→lt, not-T}
 use borrow.Author.Tests.{ne-eqb}
 use Rattle.model.specs.Lists.{isZero, bit}
 use Rattle.model.specs.Blocks.{header}
-use Rattle.model.specs.Lexicon.{entry, formOf, continuation}
+use Rattle.model.specs.Lexicon.{entry, formOf}
 use Rattle.model.specs.GrammarOf.{grammarOf}
 use Rattle.model.specs.Query.{Pattern, Query, exactly, anything}
 use Rattle.model.proofs.Booleans.{and-out, eq→eqb}
@@ -23,8 +23,10 @@ use Rattle.positions.specs.Masks.{backSpreadMask}
 use Rattle.positions.specs.Stack.{setOf, deletesOf, feasibleOf, reachOf, Begins}
 use Rattle.forms.specs.Forms.{rowsIn, flagsIn, FormsOf}
 use Rattle.filter.specs.Letters.{Wrote}
-use Rattle.filter.proofs.Backwards.{Means, spread-means}
-use Rattle.filter.proofs.Reach.{Continues, leads-within, inserted-within}
+use Rattle.filter.specs.Sets.{Means}
+use Rattle.filter.proofs.Backwards.{spread-means}
+use Rattle.filter.proofs.Afterward.{after-from}
+use Rattle.filter.proofs.Reach.{leads-within, inserted-within}
 
 -- a word allows letters at its own places alone
 pub exactly-within : (word : List ℕ) (i s : ℕ) → T (exactly word .allows i s) → i < length word
@@ -110,10 +112,10 @@ module _ (image masks flags reach : List ℕ) (t path : Pattern) (n : ℕ) (ends
     lexicons : (x : ℕ) → x < header image .lexicons → getD reach x 0 ≡ 2 ^ suc n - 1
     lexicons x l = begins .lexicons x l ∙ ap (λ (m : ℕ). m - 1) (omega (arith, pow-suc 2 n))
 
-  ends-at : Means (setOf masks flags) (deletesOf masks flags) (2 ^ n) (λ k. T (eqb k n))
+  ends-at : Means (2 ^ n) (λ k. T (eqb k n))
   ends-at = record { only = λ i t. eq→eqb i n (one-only n i t); all = λ i t. subst (λ (x : ℕ). T (bit (2 ^ n) x)) (sym (eqb→eq i n t)) (one-has n) }
 
-  end-means : Means (setOf masks flags) (deletesOf masks flags) (backSpreadMask 8 (setOf masks flags 0) (2 ^ n)) (Inserted f 8 (λ k. T (eqb k n)))
+  end-means : Means (backSpreadMask 8 (setOf masks flags 0) (2 ^ n)) (Inserted f 8 (λ k. T (eqb k n)))
   end-means = spread-means (setOf masks flags) (deletesOf masks flags) 8 (2 ^ n) (λ k. T (eqb k n)) ends-at
 
   -- whatever is kept stands within the word
@@ -125,13 +127,18 @@ module _ (image masks flags reach : List ℕ) (t path : Pattern) (n : ℕ) (ends
       inserted-within f n 8 (λ k. T (eqb k n)) (λ k z. omega (arith, eqb→eq k n z)) k
       (end-means .only k (subst (λ (m : ℕ). T (bit m k)) (b .ends) (subst (λ (y : ℕ). T (reachOf reach y k)) e t)))
 
-  pub word-reaches : Begun → Continues image (asksWord t path) f → Reaches image (asksWord t path) f (reachOf reach)
-  word-reaches b c = record {
-    continues = c;
+  -- and so does what is kept after an entry
+  after-within : Begun → (e k : ℕ) → T (afterIn image (reachOf reach) e k) → k ≤ n
+  after-within b e k t =
+      ⊎-elim
+      (λ u. kept-within b 255 (inr refl) k (u .1))
+      (λ u. kept-within b (u .0) (inl (u .1 .0)) k (u .1 .1 .1))
+      (after-from image (reachOf reach) e k t)
+
+  pub word-reaches : Begun → Reaches image (asksWord t path) f (reachOf reach)
+  word-reaches b = record {
     at-end = λ i s. subst (λ (m : ℕ). T (bit m i)) (sym (b .ends)) (end-means .all i (subst (λ (h : ℕ → Bool). Inserted f 8 (λ k. T (h k)) i) (fun-ext ends) s));
-    onward = λ x l e inside has i s.
-        let on : ℕ → Type 0 = λ k. T (afterIn image (asksWord t path) f (reachOf reach) e k) in
-        place x l i (leads-within f n (formOf (entry image e)) on (λ k t. kept-within b (continuation (entry image e)) (c e inside) k t) i s);
+    onward = λ x l e inside has i s. place x l i (leads-within f n (formOf (entry image e)) (λ k. T (afterIn image (reachOf reach) e k)) (after-within b e) i s);
   }
     where
       place : (x : ℕ) → x < header image .lexicons → (i : ℕ) → i ≤ n → T (reachOf reach x i)

@@ -2,17 +2,20 @@
 use Prim.Native.Nat.{ℕ, _<_, _≤_}
 use mathlib.Core.Logic.{_⊎_}
 use mathlib.Core.Path.{_≡_}
-use mathlib.Core.List.{List}
+use mathlib.Core.Bool.{true}
+use mathlib.Core.List.{List, List·Memᴰ}
 use lib.ListN.{length, getD}
+use lib.Dec.{T}
 use Rattle.model.specs.Blocks.{header}
 use Rattle.model.specs.GrammarOf.{grammarOf}
 use Rattle.model.specs.Query.{Pattern, Query}
-use Rattle.listing.specs.Opening.{mayEnter, mayEnterIn, Ranged}
+use Rattle.listing.specs.Opening.{mayEnter}
 use Rattle.forms.specs.Forms.{flagsIn, FormsOf}
 use Rattle.filter.specs.Reach.{Covers}
 use Rattle.filter.specs.Lexicons.{Reaches}
 use Rattle.positions.specs.Stack.{feasibleOf, reachOf, Filled, Reached}
-use Rattle.filter.specs.Survivors.{Surviving}
+use Rattle.filter.specs.Listed.{Rising}
+use Rattle.filter.specs.Survivors.{LeadsOn}
 
 -- no index of forms was made, or it is one of the image
 abbrev pub MayBe : List ℕ → List ℕ → Type 0
@@ -33,18 +36,12 @@ pub record Sieved (image : List ℕ) (q : Query) (forms masks reach : List ℕ) 
 abbrev pub Sieve : List ℕ → Query → List ℕ → List ℕ → List ℕ → Type 0
 Sieve image q forms masks reach = (length forms ≡ 0) ⊎ Sieved image q forms masks reach
 
--- xs are the survivors of the entries that may open after entry `last`
+-- xs are, ascending, entries that may open after entry `last`, and all of them that lead on
 pub record Chosen (image : List ℕ) (path : Pattern) (forms masks reach : List ℕ) (last first : ℕ) (xs : List ℕ) : Type 0 where
   pub some : length forms ≡ 0 → ⊥
-  pub low : ℕ
-  pub high : ℕ
-  pub ranged : (n : ℕ) → Ranged (mayEnter image path last n) (header image .entries) low high
-  pub surviving : Surviving image masks (flagsIn forms) reach first low high xs
-
--- lexicon x comes next, or, where it is 255, none does
-pub record LexiconOn (image : List ℕ) (last x : ℕ) : Type 0 where
-  pub inside : (x ≡ 255 → ⊥) → x < header image .lexicons
-  pub ways : (x ≡ 255 → ⊥) → (path : Pattern) (n e : ℕ) → mayEnter image path last n e ≡ mayEnterIn image path x n e
+  pub rising : Rising 0 (header image .entries) xs
+  pub opens : (n k : ℕ) → k < length xs → mayEnter image path last n (getD xs k 0) ≡ true
+  pub others : (n e : ℕ) → T (mayEnter image path last n e) → (List·Memᴰ e xs → ⊥) → LeadsOn image masks (flagsIn forms) reach first e → ⊥
 
 -- what is kept of each lexicon still leaves nothing out
 pub record Narrower (image forms masks reach reach′ : List ℕ) : Type 0 where

@@ -3,6 +3,7 @@
 ghost use Rattle.forms.specs.Filling.{Cleared};
 
 pub mod pairs;
+pub mod slot;
 pub mod slots;
 
 // Where each part of the index begins, and where the last ends; rows of letters stand first.

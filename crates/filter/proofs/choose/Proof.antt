@@ -1,41 +1,66 @@
--- `filter::choose` meets its contract.
-use Prim.Native.Nat.{ℕ, _<_, _≤_}
+-- `filter::choose` meets its contract: where any path will do, the lexicons that come next are a set, and the survivors of its lexicons are all that lead on.
+use Prim.Native.Nat.{ℕ, _-_, _^_, _<_, _≤_}
 use native.Mathlib.Omega.{arith}
 use borrow.Author.Needs.{needs}
-use mathlib.Core.Logic.{inl, inr, ⊎-elim}
-use mathlib.Core.Path.{_≡_, refl, ap}
-use lib.ListN.{length}
+use mathlib.Core.Logic.{_⊎_, inl, inr, ⊎-elim}
+use mathlib.Core.Path.{_≡_, refl, sym, ap, _∙_, subst}
+use mathlib.Core.List.{List}
+use lib.ListN.{length, take}
 use Rattle.model.specs.Blocks.{Header, header}
 use Rattle.model.specs.Query.{anything}
-use Rattle.model.specs.Refusals.{rightEntries}
-use Rattle.model.proofs.Booleans.{of-true}
 use Rattle.image.specs.Header.{headerOf}
-use Rattle.lexicon.proofs.Laws.{lexicon-within}
+use Rattle.digits.proofs.Bits.{digit-most}
 use Rattle.listing.specs.declared.asked.PathAsked.{PathAsked}
 use Rattle.listing.specs.Asked.{pathPattern}
-use Rattle.listing.proofs.Ranges.{ranged-as, anything-range}
-use Rattle.filter.specs.Sieve.{Sieved}
+use Rattle.listing.specs.Opening.{Known}
+use Rattle.forms.specs.Forms.{flagsIn}
+use Rattle.filter.specs.Sieve.{Sieved, Chosen}
+use Rattle.filter.specs.Survivors.{SurvivingSet}
+use Rattle.filter.proofs.Choosing.{set-chosen}
 use Rattle.filter.proofs.choose.Statement.{statement}
 use Rattle.filter.proofs.choose.Tie as tie
 
--- there is an index of forms
-known : (s : tie.Start) → (length (s .args .forms .now) ≡ 0 → ⊥) → Sieved (s .args .image .now) (s .pre .1 .1 .1 .1 .0) (s .args .forms .now) (s .args .masks .now) (s .args .reach .now)
-known s f = ⊎-elim (λ e. absurd (f e)) (λ r. r) (s .pre .1 .1 .1 .1 .1)
-
--- a lexicon of the image
-inside : (s : tie.Start) {x : ℕ} → x < header (s .args .image .now) .lexicons → x < s .args .h .lexicons
-inside s h = omega (arith, h, ap (λ (g : Header). g .lexicons) (s .pre .0 .laid .header-is))
-
-few : (c : tie.After-lexicon-range) → c .lexicon-range .result .low ≤ 2800
-few c =
-    let s = c .before .before .before .before .before .before .before .before .before .before .before .before .before in
-    let image = s .args .image .now in
-    omega (arith, c .lexicon-range .ensures .0, lexicon-within image (headerOf (s .args .h)) (s .pre .0 .laid) (of-true (rightEntries image) (s .pre .0 .entries-right)) (c .before .before .lexicon-on .result) (inside s (c .before .before .lexicon-on .ensures .inside (c .before .if2 .left))), s .pre .0 .laid .limits .entries-most)
-
--- any path will do
-told : (s : tie.Start) → s .args .asked ≡ PathAsked.Anything → pathPattern (s .args .asked) (s .args .path .now) ≡ anything
+-- what is asked of the path, where any will do
+any-path : (asked : PathAsked) (path : List ℕ) → asked ≡ PathAsked.Anything → pathPattern asked path ≡ anything
 unfolding pathPattern
-told s e = rw e refl
+any-path asked path e = rw e refl
+
+-- where the function begins
+abbrev lent-from : tie.After-slice-known → tie.Start
+lent-from c = let masks = c .before .before .before in masks .before .before .before .before
+
+-- any path will do, and there is an index of forms: the lexicons that come next
+module _ (c : tie.After-set-on) where
+  abbrev there : tie.Else1
+  there = c .before .before .before
+
+  abbrev s : tie.Start
+  s = lent-from (there .before)
+
+  abbrev bits : ℕ
+  bits = c .set-on .result
+
+  sieved : Sieved (s .args .image .now) (s .pre .1 .1 .1 .1 .0) (s .args .forms .now) (s .args .masks .now) (s .args .reach .now)
+  sieved = ⊎-elim (λ e. absurd (there .if1 .left e)) (λ r. r) (s .pre .1 .1 .1 .1 .1)
+
+  told : pathPattern (s .args .asked) (s .args .path .now) ≡ anything
+  told = any-path (s .args .asked) (s .args .path .now) (c .before .enum-told2 .given .1)
+
+  known : Known bits (s .args .h .lexicons)
+  known = subst (λ (g : Header). Known bits (g .lexicons)) (sym (s .pre .0 .laid .header-is)) (c .set-on .ensures .known)
+
+  abbrev Told : ℕ → List ℕ → Type 0
+  Told r list =
+      (r ≡ 65)
+      ⊎ ((r ≤ 64) × Chosen (s .args .image .now) (pathPattern (s .args .asked) (s .args .path .now)) (s .args .forms .now) (s .args .masks .now) (s .args .reach .now) (s .args .last) (2 ^ s .args .letters) (take r list))
+
+  chosen : (set r : ℕ) (list : List ℕ) → set ≡ bits → (r ≡ 65) ⊎ ((r ≤ length (s .args .list .now)) × SurvivingSet (s .args .image .now) (s .args .masks .now) (flagsIn (s .args .forms .now)) (s .args .reach .now) (2 ^ s .args .letters) set (take r list))
+      → Told r list
+  chosen set r list e =
+      ⊎-elim {C = Told r list} inl
+      (λ u. inr (omega (arith, u .0, s .pre .1 .1 .1 .0 .1), subst (λ path. Chosen (s .args .image .now) path (s .args .forms .now) (s .args .masks .now) (s .args .reach .now) (s .args .last) (2 ^ s .args .letters) (take r list)) (sym told)
+      (set-chosen (s .args .image .now) (s .args .forms .now) (s .args .masks .now) (s .args .reach .now) (s .args .last) (2 ^ s .args .letters) bits (there .if1 .left) (c .set-on .ensures) (take r list)
+      (subst (λ (n : ℕ). SurvivingSet (s .args .image .now) (s .args .masks .now) (flagsIn (s .args .forms .now)) (s .args .reach .now) (2 ^ s .args .letters) n (take r list)) e (u .1)))))
 
 returns : tie.Need-returns
 returns c = inl refl
@@ -46,44 +71,53 @@ enum-told c = search needs
 enum-told-2 : tie.Need-enum-told-2
 enum-told-2 c = search needs
 
-lexicon-on-requires : tie.Need-lexicon-on-requires
-lexicon-on-requires c κs = search needs
+set-on-requires : tie.Need-set-on-requires
+set-on-requires c κs = let s = lent-from (c .before .before .before) in (s .pre .0, s .pre .1 .1 .0)
 
 returns-2 : tie.Need-returns-2
 returns-2 c = inl refl
 
-lexicon-range-requires : tie.Need-lexicon-range-requires
-lexicon-range-requires c κs = let s = c .before .before .before .before .before .before .before .before .before .before .before .before in (s .pre .0, (s .pre .1 .0, omega (arith, c .before .lexicon-on .ensures .inside (c .if2 .left), ap (λ (g : Header). g .lexicons) (s .pre .0 .laid .header-is))))
+lowest-requires : tie.Need-lowest-requires
+lowest-requires c κs = search needs
 
-add-if3 : tie.Need-add-if3
-add-if3 c = record { fits = omega (arith, few c) }
+without-requires : tie.Need-without-requires
+without-requires c κs = (c .lowest .ensures .0 .there, c .lowest .ensures .1)
 
-returns-3 : tie.Need-returns-3
-returns-3 c = inl refl
-
-among-requires : tie.Need-among-requires
-among-requires c κs =
-    let s = c .before .before .before .before .before .before .before .before .before .before .before .before .before .before .before in
-    let range = c .before .before in
-    let sieved = known s (c .before .before .before .before .before .before .before .if1 .left) in
-    (sieved .forms-of, ((sieved .filled, sieved .reached), ((range .before .before .lexicon-on .result, (range .before .before .lexicon-on .ensures .inside (range .before .if2 .left), range .lexicon-range .ensures)), (omega (arith, range .lexicon-range .ensures .0, range .lexicon-range .ensures .1), s .pre .1 .1 .1 .0))))
-
-returns-4 : tie.Need-returns-4
-returns-4 c = inl refl
+choose-one-requires : tie.Need-choose-one-requires
+choose-one-requires c κs =
+    let low = c .before .before .before in
+    let t = low .before .before in
+    (s t .pre .0, (s t .pre .1 .0, (sieved t .forms-of, ((sieved t .filled, sieved t .reached), (known t (low .lowest .result) (low .lowest .ensures .0 .there), (s t .pre .1 .1 .1 .0 .0, omega (arith, s t .pre .1 .1 .1 .0 .1)))))))
 
 same-length : tie.Need-same-length
 same-length c = search needs
 
+returns-3 : tie.Need-returns-3
+returns-3 c =
+    let called = c .before .before in
+    let less = called .before .before .before in
+    let low = less .before in
+    let t = low .before .before in
+    let x = low .lowest in
+    let one : 2 ^ x .result ≡ bits t = omega (arith, less .without .ensures, called .before .before .if3 .taken, digit-most (bits t) (x .result) (x .ensures .0 .there)) in
+    chosen t (2 ^ x .result) (called .choose-one .result) _ one (called .choose-one .ensures)
+
+choose-each-requires : tie.Need-choose-each-requires
+choose-each-requires c κs =
+    let t = c .before .before .before .before .before in
+    (s t .pre .0, (s t .pre .1 .0, (sieved t .forms-of, ((sieved t .filled, sieved t .reached), (known t, (s t .pre .1 .1 .1 .0 .0, omega (arith, s t .pre .1 .1 .1 .0 .1)))))))
+
+returns-4 : tie.Need-returns-4
+returns-4 c = inl refl
+
+same-length-2 : tie.Need-same-length-2
+same-length-2 c = search needs
+
 returns-5 : tie.Need-returns-5
 returns-5 c =
-    let s = c .before .before .before .before .before .before .before .before .before .before .before .before .before .before .before .before .before .before in
-    let range = c .before .before .before .before .before in
-    let a = s .args in
-    let on = range .before .before .lexicon-on in
-    let other = range .before .if2 .left in
-    ⊎-elim inl
-    (λ r. inr (r .0, record { some = c .before .before .before .before .before .before .before .before .before .before .if1 .left; low = range .lexicon-range .result .low; high = range .lexicon-range .result .high; ranged = λ n. rw (told s (range .before .before .before .enum-told2 .given .1)) (ranged-as (on .ensures .ways other anything n) (anything-range (a .image .now) (headerOf (a .h)) (s .pre .0) (on .result) (inside s (on .ensures .inside other)) (range .lexicon-range .result .low) (range .lexicon-range .result .high) (range .lexicon-range .ensures .0) (range .lexicon-range .ensures .1) n)); surviving = r .1 }))
-    (c .before .before .among .ensures)
+    let called = c .before .before in
+    let t = called .before .before .before .before .before .before in
+    chosen t (bits t) (called .choose-each .result) _ refl (called .choose-each .ensures)
 
 pub choose-spec : {M : Type 1} → statement M
 choose-spec =
@@ -92,12 +126,14 @@ choose-spec =
     returns
     enum-told
     enum-told-2
-    lexicon-on-requires
+    set-on-requires
     returns-2
-    lexicon-range-requires
-    add-if3
-    returns-3
-    among-requires
-    returns-4
+    lowest-requires
+    without-requires
+    choose-one-requires
     same-length
+    returns-3
+    choose-each-requires
+    returns-4
+    same-length-2
     returns-5)

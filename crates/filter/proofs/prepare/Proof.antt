@@ -3,18 +3,13 @@ use Prim.Native.Nat.{ℕ, _<_, _≤_, _^_}
 use native.Mathlib.Omega.{arith}
 use native.Mathlib.Decide.{decLt}
 use borrow.Author.Needs.{needs}
-use mathlib.Core.Logic.{_⊎_, inl, inr, ⊎-elim}
 use mathlib.Core.Path.{_≡_, refl, sym, ap, subst}
 use mathlib.Core.List.{List}
 use lib.ListN.{length, getD, replicate, getD-replicate, List·getD-eq-default}
 use lib.Pow.{pow-pos, pow-mono}
 use Rattle.model.specs.Blocks.{Header, header}
-use Rattle.model.specs.Lexicon.{entry, continuation}
-use Rattle.model.specs.Refusals.{rightEntries}
 use Rattle.model.specs.Query.{Pattern, exactly}
-use Rattle.model.proofs.Booleans.{of-true}
 use Rattle.image.specs.Accepted.{Accepted}
-use Rattle.lexicon.proofs.Laws.{continuation-right}
 use Rattle.forms.specs.Letters.{Rowed}
 use Rattle.forms.specs.Forms.{flagsIn, FormsOf}
 use Rattle.filter.specs.Letters.{Wrote}
@@ -35,13 +30,6 @@ none e a = rw e (go (decLt a 128))
 
 filled : {image forms rows masks : List ℕ} {t : Pattern} {n : ℕ} → FormsOf image forms → Wrote rows t masks n → Filled masks (flagsIn forms)
 filled {image} {forms} f w = record { long = w .long; flags-long = part-long forms 30976 128 (omega (arith, f .long)); letters-in = w .few }
-
--- an entry goes on with a lexicon, or ends
-continues : {image : List ℕ} {h : Header} → Accepted image h → (e : ℕ) → e < header image .entries → (continuation (entry image e) < header image .lexicons) ⊎ (continuation (entry image e) ≡ 255)
-continues {image} {h} a e inside =
-    let l = a .laid in
-    ⊎-elim (λ k. inl (omega (arith, k, ap (λ (g : Header). g .lexicons) (l .header-is)))) inr
-    (continuation-right image h l (of-true (rightEntries image) (a .entries-right)) e (omega (arith, inside, ap (λ (g : Header). g .entries) (l .header-is))))
 
 lexicons-few : {image : List ℕ} {h : Header} → Accepted image h → header image .lexicons ≤ 64
 lexicons-few a = omega (arith, a .laid .limits .lexicons-most, ap (λ (g : Header). g .lexicons) (a .laid .header-is))
@@ -98,7 +86,7 @@ returns c = λ path.
       reached = done .reached;
       covers = word-covers image (s .args .forms .now) masks (exactly word) path (length word) (exactly-within word) forms wrote;
       reaches = done .reaches (asksWord (exactly word) path)
-          (word-reaches image masks flags reach (exactly word) path (length word) (λ k. refl) (lexicons-few (s .pre .0)) begun (continues (s .pre .0)));
+          (word-reaches image masks flags reach (exactly word) path (length word) (λ k. refl) (lexicons-few (s .pre .0)) begun);
     }
 
 pub prepare-spec : {M : Type 1} → statement M

@@ -1,4 +1,4 @@
--- `filter::onward::renew` meets its contract.
+-- `filter::onward::renew` meets its contract: the parts of the index of forms, and the range of the lexicon.
 use Prim.Native.Nat.{ℕ, _<_}
 use native.Mathlib.Omega.{arith}
 use borrow.Author.Needs.{needs}
@@ -16,34 +16,43 @@ use Rattle.filter.proofs.Parts.{slotted}
 use Rattle.filter.proofs.onward.renew.Statement.{statement}
 use Rattle.filter.proofs.onward.renew.Tie as tie
 
+abbrev lent-from : tie.After-lexicon-range → tie.Start
+lent-from c = let masks = c .before .before in masks .before .before .before .before
+
+abbrev read-from : tie.After-slots → tie.Start
+read-from c = lent-from (c .before .before)
+
 lexicon-range-requires : tie.Need-lexicon-range-requires
 lexicon-range-requires c κs = search needs
 
 flags-requires : tie.Need-flags-requires
-flags-requires c κs = c .before .before .before .before .before .before .pre .1 .1 .0 .long
+flags-requires c κs = lent-from c .pre .1 .1 .0 .long
 
 slots-requires : tie.Need-slots-requires
-slots-requires c κs = c .before .before .before .before .before .before .before .pre .1 .1 .0 .long
+slots-requires c κs = lent-from (c .before) .pre .1 .1 .0 .long
 
 replace-requires : tie.Need-replace-requires
 replace-requires c κs =
-    let s = c .before .before .before .before .before .before .before .before .before in
     let slots = c .before in
     let flags = slots .before in
+    let s = read-from slots in
     let range = flags .before .lexicon-range .ensures in
     let forms = s .args .forms .now in
     let laid = s .pre .0 .laid in
     let y = s .pre .1 .1 .1 .1 .1 in
     let inside : s .args .y < header (s .args .image .now) .lexicons = omega (arith, y, ap (λ (g : Header). g .lexicons) (laid .header-is)) in
     let all = lexicon-within (s .args .image .now) (headerOf (s .args .h)) laid (of-true (rightEntries (s .args .image .now)) (s .pre .0 .entries-right)) (s .args .y) y in (
-      subst (Filled (s .args .masks .now)) (sym (flags .flags .ensures)) (s .pre .1 .1 .1 .0),
+      s .pre .0,
       (
-        s .pre .1 .1 .1 .1 .0,
+        subst (Filled (s .args .masks .now)) (sym (flags .flags .ensures)) (s .pre .1 .1 .1 .0),
         (
-          (sharedIn forms, skipsIn forms, slotted (s .pre .1 .1 .0) (s .args .y) inside (range .0) (range .1) (slots .slots .ensures) refl refl),
+          s .pre .1 .1 .1 .1 .0,
           (
-            (omega (arith, y, laid .limits .lexicons-most), inside),
-            (range .0, (range .1, (omega (arith, range .0, range .1), omega (arith, range .1, all, ap (λ (g : Header). g .entries) (laid .header-is))))),
+            (sharedIn forms, skipsIn forms, slotted (s .pre .1 .1 .0) (s .args .y) inside (range .0) (range .1) (slots .slots .ensures) refl refl),
+            (
+              (omega (arith, y, laid .limits .lexicons-most), inside),
+              (range .0, (range .1, (omega (arith, range .0, range .1), omega (arith, range .1, all, ap (λ (g : Header). g .entries) (laid .header-is))))),
+            ),
           ),
         ),
       ),
@@ -54,12 +63,15 @@ same-length c = search needs
 
 returns : tie.Need-returns
 returns c =
-    let a = c .before .before .before .before .before .before .before .before .before .before .before .before .args in
-    let done = c .before .before .replace in
-    let reach = done .last .1 .1 .1 .1 .1 .1 .1 .0 in
+    let done = c .before .before in
+    let slots = done .before .before in
+    let a = read-from slots .args in
+    let reach = done .replace .last .1 .1 .1 .1 .1 .1 .1 .1 .0 in
     record {
-      reached = done .ensures .0;
-      reaches = λ q. subst (λ (l : List ℕ). Reaches (a .image .now) q (feasibleOf (a .masks .now) l) (reachOf (a .reach .now)) → Reaches (a .image .now) q (feasibleOf (a .masks .now) l) (reachOf reach)) (c .before .before .before .before .before .flags .ensures) (done .ensures .1 q);
+      reached = done .replace .ensures .0;
+      reaches = λ q. subst
+          (λ (l : List ℕ). Reaches (a .image .now) q (feasibleOf (a .masks .now) l) (reachOf (a .reach .now)) → Reaches (a .image .now) q (feasibleOf (a .masks .now) l) (reachOf reach))
+          (slots .before .flags .ensures) (done .replace .ensures .1 q);
     }
 
 pub renew-spec : {M : Type 1} → statement M
