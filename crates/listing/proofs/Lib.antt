@@ -4,5 +4,6 @@ pub mod Levels
 pub mod Places
 pub mod Taking
 pub mod Ranges
+pub mod Unasked
 pub mod Searching
 pub mod Both

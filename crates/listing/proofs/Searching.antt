@@ -26,6 +26,7 @@ use Rattle.listing.specs.Opening.{mayEnter}
 use Rattle.listing.specs.Search.{nodeAt, headOf, foundAt, entryOne}
 use Rattle.listing.proofs.Gather.{branch, gather-open, gather-pair, gather-last, stepsFrom-stop, stepsFrom-enter, stepsFrom-pair}
 use Rattle.listing.proofs.Loops.{flatMap-only, below-low}
+use Rattle.listing.proofs.Unasked.{none-given, unasked}
 
 all-empty : {B : Type 0} (f : ℕ → List B) (n : ℕ) → ((x : ℕ) → f x ≡ []) → flatMap f (below n) ≡ []
 all-empty f n e = below-low f n n (λ x h. e x) (omega arith)
@@ -85,6 +86,15 @@ module _ (image : List ℕ) (q : Query) (place : Place) (trail : Trail) where
   pub stop-none : stopsAfter image (place .last) ≡ false → stopOne ≡ []
   unfolding mayAt nodeOf
   stop-none e = same-none (stopsAfter image (place .last)) _ e
+
+  -- nor does one that may end, where what is asked of it does not let it
+  pub stop-unasked : (stopsAfter image (place .last) && q .entries .mayEnd (trail .entries)) ≡ false → stopOne ≡ []
+  unfolding mayAt goAt nodeOf
+  stop-unasked e = go (stopsAfter image (place .last)) refl
+    where
+      go : (b : Bool) → stopsAfter image (place .last) ≡ b → stopOne ≡ []
+      go false f = stop-none f
+      go true f = none-given (stopsAfter image (place .last)) (unasked g q (pred (stepsFrom n)) (goAt g q true n 0) r refl (ap (λ (b : Bool). b && q .entries .mayEnd (trail .entries)) (sym f) ∙ e))
 
   entry-may : trail .entries < 16 → (e : ℕ) (b : Bool) → mayEnter image (q .entries) (place .last) (trail .entries) e ≡ b → mayAt g q true n (suc e) ≡ b
   unfolding mayAt nodeOf

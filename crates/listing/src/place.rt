@@ -1,6 +1,6 @@
 // Where a search stands: the letters left of the last entry, that entry, counts, and the rules' states.
 ghost use mathlib.Core.Path.{_≡_};
-ghost use mathlib.Core.Bool.{true};
+ghost use mathlib.Core.Bool.{true, _&&_};
 ghost use mathlib.Core.List.{List};
 ghost use Prim.Native.Nat.{ℕ, suc, _<_};
 ghost use Rattle.model.specs.GrammarOf.{grammarOf};
@@ -8,7 +8,9 @@ ghost use Rattle.model.specs.Query.{Query};
 ghost use Rattle.model.specs.Tree.{goAt};
 ghost use Rattle.image.specs.Header.{headerOf};
 ghost use Rattle.image.specs.Accepted.{Accepted};
+ghost use Rattle.listing.specs.Asked.{pathPattern};
 ghost use Rattle.listing.specs.Places.{stopsAfter, nodeOf, Standing, OnlyStops};
+use crate::asked::PathAsked;
 use crate::level::Level;
 use image::Header;
 
@@ -50,7 +52,7 @@ pub fn enter(image: &[u8], h: Header, place: Place, e: usize) -> Place
 }
 
 // Whether the path may end here.
-pub fn may_stop(image: &[u8], h: Header, place: Place) -> bool
+fn may_stop(image: &[u8], h: Header, place: Place) -> bool
     requires { ⌜ Accepted (now image) (headerOf h) ⌝ }
     requires { ⌜ Standing (now image) place ⌝ }
     ensures { λ r. ⌜ r ≡ stopsAfter (now (image .entry)) (place .last) ⌝ }
@@ -61,6 +63,25 @@ pub fn may_stop(image: &[u8], h: Header, place: Place) -> bool
     }
     let ways = lexicon::ways::ways_of(image, h, last);
     ways.stop
+}
+
+// Whether it does: whether what is asked of the path lets it end after its n entries, too.
+pub fn ends_here(
+    image: &[u8],
+    h: Header,
+    asked: PathAsked,
+    path: &[u8],
+    place: Place,
+    n: usize,
+) -> bool
+    requires { ⌜ Accepted (now image) (headerOf h) ⌝ }
+    requires { ⌜ Standing (now image) place ⌝ }
+    ensures { λ r. ⌜ r ≡ (stopsAfter (now (image .entry)) (place .last) && pathPattern asked (now (path .entry)) .mayEnd n) ⌝ }
+{
+    if !crate::asked::ends_entries(asked, path, n) {
+        return false;
+    }
+    may_stop(image, h, place)
 }
 
 // True only where the path can only end here: then it is ended without looking for entries. Where it is false, time is lost and nothing else.

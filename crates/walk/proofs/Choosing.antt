@@ -1,10 +1,10 @@
 -- What the filter leaves, where it was asked, is all that finds something.
 use Prim.Native.Nat.{ℕ, _<_, _^_}
-use native.Mathlib.Omega.{arith}
 use mathlib.Core.Logic.{⊎-elim}
 use mathlib.Core.Path.{_≡_}
 use mathlib.Core.List.{List}
 use lib.ListN.{length}
+use Rattle.model.specs.Blocks.{header}
 use Rattle.model.specs.Query.{Query}
 use Rattle.rows.specs.declared.Trail.{Trail}
 use Rattle.listing.specs.declared.place.Place.{Place}
@@ -21,8 +21,7 @@ sieved sieve some = ⊎-elim (λ e. absurd (some e)) (λ s. s) sieve
 pub chosen-listed : {image forms masks reach : List ℕ} {q : Query} {place : Place} {trail : Trail} {xs : List ℕ} → Sieve image q forms masks reach → trail .entries < 16 → Chosen image (q .entries) forms masks reach (place .last) (2 ^ place .surface .letters) xs → Listed image q place trail xs
 chosen-listed {image} {forms} {masks} {reach} {q} {place} {trail} {xs} sieve spare c =
     let s = sieved sieve (c .some) in
-    let r = c .ranged (trail .entries) in
     record {
-      may = λ k h. let u = rising-in (c .low) (c .high) xs (c .surviving .rising) k h in (omega (arith, u .1, r .in-bound), r .inside _ (u .0) (u .1));
-      all = survivors-found image masks (flagsIn forms) reach q (s .covers) (s .reaches) place trail (2 ^ place .surface .letters) (one-has (place .surface .letters)) spare (c .low) (c .high) r xs (c .surviving);
+      may = λ k h. (rising-in 0 (header image .entries) xs (c .rising) k h .1, c .opens (trail .entries) k h);
+      all = survivors-found image masks (flagsIn forms) reach q (s .covers) (s .reaches) place trail (2 ^ place .surface .letters) (one-has (place .surface .letters)) spare xs (c .rising) (c .others (trail .entries));
     }

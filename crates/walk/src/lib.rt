@@ -20,7 +20,7 @@ use listing::place::ENDED;
 use listing::place::Place;
 use rows::Trail;
 
-// Where every letter is paired: the path ends, where it may, and then each entry that may open does, or each that the filter leaves.
+// Where every letter is paired: the path ends, where it may and what is asked lets it, and then each entry that may open does, or each that the filter leaves.
 pub fn open(
     image: &[u8],
     index: &[u8],
@@ -47,7 +47,8 @@ pub fn open(
     ensures table { λ r. ⌜ Remembered (now (image .entry)) (queryBy asked (now (path .entry)) (now (word .entry))) (now (table .exit)) ⌝ }
 {
     let mut n = found;
-    if listing::place::may_stop(image, h, place) {
+    let path_asked = asked.path;
+    if listing::place::ends_here(image, h, path_asked, path, place, trail.entries) {
         let stopped = listing::place::stop(place);
         n = pair(
             image,
@@ -73,7 +74,6 @@ pub fn open(
     if trail.entries >= 16 {
         return n;
     }
-    let path_asked = asked.path;
     let level = place.surface;
     let mut list = [0u16; 64];
     let many = filter::choose(
@@ -158,7 +158,7 @@ pub fn open_each(
 {
     let path_asked = asked.path;
     let word_asked = asked.word;
-    let ways = listing::opening::ways_on(
+    let opening = listing::opening::ways_on(
         image,
         index,
         h,
@@ -170,7 +170,9 @@ pub fn open_each(
     let entries = h.entries;
     let mut n = found;
     let mut known = [0u8; 128];
-    let mut e = listing::opening::next_entry(h, ways, ways.low);
+    let first = listing::opening::next_entry(image, index, h, opening, opening.low);
+    let mut e = first.entry;
+    let mut ways = first.ways;
     while e < entries {
         let letter = ahead::starts::first_letter(image, h, e);
         let at = letter.0 as usize;
@@ -204,7 +206,9 @@ pub fn open_each(
                 return n;
             }
         }
-        e = listing::opening::next_entry(h, ways, e + 1);
+        let following = listing::opening::next_entry(image, index, h, ways, e + 1);
+        e = following.entry;
+        ways = following.ways;
     }
     n
 }

@@ -58,9 +58,12 @@ module _ (c : tie.After-set-on) where
       → Told r list
   chosen set r list e =
       ⊎-elim {C = Told r list} inl
-      (λ u. inr (omega (arith, u .0, s .pre .1 .1 .1 .0 .1), subst (λ path. Chosen (s .args .image .now) path (s .args .forms .now) (s .args .masks .now) (s .args .reach .now) (s .args .last) (2 ^ s .args .letters) (take r list)) (sym told)
-      (set-chosen (s .args .image .now) (s .args .forms .now) (s .args .masks .now) (s .args .reach .now) (s .args .last) (2 ^ s .args .letters) bits (there .if1 .left) (c .set-on .ensures) (take r list)
-      (subst (λ (n : ℕ). SurvivingSet (s .args .image .now) (s .args .masks .now) (flagsIn (s .args .forms .now)) (s .args .reach .now) (2 ^ s .args .letters) n (take r list)) e (u .1)))))
+      (λ u. inr (
+        omega (arith, u .0, s .pre .1 .1 .1 .0 .1),
+        subst (λ path. Chosen (s .args .image .now) path (s .args .forms .now) (s .args .masks .now) (s .args .reach .now) (s .args .last) (2 ^ s .args .letters) (take r list)) (sym told)
+            (set-chosen (s .args .image .now) (s .args .forms .now) (s .args .masks .now) (s .args .reach .now) (s .args .last) (2 ^ s .args .letters) bits (there .if1 .left) (c .set-on .ensures) (take r list)
+            (subst (λ (n : ℕ). SurvivingSet (s .args .image .now) (s .args .masks .now) (flagsIn (s .args .forms .now)) (s .args .reach .now) (2 ^ s .args .letters) n (take r list)) e (u .1))),
+      ))
 
 returns : tie.Need-returns
 returns c = inl refl

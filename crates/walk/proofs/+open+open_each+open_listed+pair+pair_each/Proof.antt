@@ -28,7 +28,7 @@ mod PairEach
 pub +open+open-each+open-listed+pair+pair-each-spec : {M : Type 1} → statement M
 +open+open-each+open-listed+pair+pair-each-spec = close shared.μ-open shared.μ-open-each shared.μ-open-listed shared.μ-pair shared.μ-pair-each
     (λ t. open-lts.spec (shared.open-claims t) (shared.open-at t) open.Post
-    (o.may-stop-requires t)
+    (o.ends-here-requires t)
     (o.stop-requires t)
     (o.pair-requires t)
     (o.same-length t)

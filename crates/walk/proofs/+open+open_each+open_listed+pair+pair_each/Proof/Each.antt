@@ -4,12 +4,12 @@ use Prim.Native.Nat.{ℕ, _+_, _<_}
 use native.Mathlib.Decide.{decLt}
 use native.Mathlib.Omega.{arith}
 use borrow.Author.Needs.{needs}
-use mathlib.Core.Bool.{Bool, false}
+use mathlib.Core.Bool.{Bool, true, false}
 use mathlib.Core.Logic.{inl, inr, ⊎-elim}
 use mathlib.Core.Path.{_≡_, refl, sym, ap, _∙_, subst}
 use mathlib.Core.List.{List, []}
 use lib.ListN.{length, set}
-use Rattle.model.specs.Blocks.{Header}
+use Rattle.model.specs.Blocks.{Header, header}
 use Rattle.model.specs.Query.{Query}
 use Rattle.image.specs.Header.{headerOf}
 use Rattle.rows.specs.Trail.{readingOf, withEntry, Holds}
@@ -17,9 +17,8 @@ use Rattle.rows.specs.Fill.{Roomy}
 use Rattle.rows.proofs.Longer.{longer-entry}
 use Rattle.rows.proofs.Fill.{put-keeps}
 use Rattle.listing.specs.Search.{entryOne}
-use Rattle.listing.specs.declared.opening.Range.{Range}
 use Rattle.listing.specs.Asked.{pathPattern, queryBy}
-use Rattle.listing.specs.Opening.{mayEnter, WaysOf, NextOf}
+use Rattle.listing.specs.Opening.{mayEnter, NextOf}
 use Rattle.walk.proofs.Turns.{turns-none, turns-more, turns-skip, turns-far, turns-stop, turns-all, turns-is}
 use Rattle.walk.proofs.Giving.{gave-turn, offered-same, offered-all, roomy-kept}
 use Rattle.ahead.proofs.Heads.{Opening, last-in, entry-few, entry-none, open-underway, open-less, open-turn}
@@ -28,11 +27,11 @@ use Rattle.walk.proofs.+open+open_each+open_listed+pair+pair_each.Lts-o
 use Rattle.walk.proofs.+open+open_each+open_listed+pair+pair_each.Proof.Shared.{Tabled, OfEach}
 
 -- none may open before the next one
-before-next : {may : ℕ → Bool} {bound e : ℕ} {ways : Range} → WaysOf may bound ways → NextOf may bound (ways .low) e → (k : ℕ) → k < e → may k ≡ false
-before-next {may} {bound} {e} {ways} r next k h = go (decLt k (ways .low))
+before-next : {may : ℕ → Bool} {bound e low : ℕ} → ((k : ℕ) → k < low → may k ≡ false) → NextOf may bound low e → (k : ℕ) → k < e → may k ≡ false
+before-next {may} {bound} {e} {low} before next k h = go (decLt k low)
   where
-    go : Dec (k < ways .low) → may k ≡ false
-    go (yes l) = r .before k l
+    go : Dec (k < low) → may k ≡ false
+    go (yes l) = before k l
     go (no l) = next .passed k (omega arith) h
 
 module _ (t : ℕ) where
@@ -57,7 +56,7 @@ module _ (t : ℕ) where
   start w = w .before .before .before .before .before .before .before .before .before .before .before
 
   abbrev head : Turn → Head
-  head c = c .before .before
+  head c = c .before .before .before
 
   abbrev turn : First → Turn
   turn c = c .before .before
@@ -78,23 +77,34 @@ module _ (t : ℕ) where
       (underway .accepted, (underway .indexed, last-in underway (s .pre .1 .1 .1 .0 .0)))
 
   -- the entries that may open
-  ways : (w : OfEach t lts.After-ways-on) → let a = w .before .before .before .before .before .before .before .before .before .before .args in WaysOf (mayEnter (a .image .now) (query (w .before .before .before .before .before .before .before .before .before .before) .entries) (a .place .last) (a .trail .entries)) (a .h .entries) (w .ways-on .result)
-  ways w =
-      let s = w .before .before .before .before .before .before .before .before .before .before in
-      let a = s .args in
-      subst (λ (n : ℕ). WaysOf (mayEnter (a .image .now) (query s .entries) (a .place .last) (a .trail .entries)) n (w .ways-on .result)) (ap (λ (g : Header). g .entries) (sym (s .pre .1 .0 .accepted .laid .header-is))) (w .ways-on .ensures)
+  abbrev told : OfEach t lts.After-ways-on → OfEach t lts.Start
+  told w = let lent = w .before .before .before .before in let later = lent .before .before .before in later .before .before .before
+
+  entries-are : (w : OfEach t lts.After-ways-on) → let a = told w .args in a .h .entries ≡ header (a .image .now) .entries
+  entries-are w = ap (λ (g : Header). g .entries) (told w .pre .1 .0 .accepted .laid .header-is)
 
   pub next-entry-requires : OfEach t lts.Need-next-entry-requires
-  next-entry-requires c κs = (omega arith, ways c .low-in)
+  next-entry-requires c κs =
+      let underway = told c .pre .1 .0 in
+      let ways = c .ways-on .ensures .0 in
+      (underway .accepted, (underway .indexed, (ways .known, (omega arith, omega (arith, ways .low-in, entries-are c)))))
 
   pub loop-holds : OfEach t lts.Need-loop-holds
   loop-holds c =
-      let s = start c in
+      let found = c .before in
+      let s = start found in
       let a = s .args in
-      let r = ways (c .before) in
-      let next = c .next-entry .ensures _ r in
-      let none : (e : ℕ) → e < c .next-entry .result → entryOne (a .image .now) (query s) (a .place) (a .trail) e ≡ [] = λ e k. entry-none (opening c) (query s) e (before-next r next e k) in
-      ((refl, s .pre .1 .1 .1 .1 .1 .1), ((next .onward, (next .in-bound, next .passes)), ((refl, s .pre .1 .1 .1 .1 .0 .1), (turns-far (c .next-entry .result) turns-none (omega arith) (λ e i k. none e k), known-none))))
+      let w = found .before in
+      let next = found .next-entry .ensures _ (w .ways-on .ensures .0) in
+      let e = found .next-entry .result .entry in
+      let none : (k : ℕ) → k < e → entryOne (a .image .now) (query s) (a .place) (a .trail) k ≡ [] = λ k h. entry-none (opening found) (query s) k (before-next (w .ways-on .ensures .1) (next .next) k h) in
+      let passes : e < a .h .entries → mayEnter (a .image .now) (query s .entries) (a .place .last) (a .trail .entries) e ≡ true = λ h. next .next .passes (omega (arith, h, entries-are w)) in (
+        (refl, s .pre .1 .1 .1 .1 .1 .1),
+        (
+          (next .ways, (omega (arith, next .low-is), (omega (arith, next .next .in-bound, entries-are w), passes))),
+          ((refl, s .pre .1 .1 .1 .1 .0 .1), (turns-far e turns-none (omega arith) (λ k i h. none k h), known-none)),
+        ),
+      )
 
   pub first-letter-requires : OfEach t lts.Need-first-letter-requires
   first-letter-requires c κs = (opening (head c) .underway .accepted, c .loop-test .taken)
@@ -201,7 +211,7 @@ module _ (t : ℕ) where
       let loop = here .before .loop in
       let next = at .enter in
       let passed = loop .inv .1 .1 .1 .0 in
-      let turn = open-turn (opening w) (loop .e) (longer here) (next .result) (next .ensures .0) (query s) (loop .inv .1 .0 .1 .1 (here .loop-test .taken)) in (
+      let turn = open-turn (opening w) (loop .e) (longer here) (next .result) (next .ensures .0) (query s) (loop .inv .1 .0 .1 .1 .1 (here .loop-test .taken)) in (
         ⊎-elim
             (λ e. inl (turns-stop (put-keeps (s .args .capacity)) (s .args .h .entries) (turns-more _ passed e refl) (omega (arith, here .loop-test .taken)) (c .if3 .taken)))
             (λ g. inr (gave-turn (s .args .h .entries) passed (here .loop-test .taken) g))
@@ -213,17 +223,23 @@ module _ (t : ℕ) where
   add-next-entry c = let here = turn (c .before .before) in omega (arith, entry-few (opening (head here)) (here .before .loop .e) (here .loop-test .taken))
 
   pub next-entry-requires-2 : OfEach t lts.Need-next-entry-requires-2
-  next-entry-requires-2 c κs = let here = turn (c .before .before) in (omega (arith, here .before .loop .inv .1 .0 .0), omega (arith, here .loop-test .taken))
+  next-entry-requires-2 c κs =
+      let here = turn (c .before .before) in
+      let underway = opening (head here) .underway in
+      let ways = here .before .loop .inv .1 .0 in
+      (underway .accepted, (underway .indexed, (ways .0 .known, (omega (arith, ways .1 .0), omega (arith, here .loop-test .taken)))))
 
   pub loop-less : OfEach t lts.Need-loop-less
   loop-less c =
-      let here = turn (c .before .before .before) in
-      let next = c .next-entry2 .ensures _ (ways (head here .before)) in
-      omega (arith, next .onward, here .loop-test .taken, next .in-bound)
+      let found = c .before in
+      let here = turn (found .before .before .before) in
+      let next = found .next-entry2 .ensures _ (here .before .loop .inv .1 .0 .0) .next in
+      omega (arith, next .onward, here .loop-test .taken, next .in-bound, entries-are (head here .before))
 
   pub loop-again : OfEach t lts.Need-loop-again
   loop-again c =
-      let done = c .before in
+      let found = c .before in
+      let done = found .before in
       let joined = done .before in
       let here = turn (joined .before) in
       let w = head here in
@@ -231,22 +247,23 @@ module _ (t : ℕ) where
       let o = opening w in
       let loop = here .before .loop in
       let letter = joined .before .before .first-letter in
-      let next = c .next-entry2 .ensures _ (ways (w .before)) in
+      let next = found .next-entry2 .ensures _ (loop .inv .1 .0 .0) in
+      let e = found .next-entry2 .result .entry in
       let known : List ℕ → Type 0 = Tabled (s .args .image .now) (query s) (s .args .table .now) in
       let passed =
       ⊎-elim
-      (λ v. turns-is (turns-more _ (loop .inv .1 .1 .1 .0) (offered-all (omega (arith, v .9 .left)) (v .4 .ensures .0)) (open-turn o (loop .e) (longer here) (v .1 .result) (v .1 .ensures .0) (query s) (loop .inv .1 .0 .1 .1 (here .loop-test .taken)))) (v .10) (v .12))
+      (λ v. turns-is (turns-more _ (loop .inv .1 .1 .1 .0) (offered-all (omega (arith, v .9 .left)) (v .4 .ensures .0)) (open-turn o (loop .e) (longer here) (v .1 .result) (v .1 .ensures .0) (query s) (loop .inv .1 .0 .1 .1 .1 (here .loop-test .taken)))) (v .10) (v .12))
       (λ v. turns-is (turns-skip (loop .inv .1 .1 .1 .0) (looked joined .barren (letter .result .0) (v .0 .left) (loop .e) (sym (letter .ensures .0)))) (v .1) (v .3))
       (done .if2 .came) in (
         ⊎-elim (λ v. subst known (sym (v .11)) (v .4 .kept .1 .1 .1 .1 .1 .1 .1 .1 .1 .1 .1 .1 .1 .1 .0 ∙ loop .inv .0 .0, v .4 .ensures .1)) (λ v. subst known (sym (v .2)) (loop .inv .0)) (done .if2 .came),
         (
-          (omega (arith, next .onward, loop .inv .1 .0 .0), (next .in-bound, next .passes)),
+          (next .ways, (omega (arith, next .low-is), (omega (arith, next .next .in-bound, entries-are (w .before)), λ h. next .next .passes (omega (arith, h, entries-are (w .before)))))),
           (
             (
               ⊎-elim (λ v. ap length (v .10) ∙ v .4 .kept .1 .1 .1 .1 .1 .1 .1 .1 .1 .1 .1 .0 ∙ loop .inv .1 .1 .0 .0) (λ v. ap length (v .1) ∙ loop .inv .1 .1 .0 .0) (done .if2 .came),
               ⊎-elim (λ v. omega (arith, v .12, v .9 .left)) (λ v. omega (arith, v .3, loop .inv .1 .1 .0 .1)) (done .if2 .came),
             ),
-            (turns-far (c .next-entry2 .result) passed (next .onward) (λ e i k. entry-none o (query s) e (next .passed e i k)), looked joined),
+            (turns-far e passed (next .next .onward) (λ k i h. entry-none o (query s) k (next .next .passed k i h)), looked joined),
           ),
         ),
       )
@@ -260,6 +277,6 @@ module _ (t : ℕ) where
   pub returns-2 : OfEach t lts.Need-returns-2
   returns-2 c =
       let at = c .before in
-      let w = at .before in
+      let w = at .before .before in
       let s = start w in
-      (inl (turns-all (s .args .h .entries) (at .loop .inv .1 .1 .1 .0) (omega (arith, c .loop-test .left, at .loop .inv .1 .0 .1 .0))), at .loop .inv .0 .1)
+      (inl (turns-all (s .args .h .entries) (at .loop .inv .1 .1 .1 .0) (omega (arith, c .loop-test .left, at .loop .inv .1 .0 .1 .1 .0))), at .loop .inv .0 .1)

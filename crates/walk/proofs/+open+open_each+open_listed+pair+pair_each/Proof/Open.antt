@@ -2,6 +2,7 @@
 use Prim.Native.Nat.{ℕ, _≤_}
 use native.Mathlib.Omega.{arith}
 use borrow.Author.Needs.{needs}
+use mathlib.Core.Bool.{true}
 use mathlib.Core.Logic.{inl, inr, ⊎-elim}
 use mathlib.Core.Path.{_≡_, refl, sym, ap, _∙_, subst}
 use mathlib.Core.List.{List}
@@ -9,15 +10,17 @@ use lib.ListN.{length}
 use Rattle.model.specs.Lists.{below, flatMap}
 use Rattle.model.specs.Query.{Query}
 use Rattle.model.specs.Readings.{Reading}
+use Rattle.model.proofs.Booleans.{and-out, of-true, true-of}
 use Rattle.image.specs.Header.{headerOf}
 use Rattle.rows.specs.Fill.{put, Roomy}
 use Rattle.rows.specs.Offering.{offerAll}
 use Rattle.rows.proofs.Offering.{offer-none}
 use Rattle.rows.proofs.Fill.{put-keeps}
 use Rattle.listing.specs.Asked.{queryBy}
+use Rattle.listing.specs.Places.{stopsAfter}
 use Rattle.listing.specs.Search.{foundAt, entryOne}
 use Rattle.dead.specs.Dead.{Remembered}
-use Rattle.listing.proofs.Searching.{stopOne, stop-none}
+use Rattle.listing.proofs.Searching.{stopOne, stop-unasked}
 use Rattle.walk.specs.Offered.{Offered}
 use Rattle.walk.proofs.Turns.{state-is}
 use Rattle.walk.proofs.Giving.{gave-same, gave-first, gave-next, offered-same, offered-all, roomy-kept}
@@ -34,14 +37,14 @@ module _ (t : ℕ) where
   abbrev from-lent : OfOpen t lts.After-slice-known2 → OfOpen t lts.Start
   from-lent c = let later = c .before .before .before in from-shared (later .before .before)
 
-  abbrev start : OfOpen t lts.After-may-stop → OfOpen t lts.Start
+  abbrev start : OfOpen t lts.After-ends-here → OfOpen t lts.Start
   start c = from-lent (c .before)
 
   -- where the path has ended, and where what its ending finds has been searched for
   abbrev Ended : Type 0
   Ended = OfOpen t lts.After-stop
 
-  abbrev may-end : Ended → OfOpen t lts.After-may-stop
+  abbrev may-end : Ended → OfOpen t lts.After-ends-here
   may-end c = c .before .before
 
   abbrev ended : OfOpen t lts.After-pair → Ended
@@ -95,8 +98,8 @@ module _ (t : ℕ) where
   query s = queryBy (s .args .asked) (s .args .path .now) (s .args .word .now)
 
   -- whether the path ends here
-  pub may-stop-requires : OfOpen t lts.Need-may-stop-requires
-  may-stop-requires c κs = let underway = from-lent c .pre .1 .0 in (underway .accepted, underway .stands)
+  pub ends-here-requires : OfOpen t lts.Need-ends-here-requires
+  ends-here-requires c κs = let underway = from-lent c .pre .1 .0 in (underway .accepted, underway .stands)
 
   pub stop-requires : OfOpen t lts.Need-stop-requires
   stop-requires c κs = search needs
@@ -109,6 +112,14 @@ module _ (t : ℕ) where
       let o = s .pre .1 .1 .1 .0 in
       let less = stop-less (s .pre .1 .0) o (place .result) (place .ensures .0) (query s) in
       (omega (arith, s .pre .0, less), (stop-underway (s .pre .1 .0) o (place .result) (place .ensures .0) (place .ensures .1), (s .pre .1 .1 .0, s .pre .1 .1 .1 .1)))
+
+  -- it may end here, and what is asked lets it
+  may-stop : (c : Ended) → let a = start (may-end c) .args in stopsAfter (a .image .now) (a .place .last) ≡ true
+  may-stop c =
+      let s = start (may-end c) in
+      let a = s .args in
+      let both = of-true _ (sym (may-end c .ends-here .ensures) ∙ c .before .if1 .taken) in
+      true-of _ (and-out (stopsAfter (a .image .now) (a .place .last)) (query s .entries .mayEnd (a .trail .entries)) both .0)
 
   -- it fills the rows, or the search is given up
   pub same-length : OfOpen t lts.Need-same-length
@@ -124,7 +135,7 @@ module _ (t : ℕ) where
       let s = start (may-end at) in
       let a = s .args in
       let o = s .pre .1 .1 .1 .0 in
-      let may = sym (may-end at .may-stop .ensures) ∙ at .before .if1 .taken in
+      let may = may-stop at in
       let turn = stop-turn (s .pre .1 .0) o (at .stop .result) (at .stop .ensures .0) (query s) may in (
         ⊎-elim
             (λ e. inl (stop-fills (s .pre .1 .0) (query s) (put (a .capacity)) (a .out .now, a .found) (put-keeps (a .capacity)) (c .if2 .taken) o e))
@@ -139,13 +150,13 @@ module _ (t : ℕ) where
   ending w =
       let s = first w in
       let a = s .args in
-      let may = w .before .may-stop .ensures in
+      let asked = w .before .ends-here .ensures in
       let offered : List Reading → List ℕ × ℕ = offerAll (put (a .capacity)) (a .out .now, a .found) in
       ⊎-elim
       (λ v.
-      let turn = stop-turn (s .pre .1 .0) (s .pre .1 .1 .1 .0) (v .1 .result) (v .1 .ensures .0) (query s) (sym may ∙ v .0 .taken) in
+      let turn = stop-turn (s .pre .1 .0) (s .pre .1 .1 .1 .0) (v .1 .result) (v .1 .ensures .0) (query s) (may-stop (record { before = record { before = w .before; if1 = v .0 }; stop = v .1 })) in
       state-is (offered-all (omega (arith, v .9 .left)) (offered-same turn refl (v .4 .ensures .0))) (v .10) (v .12))
-      (λ v. state-is (sym (ap offered (stop-none (a .image .now) (query s) (a .place) (a .trail) (sym may ∙ v .0 .left)) ∙ offer-none _ _)) (v .1) (v .3))
+      (λ v. state-is (sym (ap offered (stop-unasked (a .image .now) (query s) (a .place) (a .trail) (sym asked ∙ v .0 .left)) ∙ offer-none _ _)) (v .1) (v .3))
       (w .if1 .came)
 
   kept : (w : Stopped) → length (w .if1 .out) ≡ length (first w .args .out .now)

@@ -15,7 +15,7 @@ use Rattle.dead.proofs.remember.Reads as remember-reads
 use Rattle.filter.proofs.choose.Reads as choose-reads
 use Rattle.listing.specs.Asked.{queryBy}
 use Rattle.listing.specs.Places.{withLast}
-use Rattle.listing.specs.Opening.{mayEnter}
+use Rattle.listing.specs.Opening.{mayEnter, WaysOf}
 use Rattle.listing.specs.Search.{entryOne}
 use Rattle.walk.proofs.Turns.{Turns}
 use Rattle.ahead.specs.Here.{stepsAfter}
@@ -41,7 +41,7 @@ use Rattle.listing.proofs.opening.next_entry.Reads as next-entry-reads
 use Rattle.listing.proofs.opening.ways_on.Reads as ways-on-reads
 use Rattle.listing.proofs.pairing.take.Reads as take-reads
 use Rattle.listing.proofs.place.enter.Reads as enter-reads
-use Rattle.listing.proofs.place.may_stop.Reads as may-stop-reads
+use Rattle.listing.proofs.place.ends_here.Reads as ends-here-reads
 use Rattle.listing.proofs.place.stop.Reads as stop-reads
 use Rattle.ahead.proofs.here.candidate.Reads as candidate-reads
 use Rattle.ahead.proofs.here.candidate_count.Reads as candidate-count-reads
@@ -97,7 +97,7 @@ abbrev pub pair-each-below : ℕ → In 9 pair-each-kinds.ps
 pair-each-below t = and 9 pair-each-kinds.ps (falls 9 pair-each-kinds.ps _<_ μ-pair-each t) pair-each.Pre
 
 abbrev pub open-claims : ℕ → open-lts.Claims
-open-claims t = (may-stop-reads.Asked, may-stop-reads.Learnt, stop-reads.Asked, stop-reads.Learnt, pair-below t, pair.Post, choose-reads.Asked, choose-reads.Learnt, open-each-below t, open-each.Post, open-listed-below t, open-listed.Post)
+open-claims t = (ends-here-reads.Asked, ends-here-reads.Learnt, stop-reads.Asked, stop-reads.Learnt, pair-below t, pair.Post, choose-reads.Asked, choose-reads.Learnt, open-each-below t, open-each.Post, open-listed-below t, open-listed.Post)
 
 abbrev pub open-each-claims : ℕ → open-each-lts.Claims
 open-each-claims t = (ways-on-reads.Asked, ways-on-reads.Learnt, next-entry-reads.Asked, next-entry-reads.Learnt, first-letter-reads.Asked, first-letter-reads.Learnt, look-reads.Asked, look-reads.Learnt, enter-reads.Asked, enter-reads.Learnt, pair-below t, pair.Post)
@@ -117,14 +117,14 @@ Tabled image q before table = (length table ≡ length before) × Remembered ima
 
 -- entry e is the next that may open, and those before it have offered what they find
 abbrev pub open-each-Inv-loop : open-each-lts.InvT-loop
-open-each-Inv-loop image index h asked path word forms masks reach place trail out₀ capacity found table₀ word-asked ways entries n₀ known₀ e₀ out table n known e =
+open-each-Inv-loop image index h asked path word forms masks reach place trail out₀ capacity found table₀ word-asked entries n₀ known₀ e₀ ways₀ out table n known e ways =
     let q = queryBy asked path word in
     Tabled image q table₀ table
-    × (((ways .low ≤ e) × ((e ≤ h .entries) × (e < h .entries → mayEnter image (q .entries) (place .last) (trail .entries) e ≡ true)))
+    × ((WaysOf image (mayEnter image (q .entries) (place .last) (trail .entries)) ways × ((ways .low ≤ e) × ((e ≤ h .entries) × (e < h .entries → mayEnter image (q .entries) (place .last) (trail .entries) e ≡ true))))
     × (((length out ≡ length out₀) × (n ≤ capacity)) × (Turns (put capacity) (entryOne image q place trail) (out₀, found) (out, n) e × Known image q place trail known)))
 
 abbrev pub open-each-μ-loop : open-each-lts.MeasureT-loop
-open-each-μ-loop image index h asked path word forms masks reach place trail out₀ capacity found table₀ word-asked ways entries n₀ known₀ e₀ out table n known e = entries - e
+open-each-μ-loop image index h asked path word forms masks reach place trail out₀ capacity found table₀ word-asked entries n₀ known₀ e₀ ways₀ out table n known e ways = entries - e
 
 -- the first k of the list have offered what they find
 abbrev pub open-listed-Inv-loop : open-listed-lts.InvT-loop
