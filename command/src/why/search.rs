@@ -3,7 +3,7 @@
 use super::tables::{Refusal, States, Tables};
 use crate::paths::MOST_ENTRIES;
 use crate::text::alphabet::NULL;
-use crate::text::lexicons::Continuation;
+use crate::text::ways::Ways;
 use std::collections::HashSet;
 
 /// Steps after which a search is cut, so that it ends by any grammar.
@@ -89,6 +89,8 @@ pub struct Furthest {
 struct Spot {
     entry: usize,
     place: usize,
+    /// The path ends with this entry, so that no other opens after a pair with a lexical null.
+    ended: bool,
     covered: usize,
     entries: u8,
     lexical_nulls: u8,
@@ -127,7 +129,8 @@ pub fn furthest(tables: &Tables, word: &[u8], rules: bool, steps: usize) -> Furt
         Ok(states) => states,
     };
     let mut search = Search::new(tables, word, rules, steps);
-    let spot = Spot { entry: 0, place: 0, covered: 0, entries: 0, lexical_nulls: 0, surface_nulls: 0, states };
+    let spot =
+        Spot { entry: 0, place: 0, ended: false, covered: 0, entries: 0, lexical_nulls: 0, surface_nulls: 0, states };
     search.open_lexicon(None, &spot, 0);
     while let Some(at) = search.open.pop() {
         if search.nodes.len() >= search.steps {
@@ -148,14 +151,15 @@ impl<'a> Search<'a> {
 
     /// Tries all that can follow a node.
     fn go_on(&mut self, at: usize) {
-        let spot = self.nodes[at].spot.clone();
+        let mut spot = self.nodes[at].spot.clone();
         let entry = self.tables.entries[spot.entry].0;
         let lexical = entry.form.get(spot.place).copied();
-        if let (None, Continuation::Lexicon(lexicon)) = (lexical, entry.continuation) {
-            if usize::from(spot.entries) == MOST_ENTRIES {
-                return self.stop(at, Stop::Entries);
+        if lexical.is_none() && !spot.ended {
+            self.open_next(at, &spot, entry.ways);
+            if !entry.ways.end {
+                return;
             }
-            return self.open_lexicon(Some(at), &spot, usize::from(lexicon));
+            spot.ended = true;
         }
         let surface = self.word.get(spot.covered).copied();
         if lexical.is_none() && surface.is_none() {
@@ -170,6 +174,8 @@ impl<'a> Search<'a> {
             match (lexical, surface) {
                 (Some(_), Some(_)) => self.stop(at, Stop::NoPair),
                 (Some(_), None) => self.stop(at, Stop::WordEnds),
+                // Where an entry may go on, how far that comes says more.
+                (None, Some(_)) if self.tables.goes_on(entry.ways) => {}
                 (None, Some(_)) => self.stop(at, Stop::LeftOver),
                 (None, None) => {}
             }
@@ -209,9 +215,19 @@ impl<'a> Search<'a> {
         fits
     }
 
+    /// Opens what may follow an entry whose letters are all paired.
+    fn open_next(&mut self, at: usize, spot: &Spot, ways: Ways) {
+        if ways.bits != 0 && usize::from(spot.entries) == MOST_ENTRIES {
+            return self.stop(at, Stop::Entries);
+        }
+        for lexicon in ways.lexicons().rev() {
+            self.open_lexicon(Some(at), spot, lexicon);
+        }
+    }
+
     fn open_lexicon(&mut self, parent: Option<usize>, spot: &Spot, lexicon: usize) {
         for entry in self.tables.entries_of(lexicon).rev() {
-            let after = Spot { entry, place: 0, entries: spot.entries + 1, ..spot.clone() };
+            let after = Spot { entry, place: 0, ended: false, entries: spot.entries + 1, ..spot.clone() };
             self.push(parent, Step::Opened(entry), after);
         }
     }
