@@ -6,8 +6,8 @@ use std::fs;
 use std::process::Command;
 use support::{assembled, run, sample, sample_path, scratch, Ran, SAMPLES};
 
-fn accepted(counts: [usize; 7], cksum: &str, names: &str) -> Ran {
-    let things = ["letters", "pairs", "sets", "rules", "lexicons", "entries", "blocks"];
+fn accepted(counts: [usize; 8], cksum: &str, names: &str) -> Ran {
+    let things = ["form", "letters", "pairs", "sets", "rules", "lexicons", "entries", "blocks"];
     let counts: String = things.iter().zip(counts).map(|(thing, count)| format!("{thing}\t{count}\n")).collect();
     let stdout = format!("accepted\n{counts}cksum\t{cksum}\nnames\t{names}\nwarnings\t0\n");
     Ran { code: Some(0), stdout, stderr: String::new() }
@@ -22,7 +22,12 @@ fn cksum(folder: &std::path::Path, file: &str) -> String {
 #[test]
 fn the_samples_as_texts_and_as_images() {
     let folder = scratch("check-samples");
-    let counts = [[9, 8, 0, 1, 2, 4, 6], [35, 40, 2, 7, 16, 576, 31], [42, 49, 0, 7, 8, 2796, 102]];
+    let counts = [
+        [1, 9, 8, 0, 1, 2, 4, 6],
+        [1, 35, 40, 2, 7, 16, 576, 31],
+        [1, 42, 49, 0, 7, 8, 2796, 102],
+        [2, 35, 40, 2, 7, 15, 562, 39],
+    ];
     for (sample, counts) in SAMPLES.into_iter().zip(counts) {
         let text = sample_path(sample);
         run(&folder, &["assemble".as_ref(), text.as_os_str(), "grammar.img".as_ref()]);
