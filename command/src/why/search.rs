@@ -290,15 +290,19 @@ mod tests {
 
     #[test]
     fn a_way_comes_through_where_the_library_has_a_reading() {
-        for name in ["luz", "quichua", "spanish"] {
+        for (name, words) in [
+            ("luz", "bench/luz"),
+            ("quichua", "grammars/quichua"),
+            ("quichua_ways", "grammars/quichua"),
+            ("spanish", "grammars/spanish"),
+        ] {
             let read =
                 |file: String| std::fs::read_to_string(format!("{}/../{file}", env!("CARGO_MANIFEST_DIR"))).unwrap();
             let grammar = read_grammar(read(format!("grammars/{name}.txt")).as_bytes()).unwrap();
-            let words = if name == "luz" { "bench/luz.words".to_string() } else { format!("grammars/{name}.words") };
             let (image, tables) = (sealed_image(&grammar), Tables::new(&grammar));
             let mut rows = [0; library::ROW];
             let mut found = [0, 0];
-            for line in read(words).lines() {
+            for line in read(format!("{words}.words")).lines() {
                 let word: Vec<u8> = line.split(' ').map(|number| number.parse().unwrap()).collect();
                 let has = library::analyse(&image, &word, &mut rows).rows() > 0;
                 let way = furthest(&tables, &word, true, MOST_STEPS);
@@ -319,6 +323,23 @@ mod tests {
     #[test]
     fn a_search_is_cut_after_its_steps() {
         assert!(by_luz("luzes", true, 3).cut);
+    }
+
+    #[test]
+    fn an_entry_ends_and_goes_on() {
+        let text = LUZ.replace("  Number  ", "  # Number  ").replace("  0    #       \"singular\"\n", "");
+        let grammar = read_grammar(text.as_bytes()).unwrap();
+        let found = |word: &str| {
+            let letters: Vec<u8> = word.chars().map(|c| grammar.alphabet.number(c).unwrap()).collect();
+            furthest(&Tables::new(&grammar), &letters, true, MOST_STEPS)
+        };
+        assert!(found("luz").through && found("luc").through && found("luces").through);
+        let luzs = found("luzs");
+        // That luZ may end is not told, since +es comes as far.
+        let stops: Vec<(&Stop, usize)> =
+            luzs.dead.iter().map(|dead| (&dead.stop, opened(&dead.steps).count())).collect();
+        assert_eq!((luzs.through, luzs.covered, stops), (false, 3, vec![(&Stop::NoPair, 2)]));
+        assert_eq!(found("lucesl").dead.iter().map(|dead| &dead.stop).collect::<Vec<_>>(), [&Stop::LeftOver]);
     }
 
     #[test]
