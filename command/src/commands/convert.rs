@@ -69,3 +69,48 @@ fn told(number: u32, grammar: &Grammar) -> String {
         _ => told,
     }
 }
+
+#[cfg(test)]
+mod tests {
+    use super::*;
+    use crate::decode::decode;
+    use crate::library::Reply;
+    use crate::text::{sealed_image, Form};
+    use draw::grammars::grammar;
+    use draw::prng::Prng;
+
+    /// What the library converts is what the command would lay out in the other form.
+    #[test]
+    fn drawn_images_are_converted_as_they_are_laid_out() {
+        let mut prng = Prng::new(11);
+        let (mut converted, mut refused) = (0, 0);
+        for _ in 0..400 {
+            let image = grammar(&mut prng).image();
+            if library::check(&image).refusal().is_some() {
+                continue;
+            }
+            let mut grammar = decode(&image);
+            let blocks = converted_blocks(&grammar);
+            let due = match (grammar.form, grammar.has_one_way()) {
+                (Form::Two, false) => Some(15),
+                _ if blocks > limits::BLOCKS => Some(16),
+                _ => None,
+            };
+            let mut target = vec![7; BLOCK * blocks.min(limits::BLOCKS)];
+            let reply = library::convert(&image, &mut target);
+            assert_eq!(reply.refusal(), due);
+            if due.is_some() {
+                assert!(target.iter().all(|&byte| byte == 7));
+                refused += 1;
+                continue;
+            }
+            assert_eq!(reply, Reply::All(0));
+            grammar.form = grammar.form.other();
+            assert!(sealed_image(&grammar) == target);
+            converted += 1;
+            target.push(7);
+            assert_eq!(library::convert(&image, &mut target).refusal(), Some(17));
+        }
+        assert!(converted > 100, "{converted} converted, {refused} refused");
+    }
+}
