@@ -1,8 +1,8 @@
 //! Named choices of ways on: an entry that names one may go on to each of its lexicons.
 
 use crate::text::alphabet::Alphabet;
+use crate::text::continuations::{is_end, Names};
 use crate::text::fault::{Fault, Faults};
-use crate::text::lexicons::{is_end, Names};
 use crate::text::lines::Word;
 use crate::text::sections::{Keyword, Section};
 use crate::text::ways::Ways;

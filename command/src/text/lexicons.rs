@@ -1,16 +1,15 @@
 //! Lexicons and their entries: a form, what may follow it, and a gloss.
 
-use crate::nearest::{is_meant, nearest};
 use crate::text::alphabet::{Alphabet, ANY, BOUNDARY, NULL};
 use crate::text::alternations::{self, Alternation};
+use crate::text::continuations::{is_end, read_ways, Names};
 use crate::text::fault::{Fault, Faults};
-use crate::text::hints::{accent_meant, letter_meant, quote_meant};
+use crate::text::hints::{accent_meant, letter_meant};
 use crate::text::limits;
-use crate::text::lines::{name, number, one_character, Line, Word};
+use crate::text::lines::{is_alone, is_number, name, number, Line, Word};
 use crate::text::pairs::Pair;
 use crate::text::sections::{Keyword, Section, Sections};
 use crate::text::ways::Ways;
-use std::collections::HashMap;
 
 #[derive(Debug)]
 pub struct Lexicon {
@@ -29,42 +28,6 @@ pub struct Entry {
     pub gloss_text: String,
     /// Where it stands in the text.
     pub line: usize,
-}
-
-/// What an entry can name to go on.
-#[derive(Debug, Default)]
-pub struct Names<'a> {
-    /// The number of each lexicon, and its line.
-    pub lexicons: HashMap<&'a str, (u8, usize)>,
-    /// The place of each alternation, and its ways.
-    pub choices: HashMap<&'a str, (usize, Ways)>,
-}
-
-impl Names<'_> {
-    pub fn lexicon(&self, name: &str) -> Option<Ways> {
-        self.lexicons.get(name).map(|&(number, _)| Ways::to(number))
-    }
-
-    /// The ways that a word after a form stands for.
-    fn ways(&self, word: &str, alphabet: &Alphabet) -> Option<Ways> {
-        let end = is_end(word, alphabet).then_some(Ways::END);
-        end.or(self.lexicon(word)).or(self.choices.get(word).map(|&(_, ways)| ways))
-    }
-
-    /// The name that a word is a slip of.
-    fn near(&self, word: &str) -> Option<&str> {
-        nearest(word, self.lexicons.keys().chain(self.choices.keys()).copied())
-    }
-
-    /// That no lexicon is called so, and what may be meant.
-    pub fn unknown(&self, word: &str, alphabet: &Alphabet) -> String {
-        let end = alphabet.character(BOUNDARY);
-        let hint = match self.near(word) {
-            None => format!("; {end} in its place ends the word"),
-            near => is_meant(near),
-        };
-        format!("no lexicon is called {word}{hint}")
-    }
 }
 
 /// The lexicons of a text, and its alternations.
@@ -147,15 +110,6 @@ fn read_name<'a>(section: &Section<'a>, alphabet: &Alphabet) -> Result<&'a str, 
     Ok(name)
 }
 
-/// The boundary in place of a lexicon's name ends the word.
-pub fn is_end(name: &str, alphabet: &Alphabet) -> bool {
-    is_alone(name, BOUNDARY, alphabet)
-}
-
-fn is_alone(text: &str, side: u8, alphabet: &Alphabet) -> bool {
-    one_character(text) == Some(alphabet.character(side))
-}
-
 fn read_entry(line: &Line, number: u16, alphabet: &Alphabet, pairs: &[Pair], names: &Names) -> Result<Entry, Fault> {
     let at_fault = |what: String| Fault::new(line.number, what);
     let Some((form, ways, gloss)) = divide(&line.words) else {
@@ -177,18 +131,12 @@ fn read_entry(line: &Line, number: u16, alphabet: &Alphabet, pairs: &[Pair], nam
 fn divide<'a>(words: &[Word<'a>]) -> Option<(&'a str, Vec<&'a str>, Word<'a>)> {
     let (gloss, others) = match *words {
         [ref others @ .., gloss @ Word::Quoted(_)] => (gloss, others),
-        [_, _, .., gloss @ Word::Bare(last)] if words.len() > 2 && is_number(last) => {
-            (gloss, &words[..words.len() - 1])
-        }
+        [_, _, .., gloss @ Word::Bare(last)] if is_number(last) => (gloss, &words[..words.len() - 1]),
         _ => (Word::Quoted(""), words),
     };
     let bare: Vec<&str> = others.iter().map(|word| word.bare()).collect::<Option<_>>()?;
     let (&form, ways) = bare.split_first()?;
     (!ways.is_empty()).then(|| (form, ways.to_vec(), gloss))
-}
-
-pub fn is_number(word: &str) -> bool {
-    word.bytes().all(|byte| byte.is_ascii_digit())
 }
 
 /// What a line that is no entry may lack, or have too much.
@@ -205,7 +153,7 @@ fn entry_meant(words: &[Word], alphabet: &Alphabet) -> String {
 }
 
 fn read_form(form: &str, alphabet: &Alphabet, pairs: &[Pair]) -> Result<Vec<u8>, String> {
-    if is_alone(form, NULL, alphabet) {
+    if is_alone(form, alphabet.character(NULL)) {
         return Ok(Vec::new());
     }
     let read = |c| read_form_letter(c, alphabet).map_err(|what| format!("form {form}: {what}{}", accent_meant(form)));
@@ -241,36 +189,6 @@ fn check_lexical(letter: u8, alphabet: &Alphabet, pairs: &[Pair]) -> Result<(), 
         Some(pair) => Err(format!("{what}; it is a surface side only, as in {}", pair.show(alphabet))),
         None => Err(what),
     }
-}
-
-/// All that the words after a form name. A lexicon that comes by two names is one way; a name that stands twice is a slip.
-fn read_ways(words: &[&str], alphabet: &Alphabet, names: &Names) -> Result<Ways, String> {
-    let mut all = Ways::default();
-    for (at, word) in words.iter().enumerate() {
-        let Some(ways) = names.ways(word, alphabet) else {
-            return Err(unknown_way(words, at, alphabet, names));
-        };
-        if words[..at].contains(word) {
-            return Err(format!("{word} stands twice among the continuations"));
-        }
-        all = all.and(ways);
-    }
-    Ok(all)
-}
-
-/// A word after a continuation that names nothing may be a gloss without its quotation marks.
-fn unknown_way(words: &[&str], at: usize, alphabet: &Alphabet, names: &Names) -> String {
-    let word = words[at];
-    if at == 0 || names.near(word).is_some() {
-        return names.unknown(word, alphabet);
-    }
-    let gloss = words[at..].join(" ");
-    let hint = match quote_meant(&words[at..].iter().map(|word| Word::Bare(word)).collect::<Vec<_>>()) {
-        Some(quote) => quote,
-        None if is_number(word) => "; a gloss stands last".to_string(),
-        None => format!("; is \"{gloss}\" meant, a gloss?"),
-    };
-    format!("no lexicon is called {word}{hint}")
 }
 
 /// A gloss in words gets the entry's own number, so that the list of entries finds it.

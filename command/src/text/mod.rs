@@ -3,6 +3,7 @@
 pub(crate) mod alphabet;
 pub(crate) mod alternations;
 pub(crate) mod columns;
+mod continuations;
 mod fault;
 pub(crate) mod form;
 mod grammar;

@@ -3,8 +3,8 @@
 use crate::text::alphabet::{ANY, BOUNDARY, NULL};
 use crate::text::columns::Sides;
 use crate::text::form::Form;
-use crate::text::lexicons::{is_number, Entry, Lexicon};
-use crate::text::lines::{is_word, name};
+use crate::text::lexicons::{Entry, Lexicon};
+use crate::text::lines::{is_number, is_word, name};
 use crate::text::rules::Rule;
 use crate::text::sections::Keyword;
 use crate::text::Grammar;
