@@ -93,6 +93,10 @@ done
 ends 1 "$headwords" convert spanish.img two.img
 grep -qx 'spanish.img:0: refused 16: the converted image would have more than 128 blocks; it would have 145' told
 cmp two.img again.img
+# as docs/GRAMMARS.md shows it
+"$headwords" assemble "$root/grammars/quichua_ways.txt" quichua.img
+ends 1 "$headwords" convert quichua.img one.img
+grep -qF "    $(cat told)" "$root/docs/GRAMMARS.md"
 echo "conversion: there and back by bytes, with the same answers"
 
 # images of form 2 that are damaged: the same refusal by the proved check and the command
