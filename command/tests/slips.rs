@@ -490,20 +490,21 @@ fn a_keyword_is_told_alone() {
 /// Words like keywords are forms and names of sets where they stand in their places, and no slips.
 #[test]
 fn words_like_keywords() {
-    let letters = "u z Z a d n r y L p i x o\n";
-    let text =
-        edited(&sample("luz"), "u z Z\n", letters).replace("  +:0\n", "  +:0 a:a d:d n:n r:r y:y p:p i:i x:x o:o\n");
+    let letters = "u z Z a d n r y L p i x o m f\n";
+    let text = edited(&sample("luz"), "u z Z\n", letters)
+        .replace("  +:0\n", "  +:0 a:a d:d n:n r:r y:y p:p i:i x:x o:o m:m f:f\n");
     let text = edited(
         &text,
         "  luc  Number",
-        "  end Numer\n  any Number\n  rule Number\n  pairs Number\n  lexicon Number \"lexicon\"\n  luc Number",
+        "  end Numer\n  norm Numer\n  form Number\n  any Number\n  rule Number\n  pairs Number\n  lexicon Number \"lexicon\"\n  luc Number",
     );
     let folder = scratch("slips-forms");
     fs::write(folder.join("grammar.txt"), &text).unwrap();
     let ran = run(&folder, &["check", "grammar.txt"]);
     let line = line_of("end Numer\n", &text);
-    assert_eq!(ran.stderr, format!("grammar.txt:{line}: no lexicon is called Numer; is Number meant?\n"));
-    fs::write(folder.join("grammar.txt"), text.replace("end Numer\n", "end Number\n")).unwrap();
+    let told = |line: usize| format!("grammar.txt:{line}: no lexicon is called Numer; is Number meant?\n");
+    assert_eq!(ran.stderr, told(line) + &told(line + 1));
+    fs::write(folder.join("grammar.txt"), text.replace(" Numer\n", " Number\n")).unwrap();
     let ran = run(&folder, &["check", "grammar.txt"]);
     assert_eq!(ran.code, Some(0), "{}", ran.stderr);
 }

@@ -2,7 +2,7 @@
 
 use crate::nearest::{is_meant, nearest};
 use crate::text::fault::{Fault, Faults};
-use crate::text::lines::{one_character, Line, Word};
+use crate::text::lines::{is_number, one_character, Line, Word};
 use crate::text::sections::Keyword;
 
 /// Keywords of PC-KIMMO, and words like them, that a text has not, and what it has in their place.
@@ -94,7 +94,7 @@ fn fits(keyword: Keyword, words: &[Word]) -> bool {
     match keyword {
         Keyword::Boundary | Keyword::Null | Keyword::Any => words.len() == 1 && is_letter(&words[0]),
         Keyword::Alphabet => words.iter().all(is_letter),
-        Keyword::Form => words.len() == 1,
+        Keyword::Form => matches!(words, [Word::Bare(form)] if is_number(form)),
         Keyword::Subset => words.len() > 1 && words[1..].iter().all(is_letter),
         Keyword::Pairs => words.iter().all(|word| word.bare().is_some_and(|text| text.contains(':'))),
         Keyword::Rule => matches!(words, [Word::Quoted(_), ..]),
