@@ -120,6 +120,9 @@ ends 0 "$headwords" compare --quiet --no-empty --most 1000 "$root/grammars/quich
 [ "$(wc -l <forms)" -gt 1000 ]
 ends 0 "$headwords" compare --quiet --no-empty --most 1000 "$root/grammars/quichua.txt" "$root/grammars/quichua_ways.txt" forms
 ! "$headwords" read --quiet "$root/grammars/quichua_ways.txt" --file quichua.words | cut -f 3 | grep -E '(^| )0( |$)' || exit 1
+cp ways.img grammar.img
+"$root/target/bin/lines" <"$root/grammars/quichua.words" >lines.out
+"$headwords" read --quiet --tsv --numbers ways.img --file quichua.words | awk -F '\t' '{ print $2 == "none" ? "none 0" : $7 " | " $8 }' | diff - <(grep -v '^all' lines.out)
 # a way less is found
 sed 's/^\(ALTERNATION SuffixPl2 .*\) Gen/\1/' "$root/grammars/quichua_ways.txt" >less.txt
 ends 1 "$headwords" compare --quiet --no-empty "$root/grammars/quichua.txt" less.txt quichua.words
