@@ -48,12 +48,16 @@ fn images_that_are_refused() {
     let mut unspelled = image.clone();
     unspelled[5 * 512 + 5] = 8;
     support::check::seal(&mut unspelled);
-    let images: [(&[u8], &str); 6] = [
+    let mut marked = assembled(&sample("luz").replace("  Number  ", "  # Number  ")).unwrap();
+    marked[5 * 512 + 4 + 13] = 2;
+    support::check::seal(&mut marked);
+    let images: [(&[u8], &str); 7] = [
         (&[], "refused 1: image length 0, over 65,536, or no multiple of 512"),
         (&image[..700], "refused 1: image length 0, over 65,536, or no multiple of 512"),
         (&[0; 65_537], "refused 1: image length 0, over 65,536, or no multiple of 512"),
         (&altered, "refused 2: a check or block number is wrong"),
-        (&image[..512], "refused 3: form, counts, block total, "),
+        (&image[..512], "refused 3: form (1 or 2), counts, block total, "),
+        (&marked, "refused 8: lexicon counts do not add up to the entries, or an entry breaks its layout; in form 2, "),
         (&unspelled, "refused 14: an entry can never be spelled: a letter of its form is the lexical side of no pair"),
     ];
     for (image, verdict) in images {
