@@ -1,5 +1,5 @@
 #!/usr/bin/env bash
-# headwords why and headwords show, as a linguist uses them: the explanations of words of the three samples and of the trials, by text and by image, as they
+# headwords why and headwords show, as a linguist uses them: the explanations of words of the samples and of the trials, by text and by image, as they
 # are stored in tests/why_show; every line of JSON read; every hostile grammar answered in time; rules as text and as a graph, as stored; and every rule of
 # the samples as a picture that is XML, has every state, arc and label, and no two labels over each other.
 set -eu
@@ -32,6 +32,7 @@ luz=(luzes luces lu luce lucesu luzeu lus LUZ Luzes luzé 'l#z' l0z @ k " luz " 
 explains grammars/luz.txt luz "${luz[@]}"
 explains grammars/spanish.txt spanish luzes regiónes $'regio\314\201nes' lapizes jovenex casaes cas xilófon bloces blocues Zona ÀRBOL ä ǧato mañanita
 explains grammars/quichua.txt quichua tarpurqan wañuq aaawan ayqichi Ǧa Rimani tarpumunpi aamun
+explains grammars/quichua_ways.txt quichua_ways tarpurqan wañuq aaawan tarpumunpi aamun
 echo "why: as stored, in words and as JSON"
 
 # by an image the same; without its names, rules and lexicons have numbers

@@ -389,6 +389,7 @@ Date: a Saturday
 |---|---|
 | file | luz.img |
 | cksum of the image | $(cksum <luz.img | cut -d ' ' -f 1) |
+| form | 1 |
 | letters | 9 |
 | pairs | 8 |
 | sets | 0 |

@@ -2,16 +2,20 @@
 
 use crate::text::alphabet::Alphabet;
 use crate::text::columns::{taken, Column, Sides};
-use crate::text::image::{BLOCK, END, ENTRIES_A_BLOCK, ENTRY, RECORDS, SET};
-use crate::text::lexicons::{Continuation, Entry, Lexicon};
+use crate::text::form::Form;
+use crate::text::image::{BLOCK, END, RECORDS, SET};
+use crate::text::lexicons::{Entry, Lexicon};
 use crate::text::pairs::Pair;
 use crate::text::rules::{Rule, State};
 use crate::text::sets::{Set, Sets};
+use crate::text::ways::Ways;
 use crate::text::Grammar;
 
 /// The grammar of an image that the library accepts.
 pub fn decode(image: &[u8]) -> Grammar {
     let count = |at: usize| two_bytes(image, RECORDS + 2 * at);
+    // Test 3 lets no other form pass.
+    let form = Form::numbered(count(0)).unwrap_or(Form::One);
     let [letters, pairs, rules, lexicons, entries, sets] = [1, 2, 3, 4, 5, 6].map(count);
     let alphabet = decode_alphabet(records(image, 1, letters, 2));
     let pairs: Vec<Pair> =
@@ -22,14 +26,14 @@ pub fn decode(image: &[u8]) -> Grammar {
     let tables = (first_rule..first_rule + rules).map(|block| &image[BLOCK * block + RECORDS..]);
     let rules = tables.enumerate().map(|(number, table)| decode_rule(number, table, &pairs, sides)).collect();
     let counts_block = first_rule + count(3);
-    let mut entries = (0..entries).map(|entry| decode_entry(image, counts_block + 1, entry));
+    let mut entries = (0..entries).map(|entry| decode_entry(form, image, counts_block + 1, entry));
     let lexicons = records(image, counts_block, lexicons, 2).enumerate().map(|(number, count)| Lexicon {
         name: format!("Lexicon{number}"),
         entries: entries.by_ref().take(two_bytes(count, 0)).collect(),
         line: 0,
     });
     let lexicons = lexicons.collect();
-    Grammar { alphabet, sets, pairs, rules, lexicons, named: false }
+    Grammar { form, alphabet, sets, pairs, rules, alternations: Vec::new(), lexicons, named: false }
 }
 
 fn two_bytes(bytes: &[u8], at: usize) -> usize {
@@ -79,17 +83,27 @@ fn decode_rule(number: usize, table: &[u8], pairs: &[Pair], sides: Sides) -> Rul
     }
 }
 
-fn decode_entry(image: &[u8], first_block: usize, number: usize) -> Entry {
-    let at = BLOCK * (first_block + number / ENTRIES_A_BLOCK) + RECORDS + ENTRY * (number % ENTRIES_A_BLOCK);
-    let record = &image[at..][..ENTRY];
+fn decode_entry(form: Form, image: &[u8], first_block: usize, number: usize) -> Entry {
+    let (width, a_block) = (form.entry(), form.entries_a_block());
+    let at = BLOCK * (first_block + number / a_block) + RECORDS + width * (number % a_block);
+    let record = &image[at..][..width];
     Entry {
         form: record[1..=usize::from(record[0])].to_vec(),
-        continuation: match record[13] {
-            END => Continuation::End,
-            lexicon => Continuation::Lexicon(lexicon),
-        },
+        ways: decode_ways(form, record),
         gloss: u16::from_le_bytes([record[14], record[15]]),
         gloss_text: String::new(),
         line: 0,
+    }
+}
+
+/// Form 1 has one way on in byte 13; form 2 has a mark there for the end, and the lexicons in the last eight bytes.
+fn decode_ways(form: Form, record: &[u8]) -> Ways {
+    match (form, record[13]) {
+        (Form::One, END) => Ways::END,
+        (Form::One, lexicon) => Ways::to(lexicon),
+        (Form::Two, mark) => {
+            let bits = record[16..].iter().rev().fold(0, |bits, &byte| bits << 8 | u64::from(byte));
+            Ways { bits, end: mark == 1 }
+        }
     }
 }

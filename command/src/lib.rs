@@ -25,7 +25,7 @@ mod written_rules;
 pub use commands::run;
 pub use decode::decode;
 pub use text::{
-    list_entries, list_letters, list_pairs, list_sets, read_grammar, read_source, sealed_image, written, Fault, Faults,
-    Grammar,
+    list_entries, list_letters, list_pairs, list_sets, read_grammar, read_grammar_as, read_source, sealed_image,
+    written, Fault, Faults, Form, Grammar,
 };
 pub use warnings::warnings;

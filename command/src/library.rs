@@ -88,6 +88,7 @@ extern "C" {
     ) -> u64;
     fn headwords_check(image: *const u8, image_length: usize) -> u64;
     fn headwords_seal(image: *mut u8, image_length: usize) -> u64;
+    fn headwords_convert(image: *const u8, image_length: usize, target: *mut u8, target_length: usize) -> u64;
     fn headwords_spell(
         image: *const u8,
         image_length: usize,
@@ -117,6 +118,11 @@ pub fn check(image: &[u8]) -> Reply {
 
 pub fn seal(image: &mut [u8]) -> Reply {
     Reply::of(unsafe { headwords_seal(image.as_mut_ptr(), image.len()) })
+}
+
+/// The image in the other form, to a target of just its length. `All(0)` where it is converted.
+pub fn convert(image: &[u8], target: &mut [u8]) -> Reply {
+    Reply::of(unsafe { headwords_convert(image.as_ptr(), image.len(), target.as_mut_ptr(), target.len()) })
 }
 
 /// All readings of a word, a byte a letter.

@@ -6,7 +6,7 @@ use crate::library;
 use crate::names::{name_grammar, names_path};
 use crate::refusals;
 use crate::text::image::BLOCK;
-use crate::text::{read_grammar, read_source, sealed_image, Fault, Grammar};
+use crate::text::{read_grammar_as, read_source, sealed_image, Fault, Form, Grammar};
 use std::path::{Path, PathBuf};
 
 #[derive(Debug)]
@@ -26,10 +26,11 @@ impl Loaded {
         self.named = false;
     }
 
-    /// How much of what it holds, in the order in which that is told.
-    pub fn counts(&self) -> [(&'static str, usize); 7] {
+    /// Its form, and how much of what it holds, in the order in which that is told.
+    pub fn counts(&self) -> [(&'static str, usize); 8] {
         let grammar = &self.grammar;
         [
+            ("form", grammar.form.number()),
             ("letters", grammar.alphabet.count()),
             ("pairs", grammar.pairs.len()),
             ("sets", grammar.sets.all().len()),
@@ -50,15 +51,16 @@ pub fn load(path: &Path) -> Result<Loaded, Failure> {
 /// Loads what a file holds.
 pub fn load_bytes(path: &Path, bytes: Vec<u8>) -> Result<Loaded, Failure> {
     if !is_image(&bytes) {
-        return load_text(path, &bytes);
+        return load_text(path, &bytes, None);
     }
     accept(path, &bytes)?;
     let grammar = decode_named(path, &bytes);
     Ok(Loaded { path: path.to_path_buf(), named: grammar.named, image: bytes, grammar })
 }
 
-pub fn load_text(path: &Path, bytes: &[u8]) -> Result<Loaded, Failure> {
-    let grammar = read_grammar(bytes).map_err(|faults| tell_faults(path, faults))?;
+/// Loads a text, in the form that is asked for, and by whom, or else its own.
+pub fn load_text(path: &Path, bytes: &[u8], asked: Option<(Form, &str)>) -> Result<Loaded, Failure> {
+    let grammar = read_grammar_as(bytes, asked).map_err(|faults| tell_faults(path, faults))?;
     let image = sealed_image(&grammar);
     accept(path, &image)?;
     Ok(Loaded { path: path.to_path_buf(), image, grammar, named: true })

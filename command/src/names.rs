@@ -1,10 +1,13 @@
-//! The names that an image does not hold, in a file beside it: symbols, sets, rules, lexicons, and glosses in words.
+//! The names that an image does not hold, in a file beside it: symbols, sets, rules, alternations, lexicons, and glosses in
+//! words.
 
 use crate::checksum::checksum;
 use crate::text::alphabet::{Alphabet, ANY, NULL};
+use crate::text::alternations::Alternation;
 use crate::text::limits;
 use crate::text::lines::{decode, number, one_character, split, Line, Word};
 use crate::text::sections::Keyword;
+use crate::text::ways::Ways;
 use crate::text::{Fault, Grammar};
 use std::collections::HashSet;
 use std::path::{Path, PathBuf};
@@ -25,6 +28,8 @@ pub fn write_names(grammar: &Grammar, image: &[u8]) -> String {
     text.extend(grammar.sets.all().iter().map(|set| format!("SUBSET {}\n", set.name)));
     text.extend(grammar.rules.iter().map(|rule| format!("RULE \"{}\"\n", rule.name)));
     text.extend(grammar.lexicons.iter().map(|lexicon| format!("LEXICON {}\n", lexicon.name)));
+    let choices = grammar.alternations.iter();
+    text.extend(choices.map(|one| format!("ALTERNATION {} {}\n", one.name, grammar.show_ways(one.ways))));
     for (number, (_, entry)) in grammar.entries().into_iter().enumerate() {
         if !entry.gloss_text.is_empty() {
             text += &format!("GLOSS {number} \"{}\"\n", entry.gloss_text);
@@ -42,6 +47,8 @@ struct Names<'a> {
     sets: Vec<&'a str>,
     rules: Vec<&'a str>,
     lexicons: Vec<&'a str>,
+    /// Each alternation's name, and what it names.
+    alternations: Vec<(&'a str, Vec<&'a str>)>,
     glosses: Vec<(usize, &'a str)>,
 }
 
@@ -73,6 +80,9 @@ fn read_line<'a>(names: &mut Names<'a>, line: &Line<'a>) -> Result<(), Fault> {
         [Word::Bare("SUBSET"), Word::Bare(name)] => names.sets.push(name),
         [Word::Bare("RULE"), Word::Quoted(name)] => names.rules.push(name),
         [Word::Bare("LEXICON"), Word::Bare(name)] => names.lexicons.push(name),
+        [Word::Bare("ALTERNATION"), Word::Bare(name), ref ways @ ..] if ways.iter().all(|way| way.bare().is_some()) => {
+            names.alternations.push((name, ways.iter().map(|way| way.text()).collect()));
+        }
         [Word::Bare("GLOSS"), Word::Bare(entry), Word::Quoted(gloss)] if number(entry).is_some() => {
             names.glosses.push((number(entry).unwrap_or(0), gloss));
         }
@@ -103,6 +113,7 @@ fn check(names: &Names, grammar: &Grammar) -> Result<(), String> {
     let is_end = |name: &str| one_character(name).is_some_and(|c| c == letters[0]);
     check_names(&names.sets, is_symbol)?;
     check_names(&names.lexicons, is_end)?;
+    check_alternations(names, is_end)?;
     check_glosses(names, grammar)
 }
 
@@ -110,6 +121,23 @@ fn check_names(names: &[&str], is_taken: impl Fn(&str) -> bool) -> Result<(), St
     for (at, name) in names.iter().enumerate() {
         if Keyword::named(name).is_some() || is_taken(name) || names[..at].contains(name) {
             return Err(format!("{name} cannot be the name of set or lexicon {at}"));
+        }
+    }
+    Ok(())
+}
+
+/// An alternation has a name that nothing else has, and names lexicons or the end, each once.
+fn check_alternations(names: &Names, is_end: impl Fn(&str) -> bool) -> Result<(), String> {
+    for (at, (name, ways)) in names.alternations.iter().enumerate() {
+        let is_second =
+            names.lexicons.contains(name) || names.alternations[..at].iter().any(|(other, _)| other == name);
+        if Keyword::named(name).is_some() || is_end(name) || is_second {
+            return Err(format!("{name} cannot be the name of an ALTERNATION"));
+        }
+        let is_way =
+            |at: usize| (is_end(ways[at]) || names.lexicons.contains(&ways[at])) && !ways[..at].contains(&ways[at]);
+        if ways.is_empty() || !(0..ways.len()).all(is_way) {
+            return Err(format!("ALTERNATION {name} does not name lexicons, each once"));
         }
     }
     Ok(())
@@ -141,6 +169,15 @@ fn give(names: Names, grammar: &mut Grammar) {
     }
     for (rule, name) in grammar.rules.iter_mut().zip(names.rules) {
         rule.name = name.to_string();
+    }
+    for (name, ways) in &names.alternations {
+        // What is no lexicon is the end.
+        let way = |word: &str| match names.lexicons.iter().position(|lexicon| *lexicon == word) {
+            Some(number) => Ways::to(number as u8),
+            None => Ways::END,
+        };
+        let ways = ways.iter().fold(Ways::default(), |ways, word| ways.and(way(word)));
+        grammar.alternations.push(Alternation { name: name.to_string(), ways, is_named: true, line: 0 });
     }
     for (lexicon, name) in grammar.lexicons.iter_mut().zip(names.lexicons) {
         lexicon.name = name.to_string();

@@ -8,6 +8,8 @@ use crate::text::Grammar;
 #[derive(Clone, Debug)]
 pub struct EntryName {
     pub form: String,
+    /// Whether the form has no letter.
+    pub is_empty: bool,
     /// The gloss in words, or a number that the text gives in its place.
     pub gloss: Option<String>,
     /// The gloss in words; where there is none, the form.
@@ -42,7 +44,7 @@ impl Names {
             let headword = in_words.clone().filter(|text| !is_number(text)).unwrap_or_else(|| form.clone());
             // An entry without a gloss has its own number for one, which says nothing.
             let in_number = (usize::from(entry.gloss) != number).then(|| entry.gloss.to_string());
-            EntryName { form, gloss: in_words.or(in_number), headword }
+            EntryName { form, is_empty: entry.form.is_empty(), gloss: in_words.or(in_number), headword }
         });
         let alphabet = &grammar.alphabet;
         let surface = |side: u8| (side != NULL).then(|| alphabet.character(side));

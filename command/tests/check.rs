@@ -6,8 +6,8 @@ use std::fs;
 use std::process::Command;
 use support::{assembled, run, sample, sample_path, scratch, Ran, SAMPLES};
 
-fn accepted(counts: [usize; 7], cksum: &str, names: &str) -> Ran {
-    let things = ["letters", "pairs", "sets", "rules", "lexicons", "entries", "blocks"];
+fn accepted(counts: [usize; 8], cksum: &str, names: &str) -> Ran {
+    let things = ["form", "letters", "pairs", "sets", "rules", "lexicons", "entries", "blocks"];
     let counts: String = things.iter().zip(counts).map(|(thing, count)| format!("{thing}\t{count}\n")).collect();
     let stdout = format!("accepted\n{counts}cksum\t{cksum}\nnames\t{names}\nwarnings\t0\n");
     Ran { code: Some(0), stdout, stderr: String::new() }
@@ -22,7 +22,12 @@ fn cksum(folder: &std::path::Path, file: &str) -> String {
 #[test]
 fn the_samples_as_texts_and_as_images() {
     let folder = scratch("check-samples");
-    let counts = [[9, 8, 0, 1, 2, 4, 6], [35, 40, 2, 7, 16, 576, 31], [42, 49, 0, 7, 8, 2796, 102]];
+    let counts = [
+        [1, 9, 8, 0, 1, 2, 4, 6],
+        [1, 35, 40, 2, 7, 16, 576, 31],
+        [1, 42, 49, 0, 7, 8, 2796, 102],
+        [2, 35, 40, 2, 7, 15, 562, 39],
+    ];
     for (sample, counts) in SAMPLES.into_iter().zip(counts) {
         let text = sample_path(sample);
         run(&folder, &["assemble".as_ref(), text.as_os_str(), "grammar.img".as_ref()]);
@@ -43,12 +48,16 @@ fn images_that_are_refused() {
     let mut unspelled = image.clone();
     unspelled[5 * 512 + 5] = 8;
     support::check::seal(&mut unspelled);
-    let images: [(&[u8], &str); 6] = [
+    let mut marked = assembled(&sample("luz").replace("  Number  ", "  # Number  ")).unwrap();
+    marked[5 * 512 + 4 + 13] = 2;
+    support::check::seal(&mut marked);
+    let images: [(&[u8], &str); 7] = [
         (&[], "refused 1: image length 0, over 65,536, or no multiple of 512"),
         (&image[..700], "refused 1: image length 0, over 65,536, or no multiple of 512"),
         (&[0; 65_537], "refused 1: image length 0, over 65,536, or no multiple of 512"),
         (&altered, "refused 2: a check or block number is wrong"),
-        (&image[..512], "refused 3: form, counts, block total, "),
+        (&image[..512], "refused 3: form (1 or 2), counts, block total, "),
+        (&marked, "refused 8: lexicon counts do not add up to the entries, or an entry breaks its layout; in form 2, "),
         (&unspelled, "refused 14: an entry can never be spelled: a letter of its form is the lexical side of no pair"),
     ];
     for (image, verdict) in images {

@@ -1,4 +1,4 @@
-//! The example in GRAMMARS.md is the luz grammar, and what it shows of sets stands in quichua.
+//! The example in GRAMMARS.md is the luz grammar, and what it shows of sets and alternations stands in the samples.
 
 mod support;
 
@@ -46,4 +46,27 @@ fn the_sets_and_their_rule_are_those_of_quichua() {
         "A side of a column is one character (a letter, the null, the boundary or `@`) or the name of a set:",
     );
     assert!(rule.len() > 1 && lines.windows(rule.len()).any(|here| here == rule), "{rule:?}");
+}
+
+#[test]
+fn the_alternations_are_those_of_quichua_ways() {
+    let document = document();
+    let quichua = sample("quichua_ways");
+    let shown = lines_after(&document, "### ALTERNATION");
+    assert!(shown.len() > 1 && shown.iter().all(|shown| quichua.lines().any(|line| line == *shown)), "{shown:?}");
+}
+
+/// Entries that end and go on, put in place of those of luz.
+#[test]
+fn the_entries_with_several_continuations_are_read() {
+    let document = document();
+    let heading =
+        "An entry may end the word and go on as well. With this in place of luz's entries, and without its empty one,";
+    let after = document.split_once(heading).unwrap().1;
+    let shown: Vec<&str> =
+        after.lines().skip(2).take_while(|line| line.is_empty() || line.starts_with("    ")).collect();
+    let luz = sample("luz");
+    let before = &luz[..luz.find("LEXICON").unwrap()];
+    let image = assembled(&format!("{before}{}\nEND\n", shown.join("\n"))).unwrap();
+    assert_eq!((support::check::refusal(&image), support::check::counts(&image).form), (None, 2));
 }

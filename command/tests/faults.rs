@@ -101,7 +101,7 @@ fn of_bytes_that_are_not_utf_8() {
 
 #[test]
 fn of_sections() {
-    let order = "sections stand in this order: BOUNDARY, NULL, ANY and ALPHABET, then SUBSET and PAIRS, then RULE, LEXICON, END";
+    let order = "sections stand in this order: BOUNDARY, NULL, ANY, ALPHABET and perhaps FORM, then SUBSET and PAIRS, then RULE, then ALTERNATION and LEXICON, END";
     check(
         "faults-sections",
         &[
@@ -122,6 +122,9 @@ fn of_sections() {
             ("LEXICON Number", "SUBSET Late c\nLEXICON Number", 22, &format!("SUBSET after LEXICON; {order}")),
             ("ANY @", "SUBSET Early #\nANY @", 5, &format!("ANY after SUBSET; {order}")),
             ("ALPHABET", "SUBSET Early c\nALPHABET", 6, &format!("ALPHABET after SUBSET; {order}")),
+            ("LEXICON Noun", "FORM 2\nLEXICON Noun", 19, &format!("FORM after RULE; {order}")),
+            ("ANY @", "ANY @\nFORM 1\nFORM 2", 6, "a second FORM; the first is in line 5"),
+            ("RULE", "ALTERNATION A Number #\nRULE", 12, &format!("RULE after ALTERNATION; {order}")),
             ("END\n", "END\nSUBSET Late c\n", 26, "only comments may follow END"),
             ("END\n", "", 24, "no END after this; the text may have been cut off"),
             ("END\n", "END\n; a comment\n  +s #\n", 27, "only comments may follow END"),
@@ -386,13 +389,13 @@ fn of_lexicons() {
 
 #[test]
 fn of_entries() {
-    let entry = "an entry is a form, a continuation and perhaps a gloss, a number or in quotation marks";
+    let entry = "an entry is a form, one continuation or more, and perhaps a gloss, a number or in quotation marks";
     let gloss = "a gloss is a number from 0 to 65535, or in quotation marks";
     check(
         "faults-entries",
         &[
             ("luZ Number \"luz\"", "luZ", 20, &format!("{entry}; the continuation is missing, and # ends the word")),
-            ("luZ Number \"luz\"", "luZ Number \"luz\" 7", 20, &format!("{entry}; 7 is one too many")),
+            ("luZ Number \"luz\"", "luZ Number \"luz\" 7", 20, &format!("{entry}; 7 is one too many, after the gloss")),
             ("luZ Number \"luz\"", "\"luZ\" Number", 20, &format!("{entry}; a form stands without quotation marks")),
             ("luZ Number", "luk Number", 20, "form luk: k (U+006B) is no letter of the alphabet"),
             (
@@ -405,8 +408,9 @@ fn of_entries() {
             ("luZ Number", "lu@ Number", 20, "form lu@: @ stands for any letter, which only a rule's column may"),
             ("luZ Number", "luZluZluZluZl Number", 20, "form luZluZluZluZl has 13 letters; allowed are 12"),
             ("luc Number 7", "luc Number 65536", 21, &format!("gloss 65536: {gloss}")),
-            ("luc Number 7", "luc Number luc", 21, &format!("gloss luc: {gloss}")),
-            ("luc Number 7", "luc Number -1", 21, &format!("gloss -1: {gloss}")),
+            ("luc Number 7", "luc Number 99999999999", 21, &format!("gloss 99999999999: {gloss}")),
+            ("luc Number 7", "luc Number luc", 21, "no lexicon is called luc; is \"luc\" meant, a gloss?"),
+            ("luc Number 7", "luc Number -1", 21, "no lexicon is called -1; is \"-1\" meant, a gloss?"),
         ],
     );
 }

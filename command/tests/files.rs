@@ -207,12 +207,18 @@ mod unix {
 #[test]
 fn wrong_usage() {
     let folder = luz_folder("files-usage");
-    let wrong: [(&[&str], &str); 14] = [
+    let wrong: [(&[&str], &str); 17] = [
         (&[], "usage: headwords COMMAND ...\n"),
-        (&["assemble"], "headwords assemble: something is missing\nusage: headwords assemble GRAMMAR IMAGE\n"),
+        (
+            &["assemble"],
+            "headwords assemble: something is missing\nusage: headwords assemble [OPTION...] GRAMMAR IMAGE\n",
+        ),
         (&["assemble", "luz.txt"], "headwords assemble: something is missing\n"),
         (&["assemble", "luz.txt", "new.img", "more"], "headwords assemble: more is one too many\n"),
         (&["assemble", "luz.txt", "--letters"], "headwords assemble: there is no option --letters\n"),
+        (&["assemble", "--form", "3", "luz.txt", "new.img"], "headwords assemble: --form takes 1 or 2, not 3\n"),
+        (&["assemble", "luz.txt", "new.img", "--form"], "headwords assemble: --form takes a value, --form 1|2\n"),
+        (&["convert", "luz.img"], "headwords convert: something is missing\nusage: headwords convert IMAGE OUT\n"),
         (&["list", "letters"], "headwords list: something is missing\n"),
         (&["list", "letters", "luz.txt", "more"], "headwords list: more is one too many\n"),
         (&["list", "letter", "luz.txt"], "headwords list: there is no list of letter; is letters meant?\n"),
@@ -240,8 +246,10 @@ fn help() {
     };
     let overview = printed(&["help"]);
     assert_eq!(overview, printed(&["--help"]));
-    let commands =
-        ["read", "generate", "forms", "check", "assemble", "text", "list", "why", "compare", "show", "sheet", "spell"];
+    let commands = [
+        "read", "generate", "forms", "check", "assemble", "text", "convert", "list", "why", "compare", "show", "sheet",
+        "spell",
+    ];
     for command in commands {
         assert!(overview.contains(&format!("\n  {command} ")), "{command}");
         let help = printed(&["help", command]);

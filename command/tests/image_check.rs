@@ -1,10 +1,10 @@
 //! The check that the other tests lean on refuses the small example of each of document 01's refusals, and what document 02
-//! refuses of sets.
+//! refuses of sets and of form 2.
 
 mod support;
 
 use support::check::{refusal, seal};
-use support::{assembled, sample};
+use support::{assembled, edited, sample};
 
 const BLOCK: usize = 512;
 
@@ -56,7 +56,10 @@ fn a_wrong_check_or_block_number_is_refused_with_2() {
 
 #[test]
 fn a_wrong_layout_is_refused_with_3() {
-    assert_eq!(refusal(&altered(0, 4, 2)), Some(3), "form 2");
+    for form in [0, 3, 255] {
+        assert_eq!(refusal(&altered(0, 4, form)), Some(3), "form {form}");
+    }
+    assert_eq!(refusal(&altered(0, 5, 1)), Some(3), "form 257");
     assert_eq!(refusal(&altered(0, 6, 1)), Some(3), "L = 1");
     assert_eq!(refusal(&altered(1, 2, 3)), Some(3), "a kind");
     assert_eq!(refusal(&altered(1, 3, 8)), Some(3), "a record count");
@@ -171,6 +174,48 @@ fn a_wrong_lexicon_is_refused_with_8() {
     assert_eq!(refusal(&altered(5, 5, 1)), Some(8), "the boundary in a form");
     assert_eq!(refusal(&altered(5, 8, 5)), Some(8), "a letter past the length");
     assert_eq!(refusal(&altered(5, 17, 2)), Some(8), "no such lexicon");
+}
+
+/// luz in form 2, where luZ and luc may end: block 5 has its entries.
+fn luz_two() -> Vec<u8> {
+    assembled(&sample("luz").replace("  Number  ", "  # Number  ")).unwrap()
+}
+
+#[test]
+fn a_wrong_layout_of_form_2_is_refused_with_3() {
+    assert_eq!(refusal(&luz_two()), None);
+    assert_eq!(refusal(&with(luz_two(), 0, 4, 1)), Some(3), "form 2 called form 1");
+    assert_eq!(refusal(&with(luz_two(), 5, 4 + 4 * 24, 1)), Some(3), "a byte after the last entry");
+    assert_eq!(refusal(&with(luz_two(), 5, 509, 1)), Some(3), "the last byte before the check");
+    // 21 entries fill a block.
+    let many = |count: usize| {
+        let text = sample("luz").replace("  Number  ", "  # Number  ");
+        assembled(&edited(&text, "  +es  #       \"plural\"\n", &"  +es  #\n".repeat(count))).unwrap()
+    };
+    let (full, over) = (many(18), many(19));
+    assert_eq!((refusal(&full), full.len()), (None, 6 * BLOCK));
+    assert_eq!((refusal(&over), over.len()), (None, 7 * BLOCK));
+    assert_eq!((full[5 * BLOCK + 3], over[5 * BLOCK + 3], over[6 * BLOCK + 3]), (21, 21, 1));
+}
+
+#[test]
+fn a_wrong_entry_of_form_2_is_refused_with_8() {
+    let altered = |byte, value| refusal(&with(luz_two(), 5, byte, value));
+    // Entry 0: length 4, letters 5 to 16, mark 17, gloss 18 and 19, bits 20 to 27.
+    assert_eq!(altered(17, 2), Some(8), "mark 2");
+    assert_eq!(altered(17, 255), Some(8), "form 1's end");
+    assert_eq!(altered(17, 0), None, "without the mark");
+    assert_eq!(altered(20, 0), None, "without the bit");
+    assert_eq!(altered(20, 1), None, "back to its own lexicon");
+    assert_eq!(altered(20, 4), Some(8), "lexicon 2, the first that is missing");
+    assert_eq!(altered(27, 128), Some(8), "lexicon 63");
+    assert_eq!(refusal(&with(with(luz_two(), 5, 17, 0), 5, 20, 0)), Some(8), "neither mark nor bit");
+    assert_eq!(refusal(&altered_form()), Some(8), "form 1 called form 2");
+    assert_eq!(altered(7, 8), Some(14), "z for the Z of luZ");
+}
+
+fn altered_form() -> Vec<u8> {
+    altered(0, 4, 2)
 }
 
 #[test]

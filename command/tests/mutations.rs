@@ -22,7 +22,7 @@ impl Random {
 }
 
 /// Pieces that a slip may put in: what the format gives a meaning, and what it does not expect.
-const PIECES: [&str; 27] = [
+const PIECES: [&str; 33] = [
     " ",
     "\n",
     "\t",
@@ -45,6 +45,12 @@ const PIECES: [&str; 27] = [
     "PAIRS",
     "SUBSET",
     " CPos ",
+    " # ",
+    " Number ",
+    " Noun ",
+    "ALTERNATION",
+    "\nALTERNATION A Number #\n",
+    "\nFORM 2\n",
     "\nSUBSET V # 0 e\n",
     "\u{301}",
     "\u{10000}",
@@ -117,6 +123,14 @@ fn try_texts(text: String, rounds: usize) -> (usize, usize) {
 #[test]
 fn luz_with_slips() {
     let (taken, refused) = try_texts(sample("luz"), 4_000);
+    assert!(taken > 100 && refused > 100, "{taken} taken, {refused} refused");
+}
+
+/// luz in form 2, where many slips leave entries with several ways on.
+#[test]
+fn luz_in_form_2_with_slips() {
+    let text = sample("luz").replace("  Number  ", "  Forms Noun  ");
+    let (taken, refused) = try_texts(text.replace("LEXICON Noun", "ALTERNATION Forms # Number\nLEXICON Noun"), 4_000);
     assert!(taken > 100 && refused > 100, "{taken} taken, {refused} refused");
 }
 

@@ -2,7 +2,7 @@
 
 mod support;
 
-use support::check::{counts, entries, lexicon_counts, pairs, refusal, sets};
+use support::check::{counts, entries, lexicon_counts, pairs, refusal, sets, ways};
 use support::{anywhere, assembled, run, sample, sample_path, scratch, SAMPLES};
 
 fn list(list: &str, sample: &str) -> Vec<Vec<String>> {
@@ -82,12 +82,11 @@ fn entries_are_listed_as_the_image_has_them() {
                 [] => "0".to_string(),
                 form => form.iter().map(|&letter| letters[letter as usize - 1][1].as_str()).collect(),
             };
-            let continuation = match entry[13] {
-                255 => "#",
-                lexicon => &lexicons[lexicon as usize],
-            };
+            let (end, next) = ways(&image, entry);
+            let next = next.iter().map(|&lexicon| lexicons[lexicon].as_str());
+            let ways: Vec<&str> = end.then_some("#").into_iter().chain(next).collect();
             let gloss = u16::from_le_bytes([entry[14], entry[15]]).to_string();
-            let image_says = [k.to_string(), form, continuation.to_string(), gloss];
+            let image_says = [k.to_string(), form, ways.join(" "), gloss];
             let list_says = [0, 2, 3, 4].map(|column| line[column].clone());
             assert_eq!(list_says, image_says, "{sample}");
         }

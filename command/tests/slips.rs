@@ -8,7 +8,7 @@ use support::{edited, run, sample, scratch};
 /// A sample, a place of it, what stands there after the slip, something that only the line to be told has, and what is told.
 type Slip = (&'static str, &'static str, &'static str, &'static str, &'static str);
 
-const KEYWORDS: [Slip; 26] = [
+const KEYWORDS: [Slip; 28] = [
     ("luz", "ALPHABET ", "alphabet ", "alphabet ", "alphabet: keywords are written in capitals: ALPHABET"),
     ("luz", "PAIRS ", "Pairs ", "Pairs ", "Pairs: keywords are written in capitals: PAIRS"),
     ("luz", "NULL 0", "null 0", "null 0", "null: keywords are written in capitals: NULL"),
@@ -40,11 +40,13 @@ const KEYWORDS: [Slip; 26] = [
     ),
     (
         "luz",
-        "LEXICON Number",
-        "ALTERNATION N Number End\nLEXICON Number",
-        "ALTERNATION",
-        "ALTERNATION is no keyword: an entry names one lexicon",
+        "LEXICON Noun",
+        "ALTERNATIONS N Number #\nLEXICON Noun",
+        "ALTERNATIONS",
+        "ALTERNATIONS is no keyword; is ALTERNATION meant?",
     ),
+    ("quichua_ways", "ALTERNATION SuffixTop", "Alternation SuffixTop", "Alternation", "capitals: ALTERNATION"),
+    ("luz", "PAIRS ", "FROM 2\nPAIRS ", "FROM 2", "FROM is no keyword; is FORM meant?"),
     ("luz", "PAIRS ", "INITIAL Noun\nPAIRS ", "INITIAL", "INITIAL is no keyword: words begin in the first lexicon"),
     (
         "luz",
@@ -256,27 +258,157 @@ const RULES: [Slip; 24] = [
     ),
 ];
 
-const LEXICONS: [Slip; 21] = [
-    ("luz", "LEXICON Number", "LEXICON", "\nLEXICON\n", "LEXICON takes one name, without quotation marks, and none is here"),
-    ("luz", "LEXICON Noun", "LEXICON Noun stems", "LEXICON Noun", "LEXICON takes one name, without quotation marks, not Noun stems"),
+const LEXICONS: [Slip; 37] = [
+    (
+        "luz",
+        "LEXICON Number",
+        "LEXICON",
+        "\nLEXICON\n",
+        "LEXICON takes one name, without quotation marks, and none is here",
+    ),
+    (
+        "luz",
+        "LEXICON Noun",
+        "LEXICON Noun stems",
+        "LEXICON Noun",
+        "LEXICON takes one name, without quotation marks, not Noun stems",
+    ),
     ("luz", "LEXICON Noun", "LEXICON END", "LEXICON END", "END cannot name a lexicon"),
     ("luz", "LEXICON Noun", "LEXICON Number", "LEXICON Number\n  0", "a second lexicon Number; the first is in line"),
     ("luz", "luc  Number", "luc  Numer", "Numer ", "no lexicon is called Numer; is Number meant?"),
     ("luz", "luc  Number", "luc  number", "number", "no lexicon is called number; is Number meant?"),
     ("luz", "luc  Number", "luc  Case", "Case", "no lexicon is called Case; # in its place ends the word"),
     ("luz", "luc  Number  \"luc\"", "luc", "  luc\n", "the continuation is missing, and # ends the word"),
-    ("luz", "luc  Number  \"luc\"", "luc  \"luc\"", "  luc  \"luc\"", "the continuation is missing before the gloss, and # ends the word"),
-    ("luz", "\"luc\"", "made up", "made up\n", "; is \"made up\" meant?"),
-    ("luz", "\"luc\"", "“luc”", "“luc”", "gloss “luc”: a gloss is a number from 0 to 65535, or in quotation marks; “ (U+201C) is not the plain quotation mark, \""),
+    (
+        "luz",
+        "luc  Number  \"luc\"",
+        "luc  \"luc\"",
+        "  luc  \"luc\"",
+        "the continuation is missing before the gloss, and # ends the word",
+    ),
+    ("luz", "\"luc\"", "made up", "made up\n", "no lexicon is called made; is \"made up\" meant, a gloss?"),
+    ("luz", "\"luc\"", "“luc”", "“luc”", "no lexicon is called “luc”; “ (U+201C) is not the plain quotation mark, \""),
+    (
+        "luz",
+        "luc  Number  \"luc\"",
+        "luc  Number  Noun bird",
+        "bird",
+        "no lexicon is called bird; is \"bird\" meant, a gloss?",
+    ),
+    ("luz", "luc  Number  \"luc\"", "luc  Number  Nuon", "Nuon", "no lexicon is called Nuon; is Noun meant?"),
+    (
+        "luz",
+        "luc  Number  \"luc\"",
+        "luc  Number  Number",
+        "Number  Number",
+        "Number stands twice among the continuations",
+    ),
+    ("luz", "luc  Number  \"luc\"", "luc  # Number #", "# Number #", "# stands twice among the continuations"),
+    ("luz", "luc  Number  \"luc\"", "luc  Number 7 Noun", "7 Noun", "no lexicon is called 7; a gloss stands last"),
+    (
+        "luz",
+        "luc  Number  \"luc\"",
+        "luc  Number \"luc\" Noun",
+        "\"luc\" Noun",
+        "; Noun is one too many, after the gloss",
+    ),
+    (
+        "quichua_ways",
+        "+man   SuffixGen",
+        "+man   SuffixGne",
+        "SuffixGne",
+        "no lexicon is called SuffixGne; is SuffixGen meant?",
+    ),
+    ("quichua_ways", "SuffixTop    Top #", "SuffixTop    Topp #", "Topp", "no lexicon is called Topp; is Top meant?"),
+    (
+        "quichua_ways",
+        "SuffixTop    Top #",
+        "SuffixTop    Top Top",
+        "Top Top",
+        "Top is in ALTERNATION SuffixTop already",
+    ),
+    ("quichua_ways", "SuffixTop    Top #", "SuffixTop    # Top #", "# Top #", "# is in ALTERNATION SuffixTop already"),
+    (
+        "quichua_ways",
+        "SuffixTop    Top #",
+        "SuffixTop    \"Top\" #",
+        "\"Top\" #",
+        "\"Top\": a lexicon's name stands without quotation marks",
+    ),
+    ("quichua_ways", "SuffixTop    Top #", "SuffixTop", "SuffixTop\n", "ALTERNATION SuffixTop names no lexicon"),
+    (
+        "quichua_ways",
+        "SuffixTop    Top #",
+        "SuffixTop    SuffixGen",
+        "SuffixTop    Su",
+        "SuffixGen is an ALTERNATION, and an ALTERNATION names lexicons alone",
+    ),
+    (
+        "quichua_ways",
+        "ALTERNATION SuffixTop ",
+        "ALTERNATION Top ",
+        "ALTERNATION Top ",
+        "ALTERNATION Top: a lexicon is called so, in line 731; an entry can name the lexicon itself",
+    ),
+    (
+        "quichua_ways",
+        "ALTERNATION SuffixTop ",
+        "ALTERNATION SuffixGen ",
+        "SuffixGen    Top",
+        "a second ALTERNATION SuffixGen; the first is in line",
+    ),
+    (
+        "quichua_ways",
+        "ALTERNATION SuffixTop    Top #",
+        "ALTERNATION",
+        "ALTERNATION\n",
+        "ALTERNATION takes a name, without quotation marks, and then lexicons",
+    ),
     ("luz", "\"luc\"", "70000", "70000", "gloss 70000: a gloss is a number from 0 to 65535"),
     ("luz", "\"luc\"", "\"luc", "\"luc\n", "a quotation mark without its partner in the same line"),
     ("luz", "luc  Number", "luk  Number", "luk", "form luk: k (U+006B) is no letter of the alphabet"),
-    ("luz", "luc  Number", "Luc  Number", "  Luc", "form Luc: L (U+004C) is no letter of the alphabet; is l (U+006C) meant?"),
-    ("luz", "luZ  Number", "luz  Number", "  luz  N", "form luz: no pair has z (U+007A) on its lexical side; it is a surface side only, as in Z:z"),
-    ("spanish", "  bloque        Noun1", "  blo\u{301}que   Noun1", "\u{301}", "U+0301) is no letter of the alphabet; as one character it is ó (U+00F3)"),
-    ("luz", "  0    #       \"sin", "  O    #       \"sin", "  O ", "form O: O (U+004F) is no letter of the alphabet; is 0, the null, meant?"),
-    ("luz", "+es  #", "+e0s  #", "+e0s", "form +e0s: 0 is the null; alone it is an empty form, in a form it cannot stand"),
-    ("luz", "luc  Number", "lucluclucluce  Number", "lucluclucluce", "form lucluclucluce has 13 letters; allowed are 12"),
+    (
+        "luz",
+        "luc  Number",
+        "Luc  Number",
+        "  Luc",
+        "form Luc: L (U+004C) is no letter of the alphabet; is l (U+006C) meant?",
+    ),
+    (
+        "luz",
+        "luZ  Number",
+        "luz  Number",
+        "  luz  N",
+        "form luz: no pair has z (U+007A) on its lexical side; it is a surface side only, as in Z:z",
+    ),
+    (
+        "spanish",
+        "  bloque        Noun1",
+        "  blo\u{301}que   Noun1",
+        "\u{301}",
+        "U+0301) is no letter of the alphabet; as one character it is ó (U+00F3)",
+    ),
+    (
+        "luz",
+        "  0    #       \"sin",
+        "  O    #       \"sin",
+        "  O ",
+        "form O: O (U+004F) is no letter of the alphabet; is 0, the null, meant?",
+    ),
+    (
+        "luz",
+        "+es  #",
+        "+e0s  #",
+        "+e0s",
+        "form +e0s: 0 is the null; alone it is an empty form, in a form it cannot stand",
+    ),
+    (
+        "luz",
+        "luc  Number",
+        "lucluclucluce  Number",
+        "lucluclucluce",
+        "form lucluclucluce has 13 letters; allowed are 12",
+    ),
     ("luz", "luc  Number", "\"luc\"  Number", "\"luc\"  Number", "; a form stands without quotation marks"),
 ];
 
@@ -358,20 +490,21 @@ fn a_keyword_is_told_alone() {
 /// Words like keywords are forms and names of sets where they stand in their places, and no slips.
 #[test]
 fn words_like_keywords() {
-    let letters = "u z Z a d n r y L p i x o\n";
-    let text =
-        edited(&sample("luz"), "u z Z\n", letters).replace("  +:0\n", "  +:0 a:a d:d n:n r:r y:y p:p i:i x:x o:o\n");
+    let letters = "u z Z a d n r y L p i x o m f\n";
+    let text = edited(&sample("luz"), "u z Z\n", letters)
+        .replace("  +:0\n", "  +:0 a:a d:d n:n r:r y:y p:p i:i x:x o:o m:m f:f\n");
     let text = edited(
         &text,
         "  luc  Number",
-        "  end Numer\n  any Number\n  rule Number\n  pairs Number\n  lexicon Number \"lexicon\"\n  luc Number",
+        "  end Numer\n  norm Numer\n  form Number\n  any Number\n  rule Number\n  pairs Number\n  lexicon Number \"lexicon\"\n  luc Number",
     );
     let folder = scratch("slips-forms");
     fs::write(folder.join("grammar.txt"), &text).unwrap();
     let ran = run(&folder, &["check", "grammar.txt"]);
     let line = line_of("end Numer\n", &text);
-    assert_eq!(ran.stderr, format!("grammar.txt:{line}: no lexicon is called Numer; is Number meant?\n"));
-    fs::write(folder.join("grammar.txt"), text.replace("end Numer\n", "end Number\n")).unwrap();
+    let told = |line: usize| format!("grammar.txt:{line}: no lexicon is called Numer; is Number meant?\n");
+    assert_eq!(ran.stderr, told(line) + &told(line + 1));
+    fs::write(folder.join("grammar.txt"), text.replace(" Numer\n", " Number\n")).unwrap();
     let ran = run(&folder, &["check", "grammar.txt"]);
     assert_eq!(ran.code, Some(0), "{}", ran.stderr);
 }

@@ -108,6 +108,14 @@ fn a_circle_is_told_once_at_its_first_entry() {
 }
 
 #[test]
+fn a_circle_by_one_of_several_ways() {
+    let one = |line, name: &str| vec![(line, name.to_string())];
+    assert_eq!(circles("LEXICON A\nluc #\n0 # A\n"), one(3, "A"));
+    assert_eq!(circles("LEXICON A\n0 B C\nLEXICON B\nluc #\nLEXICON C\nluc #\n0 # B A\n"), one(2, "A"));
+    assert_eq!(circles("LEXICON A\nluc # A B\n0 # B\nLEXICON B\n0 #\nluc A #\n"), []);
+}
+
+#[test]
 fn a_letter_or_an_end_breaks_a_circle() {
     assert_eq!(circles("LEXICON A\nluc A\n0 #\n"), []);
     assert_eq!(circles("LEXICON A\n0 B\nLEXICON B\nluc A\n0 #\n"), []);
@@ -122,6 +130,28 @@ fn a_lexicon_that_is_never_reached() {
     // One that leads to itself, and one that only such a one leads to.
     let both = told_of("\nEND", "\nLEXICON More\nluc More\nluc Last\nLEXICON Last\nluc #\nEND");
     assert_eq!(both, [(line, what.to_string()), (line + 3, what.replace("More", "Last"))]);
+}
+
+#[test]
+fn lexicons_by_several_ways() {
+    let more = "\nLEXICON More\n  luc Last\nLEXICON Last\n  luc #\nEND";
+    let by = |ways: &str| told(&edited(&edited(&sample("luz"), "\nEND", more), "luc  Number", &format!("luc  {ways}")));
+    assert_eq!(by("Number More"), []);
+    assert_eq!(by("# More"), []);
+    assert_eq!(by("# Number").len(), 2, "More and Last are never reached");
+    // An entry that ends and goes on ends its lexicon.
+    let text = edited(&sample("luz"), "  0    #       \"singular\"\n  +es  #       \"plural\"", "  +es  # Number");
+    assert_eq!(told(&text), []);
+}
+
+#[test]
+fn an_alternation_that_no_entry_names() {
+    let what = "ALTERNATION N is named by no entry";
+    let line = line_of("LEXICON Noun");
+    let unnamed = told_of("LEXICON Noun", "ALTERNATION N # Number\nLEXICON Noun");
+    assert_eq!(unnamed, [(line, what.to_string())]);
+    let text = edited(&sample("luz"), "LEXICON Noun", "ALTERNATION N # Number\nLEXICON Noun");
+    assert_eq!(told(&edited(&text, "luc  Number", "luc  N")), []);
 }
 
 #[test]
@@ -214,6 +244,12 @@ fn what_stands_twice() {
     }
     let numbered = told_of("  luc  Number", "  luZ  Number 7\n luZ Number 7\n  luc  Number");
     assert_eq!(numbered.len(), 1);
+    // Of two that say the same, one may go on where the other does not; not where both do.
+    let other = told_of("  luc  Number", "  luZ  # Noun \"luz\"\n  luc  Number");
+    assert_eq!(other, []);
+    let meets = told_of("  luc  Number", "  luZ  # Number \"luz\"\n  luc  Number");
+    let what = format!("{first}, and both go on to Number: each word that has it has its readings twice there");
+    assert_eq!(meets, [(line_of("  luc  Number"), what)]);
     let text = sample("luz");
     let rule = &text[text.find("RULE").unwrap()..text.find("LEXICON Noun").unwrap()];
     let again = told_of("LEXICON Noun\n", &format!("{}LEXICON Noun\n", rule.replace("before +e", "again")));

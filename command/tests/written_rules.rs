@@ -191,7 +191,8 @@ fn rules_of_the_samples_come_back_with_letters() {
     let folder = scratch("back_with_letters");
     for name in SAMPLES {
         let grammar = sample_path(name);
-        let written = grammar.with_extension("rules");
+        // The rules of quichua_ways are those of quichua.
+        let written = sample_path(name.trim_end_matches("_ways")).with_extension("rules");
         let numbers = rules(&grammar, &[], &[written.to_str().unwrap(), "--numbers"]);
         assert_eq!((numbers.code, numbers.stderr.as_str()), (Some(0), ""));
         let file = folder.join("numbers");

@@ -1,6 +1,6 @@
 //! `headwords compare`: which words gained, lost or changed readings.
 
-use crate::arguments::Given;
+use crate::arguments::{Choice, Given};
 use crate::commands::read::put_out;
 use crate::commands::Command;
 use crate::failure::{failed, tell, Failure};
@@ -11,18 +11,23 @@ use crate::readings::Names;
 use crate::words::{self, words, work_through, Answer, Asker, Letters, Outcome, Piece, Portion, Settings, Summary};
 use std::path::Path;
 
+const NO_EMPTY: Choice =
+    Choice { name: "--no-empty", value: None, what: "pass over entries with an empty form, in both grammars" };
+
 pub const COMMAND: Command = Command {
     name: "compare",
     operands: "OLD NEW [WORDS]",
     count: 2..=3,
     what: "which words gained, lost or changed readings",
-    options: &[words::MOST, words::JOBS, words::QUIET, words::Q],
+    options: &[NO_EMPTY, words::MOST, words::JOBS, words::QUIET, words::Q],
     more: "\
 OLD and NEW are grammars, WORDS a file of words, a line each; - or nothing is standard input. Readings are compared by what they
 say, headword, entries with glosses and pairing, and not by number or order; where one is an image without its names, that is
 told, and glosses in words are not compared. A line is printed for each reading that one of them
 has: gained, lost or changed, + for NEW and - for OLD, the word, its headword, the entries with their glosses, the pairing. A
 word that had no reading has gained, one that has none any more has lost, another has changed.
+With --no-empty a grammar that goes on by empty entries can be held beside one that names several continuations in their place:
+headword, pairing and the entries with letters have to be the same.
 The status is that of diff: 0 where no word did, 1 where one did, 2 where something cannot be read or written or is refused.
 ",
     run,
@@ -85,7 +90,10 @@ fn compare(given: &Given, settings: &Settings) -> Result<Compared, Failure> {
     let sources = words::open(&[], file.as_slice())?;
     let letters = [&old, &new].map(|side| Letters::new(&side.image, &side.grammar));
     let [old_letters, new_letters] = &letters;
-    let layouts = [&old, &new].map(|side| Plain::new(&Names::new(&side.grammar), false));
+    let layouts = [&old, &new].map(|side| match given.has(NO_EMPTY.name) {
+        true => Plain::without_empty(&Names::new(&side.grammar)),
+        false => Plain::new(&Names::new(&side.grammar), false),
+    });
     let [old_layout, new_layout] = &layouts;
     let new_worker = || {
         let mut old = Side::new(&old, old_letters, old_layout, settings.most);

@@ -103,9 +103,10 @@ struct Walk<'a> {
 const FULL: usize = 65_536;
 
 impl Walk<'_> {
+    /// A path that may end here comes before those that go on.
     fn follow(&mut self, path: &mut Vec<usize>) -> Result<(), Failure> {
         let last = path.last().copied();
-        let ends = last.is_some_and(|last| self.links.is_last(last));
+        let ends = last.is_some_and(|last| self.links.may_end(last));
         self.is_cut |= self.steps_left == 0 || ends && self.paths_left == 0;
         if self.is_cut {
             return Ok(());
@@ -116,7 +117,9 @@ impl Walk<'_> {
             let reply = self.writer.put(path, &mut self.out);
             self.is_written |= reply.rows() > 0;
             self.short += usize::from(matches!(reply, Reply::More(_)));
-            return if self.out.len() > FULL { put_out(&mut self.out) } else { Ok(()) };
+            if self.out.len() > FULL {
+                put_out(&mut self.out)?;
+            }
         }
         if path.len() < MOST_ENTRIES {
             for next in self.links.after(last) {

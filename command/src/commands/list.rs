@@ -18,7 +18,7 @@ pub const COMMAND: Command = Command {
 letters  number, letter
 pairs    number, pair
 sets     number, name, letters
-entries  number, lexicon, form, continuation, gloss number, gloss in words
+entries  number, lexicon, form, continuations divided by spaces, gloss number, gloss in words
 ",
     run,
 };

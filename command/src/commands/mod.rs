@@ -3,6 +3,7 @@
 mod assemble;
 mod check;
 mod compare;
+mod convert;
 mod forms;
 mod generate;
 mod list;
@@ -36,13 +37,14 @@ pub struct Command {
     pub run: fn(&Given) -> Result<(), Failure>,
 }
 
-const COMMANDS: [&Command; 13] = [
+const COMMANDS: [&Command; 14] = [
     &read::COMMAND,
     &generate::COMMAND,
     &forms::COMMAND,
     &check::COMMAND,
     &assemble::COMMAND,
     &text::COMMAND,
+    &convert::COMMAND,
     &list::COMMAND,
     &why::COMMAND,
     &compare::COMMAND,

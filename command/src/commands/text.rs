@@ -15,7 +15,8 @@ pub const COMMAND: Command = Command {
     options: &[],
     more: "\
 Names are those of IMAGE.names, where that is. Without it sets, rules and lexicons are called by their numbers, and glosses
-in words are gone. The text assembles to the same image, byte for byte.
+in words are gone. The text assembles to the same image, byte for byte: where the image has form 2 and form 1 would serve, the
+text has FORM 2.
 ",
     run,
 };

@@ -9,6 +9,8 @@ use crate::words::{Answer, Outcome};
 pub struct Plain {
     headwords: Vec<Vec<u8>>,
     entries: Divided,
+    /// Whether an entry is shown.
+    is_shown: Vec<bool>,
     pairs: Divided,
     /// Those of entries and pairs, where they are wanted.
     numbers: Option<(Divided, Divided)>,
@@ -20,9 +22,15 @@ impl Plain {
         Plain {
             headwords: names.entries.iter().map(|entry| field(&entry.headword)).collect(),
             entries: Divided::new(" ", names.entries.iter().map(|entry| field(&entry.shown()))),
+            is_shown: vec![true; names.entries.len()],
             pairs: Divided::new(" ", names.pairs.iter().map(|pair| field(pair))),
             numbers: with_numbers.then(|| (count(names.entries.len()), count(names.pairs.len()))),
         }
+    }
+
+    /// The same, with entries of an empty form passed over.
+    pub fn without_empty(names: &Names) -> Plain {
+        Plain { is_shown: names.entries.iter().map(|entry| !entry.is_empty).collect(), ..Plain::new(names, false) }
     }
 
     /// The reading of a word, a line.
@@ -33,7 +41,7 @@ impl Plain {
             out.extend_from_slice(&self.headwords[first]);
         }
         out.push(b'\t');
-        self.entries.put(library::path(row), out);
+        self.entries.put(library::path(row).filter(|&entry| self.is_shown[entry]), out);
         out.push(b'\t');
         self.pairs.put(library::pairing(row), out);
         if let Some((entries, pairs)) = &self.numbers {

@@ -83,8 +83,8 @@ impl<'a> Entries<'a> {
         let mut kept: Vec<Vec<usize>> = Vec::new();
         for place in places.iter().rev() {
             let goes_on = |entry: usize| match kept.last() {
-                None => self.links.is_last(entry),
-                Some(next) => next.iter().any(|next| self.links.after(Some(entry)).contains(next)),
+                None => self.links.may_end(entry),
+                Some(next) => next.iter().any(|&next| self.links.follows(Some(entry), next)),
             };
             let ending: Vec<usize> = place.iter().copied().filter(|&entry| goes_on(entry)).collect();
             kept.push(ending);
@@ -98,8 +98,8 @@ impl<'a> Entries<'a> {
             found.extend((!path.is_empty()).then(|| path.clone()));
             return;
         };
-        let next = self.links.after(path.last().copied());
-        for &entry in place.iter().filter(|entry| next.contains(entry)) {
+        let last = path.last().copied();
+        for &entry in place.iter().filter(|&&entry| self.links.follows(last, entry)) {
             if found.len() == most {
                 return;
             }
@@ -113,27 +113,27 @@ impl<'a> Entries<'a> {
     pub fn not_linked(&self, places: &[Vec<usize>]) -> String {
         let mut before: Vec<Option<usize>> = vec![None];
         for place in places {
-            let follows = |&entry: &usize| before.iter().any(|&last| self.links.after(last).contains(&entry));
+            let follows = |&entry: &usize| before.iter().any(|&last| self.links.follows(last, entry));
             let linked: Vec<Option<usize>> = place.iter().copied().filter(follows).map(Some).collect();
             if linked.is_empty() {
                 return self.not_next(before[0], place[0]);
             }
             before = linked;
         }
-        match before[0].and_then(|last| Some((last, self.links.next_lexicon(Some(last))?))) {
-            Some((last, next)) => format!("the word does not end after {}: lexicon {next} follows", self.shown(last)),
+        match before[0].and_then(|last| Some((last, self.links.following(last)?))) {
+            Some((last, following)) => format!("the word does not end after {}: {following}", self.shown(last)),
             None => "a path has an entry or more".to_string(),
         }
     }
 
     fn not_next(&self, last: Option<usize>, entry: usize) -> String {
         let (shown, lexicon) = (self.shown(entry), self.links.lexicon(entry));
-        match (last, self.links.next_lexicon(last)) {
-            (None, next) => format!("{shown} is in lexicon {lexicon}, and words begin in {}", next.unwrap_or("none")),
-            (Some(last), None) => format!("{shown} cannot follow {}, which ends the word", self.shown(last)),
-            (Some(last), Some(next)) => {
-                format!("{shown} is in lexicon {lexicon}, and lexicon {next} follows {}", self.shown(last))
-            }
+        let Some(last) = last else {
+            return format!("{shown} is in lexicon {lexicon}, and words begin in {}", self.links.first_lexicon());
+        };
+        match self.links.following(last) {
+            None => format!("{shown} cannot follow {}, which ends the word", self.shown(last)),
+            Some(following) => format!("{shown} is in lexicon {lexicon}, and {following} {}", self.shown(last)),
         }
     }
 

@@ -2,38 +2,36 @@
 
 use crate::text::alphabet::ANY;
 use crate::text::columns::Column;
+use crate::text::form::Form;
 use crate::text::grammar::Grammar;
-use crate::text::lexicons::{Continuation, Entry};
+use crate::text::lexicons::Entry;
 use crate::text::limits;
 use crate::text::pairs::Pair;
 use crate::text::rules::Rule;
 use crate::text::sets::{Set, FIRST_SET};
 
 pub const BLOCK: usize = 512;
-const MOST_BLOCKS: usize = 128;
 /// Where a block's first record begins.
 pub const RECORDS: usize = 4;
 /// Where a block's check stands.
 const CHECK: usize = 510;
-const FORM_ONE: usize = 1;
-pub const ENTRIES_A_BLOCK: usize = 31;
-pub const ENTRY: usize = 16;
 pub const SET: usize = 16;
-/// The continuation of an entry that ends the word.
+/// The continuation of an entry that ends the word, in form 1.
 pub const END: u8 = 255;
 
-// The limits keep every image within its blocks, so that no grammar is too large to lay out.
+// The limits keep every image within its blocks, so that no grammar is too large to lay out; in form 2 its room does.
 const _: () = {
-    let entry_blocks = limits::ENTRIES.end().div_ceil(ENTRIES_A_BLOCK);
-    assert!(5 + *limits::RULES.end() + entry_blocks <= MOST_BLOCKS);
+    assert!(Form::One.room(*limits::RULES.end(), true) == *limits::ENTRIES.end());
+    assert!(Form::Two.room(0, false) == 2_604);
     let table = 2 + 2 * *limits::COLUMNS.end() + *limits::STATES.end() * (1 + *limits::COLUMNS.end());
     assert!(table <= CHECK - RECORDS);
     assert!(2 * *limits::PAIRS.end() <= CHECK - RECORDS);
-    assert!(ENTRIES_A_BLOCK * ENTRY <= CHECK - RECORDS);
+    assert!(Form::One.entries_a_block() * Form::One.entry() <= CHECK - RECORDS);
+    assert!(Form::Two.entries_a_block() * Form::Two.entry() <= CHECK - RECORDS);
     assert!(*limits::SETS.end() * SET <= CHECK - RECORDS && *limits::LETTERS.end() < 8 * SET);
     // A side of a column is a letter, names a set or is any, and no two of these.
     assert!(*limits::LETTERS.end() < FIRST_SET as usize && FIRST_SET as usize + *limits::SETS.end() <= ANY as usize);
-    assert!(*limits::LEXICONS.end() < END as usize);
+    assert!(*limits::LEXICONS.end() <= u64::BITS as usize && *limits::LEXICONS.end() < END as usize);
 };
 
 /// The image of a grammar, sealed.
@@ -42,7 +40,11 @@ pub fn sealed_image(grammar: &Grammar) -> Vec<u8> {
     let pairs: Vec<_> = grammar.pairs.iter().map(|&Pair { lexical, surface }| [lexical, surface]).collect();
     let sets: Vec<_> = grammar.sets.all().iter().map(set).collect();
     let counts: Vec<_> = grammar.lexicons.iter().map(|lexicon| two_bytes(lexicon.entries.len())).collect();
-    let entries: Vec<_> = grammar.lexicons.iter().flat_map(|lexicon| &lexicon.entries).map(entry).collect();
+    let entry = match grammar.form {
+        Form::One => entry_of_one,
+        Form::Two => entry_of_two,
+    };
+    let entries: Vec<Vec<u8>> = grammar.lexicons.iter().flat_map(|lexicon| &lexicon.entries).map(entry).collect();
 
     let mut blocks = vec![block(1, &[header(grammar, entries.len())]), block(2, &letters), block(3, &pairs)];
     if !sets.is_empty() {
@@ -50,7 +52,7 @@ pub fn sealed_image(grammar: &Grammar) -> Vec<u8> {
     }
     blocks.extend(grammar.rules.iter().map(|rule| block(4, &[table(rule)])));
     blocks.push(block(5, &counts));
-    blocks.extend(entries.chunks(ENTRIES_A_BLOCK).map(|records| block(6, records)));
+    blocks.extend(entries.chunks(grammar.form.entries_a_block()).map(|records| block(6, records)));
     for (number, block) in blocks.iter_mut().enumerate() {
         seal(block, number);
     }
@@ -59,7 +61,8 @@ pub fn sealed_image(grammar: &Grammar) -> Vec<u8> {
 
 fn header(grammar: &Grammar, entries: usize) -> Vec<u8> {
     let (letters, pairs, rules) = (grammar.alphabet.count(), grammar.pairs.len(), grammar.rules.len());
-    let counts = [FORM_ONE, letters, pairs, rules, grammar.lexicons.len(), entries, grammar.sets.all().len()];
+    let counts =
+        [grammar.form.number(), letters, pairs, rules, grammar.lexicons.len(), entries, grammar.sets.all().len()];
     counts.map(two_bytes).concat()
 }
 
@@ -77,15 +80,22 @@ fn table(rule: &Rule) -> Vec<u8> {
     bytes
 }
 
-fn entry(entry: &Entry) -> [u8; ENTRY] {
-    let mut bytes = [0; ENTRY];
+/// Length and letters, one way on, gloss.
+fn entry_of_one(entry: &Entry) -> Vec<u8> {
+    let lexicon = entry.ways.lexicons().next().map(|lexicon| lexicon as u8);
+    [&form_bytes(entry)[..], &[lexicon.unwrap_or(END)], &entry.gloss.to_le_bytes()].concat()
+}
+
+/// Length and letters, whether the word may end, gloss, and a bit for each lexicon: bit b of byte j is lexicon 8j + b.
+fn entry_of_two(entry: &Entry) -> Vec<u8> {
+    let end = [u8::from(entry.ways.end)];
+    [&form_bytes(entry)[..], &end, &entry.gloss.to_le_bytes(), &entry.ways.bits.to_le_bytes()].concat()
+}
+
+fn form_bytes(entry: &Entry) -> [u8; 13] {
+    let mut bytes = [0; 13];
     bytes[0] = entry.form.len() as u8;
     bytes[1..][..entry.form.len()].copy_from_slice(&entry.form);
-    bytes[13] = match entry.continuation {
-        Continuation::End => END,
-        Continuation::Lexicon(number) => number,
-    };
-    bytes[14..].copy_from_slice(&entry.gloss.to_le_bytes());
     bytes
 }
 

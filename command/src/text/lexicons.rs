@@ -1,14 +1,15 @@
 //! Lexicons and their entries: a form, what may follow it, and a gloss.
 
-use crate::nearest::{is_meant, nearest};
 use crate::text::alphabet::{Alphabet, ANY, BOUNDARY, NULL};
+use crate::text::alternations::{self, Alternation};
+use crate::text::continuations::{is_end, read_ways, Names};
 use crate::text::fault::{Fault, Faults};
-use crate::text::hints::{accent_meant, letter_meant, quote_meant};
+use crate::text::hints::{accent_meant, letter_meant};
 use crate::text::limits;
-use crate::text::lines::{name, number, one_character, Line, Word};
+use crate::text::lines::{is_alone, is_number, name, number, Line, Word};
 use crate::text::pairs::Pair;
-use crate::text::sections::{Keyword, Section};
-use std::collections::HashMap;
+use crate::text::sections::{Keyword, Section, Sections};
+use crate::text::ways::Ways;
 
 #[derive(Debug)]
 pub struct Lexicon {
@@ -21,7 +22,7 @@ pub struct Lexicon {
 #[derive(Debug)]
 pub struct Entry {
     pub form: Vec<u8>,
-    pub continuation: Continuation,
+    pub ways: Ways,
     pub gloss: u16,
     /// The gloss in words; empty where the text has none.
     pub gloss_text: String,
@@ -29,40 +30,46 @@ pub struct Entry {
     pub line: usize,
 }
 
-#[derive(Clone, Copy, Debug, PartialEq, Eq, Hash)]
-pub enum Continuation {
-    /// The word ends here.
-    End,
-    /// An entry of the lexicon with this number follows.
-    Lexicon(u8),
-}
-
-/// Lexicon numbers by name.
-type Numbers<'a> = HashMap<&'a str, u8>;
-
-pub fn read(sections: &[Section], alphabet: &Alphabet, pairs: &[Pair], faults: &mut Faults) -> Vec<Lexicon> {
-    if faults.keep(check_counts(sections)).is_none() {
-        return Vec::new();
+/// The lexicons of a text, and its alternations.
+pub fn read(
+    sections: &Sections,
+    alphabet: &Alphabet,
+    pairs: &[Pair],
+    faults: &mut Faults,
+) -> (Vec<Alternation>, Vec<Lexicon>) {
+    if faults.keep(check_counts(&sections.lexicons)).is_none() {
+        return Default::default();
     }
     let mut wrong_names = Faults::default();
-    let numbers = read_names(sections, alphabet, &mut wrong_names);
-    // Continuations lean on the names.
+    let mut names = read_names(&sections.lexicons, alphabet, &mut wrong_names);
+    // Continuations lean on the names, and alternations on those of lexicons.
     if let Err(wrong_names) = wrong_names.or(()) {
         faults.extend(wrong_names);
-        return Vec::new();
+        return Default::default();
+    }
+    let mut wrong_choices = Faults::default();
+    let mut alternations = alternations::read(&sections.alternations, alphabet, &mut names, &mut wrong_choices);
+    if let Err(wrong_choices) = wrong_choices.or(()) {
+        faults.extend(wrong_choices);
+        return Default::default();
     }
     let mut entry_numbers = 0..;
     let mut lexicons = Vec::new();
-    for section in sections {
+    for section in &sections.lexicons {
         let numbered = section.body.iter().zip(entry_numbers.by_ref());
-        let entries = numbered.map(|(line, number)| read_entry(line, number, alphabet, pairs, &numbers));
+        let entries = numbered.map(|(line, number)| read_entry(line, number, alphabet, pairs, &names));
         lexicons.push(Lexicon {
             name: read_name(section, alphabet).unwrap_or_default().to_string(),
             entries: entries.filter_map(|entry| faults.keep(entry)).collect(),
             line: section.line,
         });
+        for word in section.body.iter().flat_map(|line| line.words.iter().skip(1)) {
+            if let Some(&(at, _)) = word.bare().and_then(|word| names.choices.get(word)) {
+                alternations[at].is_named = true;
+            }
+        }
     }
-    lexicons
+    (alternations, lexicons)
 }
 
 /// The line of a count over its limit is that of the first lexicon or entry too many.
@@ -76,19 +83,18 @@ fn check_counts(sections: &[Section]) -> Result<(), Fault> {
     Ok(())
 }
 
-fn read_names<'a>(sections: &[Section<'a>], alphabet: &Alphabet, faults: &mut Faults) -> Numbers<'a> {
-    let mut numbers = Numbers::new();
+fn read_names<'a>(sections: &[Section<'a>], alphabet: &Alphabet, faults: &mut Faults) -> Names<'a> {
+    let mut names = Names::default();
     for (number, section) in (0..).zip(sections) {
         let Some(name) = faults.keep(read_name(section, alphabet)) else {
             continue;
         };
-        let first = *numbers.entry(name).or_insert(number);
+        let (first, first_line) = *names.lexicons.entry(name).or_insert((number, section.line));
         if first != number {
-            let first_line = sections[usize::from(first)].line;
             faults.add(section.line, format!("a second lexicon {name}; the first is in line {first_line}"));
         }
     }
-    numbers
+    names
 }
 
 /// A name that cannot be taken for a keyword or for the end of a word.
@@ -104,58 +110,50 @@ fn read_name<'a>(section: &Section<'a>, alphabet: &Alphabet) -> Result<&'a str, 
     Ok(name)
 }
 
-/// The boundary in place of a lexicon's name ends the word.
-fn is_end(name: &str, alphabet: &Alphabet) -> bool {
-    is_alone(name, BOUNDARY, alphabet)
-}
-
-fn is_alone(text: &str, side: u8, alphabet: &Alphabet) -> bool {
-    one_character(text) == Some(alphabet.character(side))
-}
-
-fn read_entry(
-    line: &Line,
-    number: u16,
-    alphabet: &Alphabet,
-    pairs: &[Pair],
-    numbers: &Numbers,
-) -> Result<Entry, Fault> {
+fn read_entry(line: &Line, number: u16, alphabet: &Alphabet, pairs: &[Pair], names: &Names) -> Result<Entry, Fault> {
     let at_fault = |what: String| Fault::new(line.number, what);
-    let (form, continuation, gloss) = match line.words[..] {
-        [Word::Bare(form), Word::Bare(continuation)] => (form, continuation, Word::Quoted("")),
-        [Word::Bare(form), Word::Bare(continuation), gloss] => (form, continuation, gloss),
-        _ => {
-            let what = "an entry is a form, a continuation and perhaps a gloss, a number or in quotation marks";
-            return Err(at_fault(format!("{what}{}", entry_meant(&line.words, alphabet))));
-        }
+    let Some((form, ways, gloss)) = divide(&line.words) else {
+        let what = "an entry is a form, one continuation or more, and perhaps a gloss, a number or in quotation marks";
+        return Err(at_fault(format!("{what}{}", entry_meant(&line.words, alphabet))));
     };
     let (gloss, gloss_text) = read_gloss(gloss, number).map_err(at_fault)?;
     Ok(Entry {
         form: read_form(form, alphabet, pairs).map_err(at_fault)?,
-        continuation: read_continuation(continuation, alphabet, numbers).map_err(at_fault)?,
+        ways: read_ways(&ways, alphabet, names).map_err(at_fault)?,
         gloss,
         gloss_text: gloss_text.to_string(),
         line: line.number,
     })
 }
 
+/// An entry's form, what it goes on to, and its gloss: the last word, if it stands in quotation marks or is a number after a
+/// continuation.
+fn divide<'a>(words: &[Word<'a>]) -> Option<(&'a str, Vec<&'a str>, Word<'a>)> {
+    let (gloss, others) = match *words {
+        [ref others @ .., gloss @ Word::Quoted(_)] => (gloss, others),
+        [_, _, .., gloss @ Word::Bare(last)] if is_number(last) => (gloss, &words[..words.len() - 1]),
+        _ => (Word::Quoted(""), words),
+    };
+    let bare: Vec<&str> = others.iter().map(|word| word.bare()).collect::<Option<_>>()?;
+    let (&form, ways) = bare.split_first()?;
+    (!ways.is_empty()).then(|| (form, ways.to_vec(), gloss))
+}
+
 /// What a line that is no entry may lack, or have too much.
 fn entry_meant(words: &[Word], alphabet: &Alphabet) -> String {
     let end = alphabet.character(BOUNDARY);
-    match *words {
-        [Word::Quoted(_), ..] => "; a form stands without quotation marks".to_string(),
-        [_] => format!("; the continuation is missing, and {end} ends the word"),
-        [_, Word::Quoted(_), ..] => format!("; the continuation is missing before the gloss, and {end} ends the word"),
-        [_, _, Word::Bare(_), ..] => quote_meant(words).unwrap_or_else(|| {
-            let gloss: Vec<&str> = words[2..].iter().map(|word| word.text()).collect();
-            format!("; is \"{}\" meant?", gloss.join(" "))
-        }),
-        _ => format!("; {} is one too many", words[3].text()),
+    let quoted = words.iter().position(|word| word.bare().is_none());
+    match (words, quoted) {
+        (_, Some(0)) => "; a form stands without quotation marks".to_string(),
+        ([_], _) => format!("; the continuation is missing, and {end} ends the word"),
+        (_, Some(1)) => format!("; the continuation is missing before the gloss, and {end} ends the word"),
+        (_, Some(gloss)) => format!("; {} is one too many, after the gloss", words[gloss + 1].text()),
+        _ => String::new(),
     }
 }
 
 fn read_form(form: &str, alphabet: &Alphabet, pairs: &[Pair]) -> Result<Vec<u8>, String> {
-    if is_alone(form, NULL, alphabet) {
+    if is_alone(form, alphabet.character(NULL)) {
         return Ok(Vec::new());
     }
     let read = |c| read_form_letter(c, alphabet).map_err(|what| format!("form {form}: {what}{}", accent_meant(form)));
@@ -193,21 +191,6 @@ fn check_lexical(letter: u8, alphabet: &Alphabet, pairs: &[Pair]) -> Result<(), 
     }
 }
 
-fn read_continuation(word: &str, alphabet: &Alphabet, numbers: &Numbers) -> Result<Continuation, String> {
-    if is_end(word, alphabet) {
-        return Ok(Continuation::End);
-    }
-    match numbers.get(word) {
-        Some(&lexicon) => Ok(Continuation::Lexicon(lexicon)),
-        None => {
-            let end = alphabet.character(BOUNDARY);
-            let near = nearest(word, numbers.keys().copied());
-            let hint = near.map_or(format!("; {end} in its place ends the word"), |near| is_meant(Some(near)));
-            Err(format!("no lexicon is called {word}{hint}"))
-        }
-    }
-}
-
 /// A gloss in words gets the entry's own number, so that the list of entries finds it.
 fn read_gloss(gloss: Word<'_>, entry: u16) -> Result<(u16, &str), String> {
     match gloss {
@@ -216,10 +199,7 @@ fn read_gloss(gloss: Word<'_>, entry: u16) -> Result<(u16, &str), String> {
             // Kept in words too, since the own number alone is what an entry without a gloss has.
             Some(gloss) if gloss == entry => Ok((gloss, word)),
             Some(gloss) => Ok((gloss, "")),
-            None => {
-                let hint = quote_meant(&[gloss]).unwrap_or_default();
-                Err(format!("gloss {word}: a gloss is a number from 0 to 65535, or in quotation marks{hint}"))
-            }
+            None => Err(format!("gloss {word}: a gloss is a number from 0 to 65535, or in quotation marks")),
         },
     }
 }

@@ -12,6 +12,8 @@ pub const COLUMNS: RangeInclusive<usize> = 1..=16;
 pub const STATES: RangeInclusive<usize> = 1..=24;
 pub const LEXICONS: RangeInclusive<usize> = 1..=64;
 pub const ENTRIES: RangeInclusive<usize> = 1..=2_800;
+/// Blocks of an image.
+pub const BLOCKS: usize = 128;
 /// Letters of one form; an entry of the image has this many places for them.
 pub const FORM: RangeInclusive<usize> = 0..=12;
 /// The highest code point that fits the two bytes of a letter.

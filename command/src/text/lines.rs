@@ -130,10 +130,19 @@ pub fn one_character(word: &str) -> Option<char> {
     characters.next().filter(|_| characters.next().is_none())
 }
 
+/// Whether a word is this character alone.
+pub fn is_alone(word: &str, character: char) -> bool {
+    one_character(word) == Some(character)
+}
+
+/// Whether a word is all digits, however many.
+pub fn is_number(word: &str) -> bool {
+    word.bytes().all(|byte| byte.is_ascii_digit())
+}
+
 /// A whole number in digits; none where it is written otherwise or is far too large.
 pub fn number(word: &str) -> Option<usize> {
-    let digits = !word.is_empty() && word.bytes().all(|byte| byte.is_ascii_digit());
-    digits.then(|| word.parse::<u32>().ok())?.map(|n| n as usize)
+    (!word.is_empty() && is_number(word)).then(|| word.parse::<u32>().ok())?.map(|n| n as usize)
 }
 
 /// A character as messages name it; one that cannot be seen, by its code point alone.

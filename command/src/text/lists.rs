@@ -23,16 +23,16 @@ pub fn list_sets(grammar: &Grammar) -> String {
         .collect()
 }
 
-/// A line an entry: number, lexicon, form, continuation, gloss number, gloss in words.
+/// A line an entry: number, lexicon, form, continuations, gloss number, gloss in words.
 pub fn list_entries(grammar: &Grammar) -> String {
     let entries = grammar.entries().into_iter().enumerate();
     entries.map(|(number, (lexicon, entry))| list_entry(number, lexicon, entry, grammar)).collect()
 }
 
 fn list_entry(number: usize, lexicon: &Lexicon, entry: &Entry, grammar: &Grammar) -> String {
-    let (form, continuation) = (grammar.show_form(&entry.form), grammar.show_continuation(entry.continuation));
+    let (form, ways) = (grammar.show_form(&entry.form), grammar.show_ways(entry.ways));
     let (name, gloss, gloss_text) = (&lexicon.name, entry.gloss, &entry.gloss_text);
-    format!("{number}\t{name}\t{form}\t{continuation}\t{gloss}\t{gloss_text}\n")
+    format!("{number}\t{name}\t{form}\t{ways}\t{gloss}\t{gloss_text}\n")
 }
 
 fn show_letters(letters: &[u8], alphabet: &Alphabet) -> String {

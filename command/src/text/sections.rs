@@ -10,24 +10,29 @@ pub enum Keyword {
     Null,
     Any,
     Alphabet,
+    Form,
     Subset,
     Pairs,
     Rule,
+    Alternation,
     Lexicon,
     End,
 }
 
-const ORDER: &str = "BOUNDARY, NULL, ANY and ALPHABET, then SUBSET and PAIRS, then RULE, LEXICON, END";
+const ORDER: &str =
+    "BOUNDARY, NULL, ANY, ALPHABET and perhaps FORM, then SUBSET and PAIRS, then RULE, then ALTERNATION and LEXICON, END";
 
 impl Keyword {
-    pub const ALL: [Keyword; 9] = [
+    pub const ALL: [Keyword; 11] = [
         Keyword::Boundary,
         Keyword::Null,
         Keyword::Any,
         Keyword::Alphabet,
+        Keyword::Form,
         Keyword::Subset,
         Keyword::Pairs,
         Keyword::Rule,
+        Keyword::Alternation,
         Keyword::Lexicon,
         Keyword::End,
     ];
@@ -42,9 +47,11 @@ impl Keyword {
             Keyword::Null => "NULL",
             Keyword::Any => "ANY",
             Keyword::Alphabet => "ALPHABET",
+            Keyword::Form => "FORM",
             Keyword::Subset => "SUBSET",
             Keyword::Pairs => "PAIRS",
             Keyword::Rule => "RULE",
+            Keyword::Alternation => "ALTERNATION",
             Keyword::Lexicon => "LEXICON",
             Keyword::End => "END",
         }
@@ -53,10 +60,10 @@ impl Keyword {
     /// Sections of equal rank may stand in any order.
     fn rank(self) -> u8 {
         match self {
-            Keyword::Boundary | Keyword::Null | Keyword::Any | Keyword::Alphabet => 0,
+            Keyword::Boundary | Keyword::Null | Keyword::Any | Keyword::Alphabet | Keyword::Form => 0,
             Keyword::Subset | Keyword::Pairs => 1,
             Keyword::Rule => 2,
-            Keyword::Lexicon => 3,
+            Keyword::Alternation | Keyword::Lexicon => 3,
             Keyword::End => 4,
         }
     }
@@ -97,9 +104,11 @@ pub struct Sections<'a> {
     pub null: Section<'a>,
     pub any: Section<'a>,
     pub alphabet: Section<'a>,
+    pub form: Option<Section<'a>>,
     pub subsets: Vec<Section<'a>>,
     pub pairs: Section<'a>,
     pub rules: Vec<Section<'a>>,
+    pub alternations: Vec<Section<'a>>,
     pub lexicons: Vec<Section<'a>>,
 }
 
@@ -116,9 +125,11 @@ pub fn divide(lines: Vec<Line<'_>>) -> Result<Sections<'_>, Fault> {
         null: only(&mut sections, Keyword::Null, end)?,
         any: only(&mut sections, Keyword::Any, end)?,
         alphabet: only(&mut sections, Keyword::Alphabet, end)?,
+        form: at_most_one(&mut sections, Keyword::Form)?,
         subsets: every(&mut sections, Keyword::Subset),
         pairs: only(&mut sections, Keyword::Pairs, end)?,
         rules: every(&mut sections, Keyword::Rule),
+        alternations: every(&mut sections, Keyword::Alternation),
         lexicons,
     })
 }
@@ -175,14 +186,17 @@ fn check_order(sections: &[Section]) -> Result<(), Fault> {
 
 /// The section of a keyword that stands once.
 fn only<'a>(sections: &mut Vec<Section<'a>>, keyword: Keyword, end: usize) -> Result<Section<'a>, Fault> {
+    at_most_one(sections, keyword)?.ok_or_else(|| missing(keyword, end))
+}
+
+fn at_most_one<'a>(sections: &mut Vec<Section<'a>>, keyword: Keyword) -> Result<Option<Section<'a>>, Fault> {
     let mut found = every(sections, keyword).into_iter();
-    let first = found.next().ok_or_else(|| missing(keyword, end))?;
-    match found.next() {
-        Some(second) => {
+    match (found.next(), found.next()) {
+        (Some(first), Some(second)) => {
             let (name, first_line) = (keyword.name(), first.line);
             Err(Fault::new(second.line, format!("a second {name}; the first is in line {first_line}")))
         }
-        None => Ok(first),
+        (first, _) => Ok(first),
     }
 }
 

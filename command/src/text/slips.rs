@@ -2,16 +2,15 @@
 
 use crate::nearest::{is_meant, nearest};
 use crate::text::fault::{Fault, Faults};
-use crate::text::lines::{one_character, Line, Word};
+use crate::text::lines::{is_number, one_character, Line, Word};
 use crate::text::sections::Keyword;
 
 /// Keywords of PC-KIMMO, and words like them, that a text has not, and what it has in their place.
-const ELSEWHERE: [(&str, &str); 13] = [
-    ("ALTERNATION", "an entry names one lexicon; for a choice, go on to a lexicon of empty entries"),
+const ELSEWHERE: [(&str, &str); 12] = [
     ("COMMENT", "a comment begins with ;"),
     ("FEATURES", "what an entry means stands in its gloss"),
     ("FIELDCODE", "an entry is one line: a form, a continuation and a gloss"),
-    ("GLOSS", "a gloss is the third word of its entry"),
+    ("GLOSS", "a gloss is the last word of its entry"),
     ("INCLUDE", "rules and lexicons stand in one file"),
     ("INITIAL", "words begin in the first lexicon"),
     ("ENTRIES", "entries stand under LEXICON and its name, a line each"),
@@ -25,7 +24,7 @@ const ELSEWHERE: [(&str, &str); 13] = [
 /// A line that may have been meant to open a section.
 pub struct Slip {
     fault: Fault,
-    /// It may be an entry or a row of a rule as well, and then is no slip.
+    /// It may be an entry, a row of a rule or names of lexicons as well, and then is no slip.
     may_be_right: bool,
 }
 
@@ -38,7 +37,7 @@ pub fn slips(lines: &[Line]) -> Vec<Slip> {
             section = Some(keyword);
             continue;
         }
-        let may_be_right = matches!(section, Some(Keyword::Rule | Keyword::Lexicon));
+        let may_be_right = matches!(section, Some(Keyword::Rule | Keyword::Alternation | Keyword::Lexicon));
         if let Some(what) = told(&line.words, may_be_right) {
             slips.push(Slip { fault: Fault::new(line.number, what), may_be_right });
         }
@@ -95,9 +94,11 @@ fn fits(keyword: Keyword, words: &[Word]) -> bool {
     match keyword {
         Keyword::Boundary | Keyword::Null | Keyword::Any => words.len() == 1 && is_letter(&words[0]),
         Keyword::Alphabet => words.iter().all(is_letter),
+        Keyword::Form => matches!(words, [Word::Bare(form)] if is_number(form)),
         Keyword::Subset => words.len() > 1 && words[1..].iter().all(is_letter),
         Keyword::Pairs => words.iter().all(|word| word.bare().is_some_and(|text| text.contains(':'))),
         Keyword::Rule => matches!(words, [Word::Quoted(_), ..]),
+        Keyword::Alternation => words.len() > 1 && words.iter().all(|word| word.bare().is_some()),
         Keyword::Lexicon => matches!(words, [Word::Bare(_)]),
         Keyword::End => words.is_empty(),
     }

@@ -2,8 +2,9 @@
 
 use crate::text::alphabet::{ANY, BOUNDARY, NULL};
 use crate::text::columns::Sides;
-use crate::text::lexicons::Lexicon;
-use crate::text::lines::{is_word, name};
+use crate::text::form::Form;
+use crate::text::lexicons::{Entry, Lexicon};
+use crate::text::lines::{is_number, is_word, name};
 use crate::text::rules::Rule;
 use crate::text::sections::Keyword;
 use crate::text::Grammar;
@@ -20,6 +21,9 @@ pub fn written(grammar: &Grammar) -> Result<String, String> {
     let mut text = format!("BOUNDARY {boundary}\nNULL {null}\nANY {any}\n\nALPHABET\n");
     let letters: Vec<String> = alphabet.letters().skip(1).map(String::from).collect();
     text += &wrapped(&letters, LETTERS_A_LINE);
+    if grammar.form == Form::Two && grammar.has_one_way() {
+        text += "\n; Without this line the image would have form 1.\nFORM 2\n";
+    }
     for set in grammar.sets.all() {
         let letters: Vec<String> = set.letters.iter().map(|&letter| alphabet.character(letter).to_string()).collect();
         text += &format!("\nSUBSET {}\n{}", set.name, wrapped(&letters, LETTERS_A_LINE));
@@ -28,6 +32,11 @@ pub fn written(grammar: &Grammar) -> Result<String, String> {
     text += &format!("\nPAIRS\n{}", wrapped(&pairs, PAIRS_A_LINE));
     let sides = Sides { alphabet, sets: &grammar.sets };
     text.extend(grammar.rules.iter().map(|rule| write_rule(rule, sides)));
+    if !grammar.alternations.is_empty() {
+        let shown = |ways| grammar.show_ways(ways);
+        let lines = grammar.alternations.iter().map(|one| format!("ALTERNATION {} {}\n", one.name, shown(one.ways)));
+        text += &format!("\n{}", lines.collect::<String>());
+    }
     let mut number = 0;
     for lexicon in &grammar.lexicons {
         text += &write_lexicon(lexicon, number, grammar);
@@ -72,14 +81,25 @@ pub fn write_rule(rule: &Rule, sides: Sides) -> String {
 
 fn write_lexicon(lexicon: &Lexicon, first: usize, grammar: &Grammar) -> String {
     let rows = (first..).zip(&lexicon.entries).map(|(number, entry)| {
+        let ways = write_ways(entry, grammar);
         let gloss = match (entry.gloss_text.as_str(), usize::from(entry.gloss)) {
+            // A last continuation whose name is a number would be taken for the gloss.
+            ("", gloss) if gloss == number && ways.split(' ').skip(1).last().is_some_and(is_number) => {
+                "\"\"".to_string()
+            }
             ("", gloss) if gloss == number => String::new(),
             ("", gloss) => gloss.to_string(),
             (words, _) => format!("\"{words}\""),
         };
-        vec![grammar.show_form(&entry.form), grammar.show_continuation(entry.continuation), gloss]
+        vec![grammar.show_form(&entry.form), ways, gloss]
     });
     format!("\nLEXICON {}\n{}", lexicon.name, aligned(&rows.collect::<Vec<_>>()))
+}
+
+/// The alternation that has just an entry's ways on, where there are several; else each by name.
+fn write_ways(entry: &Entry, grammar: &Grammar) -> String {
+    let choice = grammar.alternations.iter().find(|one| one.ways == entry.ways && !one.ways.is_one());
+    choice.map_or_else(|| grammar.show_ways(entry.ways), |one| one.name.clone())
 }
 
 /// Rows of words with each column as wide as its widest word.

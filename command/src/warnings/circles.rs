@@ -1,6 +1,6 @@
 //! Circles of empty entries: lexicons that lead back to themselves without a letter.
 
-use crate::text::lexicons::{Continuation, Entry, Lexicon};
+use crate::text::lexicons::{Entry, Lexicon};
 use crate::text::{Fault, Grammar};
 use crate::warnings::{reached, warning};
 
@@ -22,7 +22,7 @@ fn circles(lexicons: &[Lexicon]) -> Vec<(&Lexicon, &Entry)> {
     let mut told = vec![false; lexicons.len()];
     let mut found = Vec::new();
     for (from, lexicon) in lexicons.iter().enumerate() {
-        let back = lexicon.entries.iter().find(|entry| onward(entry).is_some_and(|to| to == from || reached[to][from]));
+        let back = lexicon.entries.iter().find(|entry| onward(entry).any(|to| to == from || reached[to][from]));
         let Some(entry) = back.filter(|_| !told[from]) else {
             continue;
         };
@@ -36,13 +36,10 @@ fn circles(lexicons: &[Lexicon]) -> Vec<(&Lexicon, &Entry)> {
 
 /// The lexicons that a lexicon's empty entries lead to.
 fn next(lexicon: &Lexicon) -> Vec<usize> {
-    lexicon.entries.iter().filter_map(onward).collect()
+    lexicon.entries.iter().flat_map(onward).collect()
 }
 
-/// The lexicon that an entry with an empty form leads to.
-fn onward(entry: &Entry) -> Option<usize> {
-    match entry.continuation {
-        Continuation::Lexicon(number) if entry.form.is_empty() => Some(usize::from(number)),
-        _ => None,
-    }
+/// The lexicons that an entry with an empty form leads to.
+fn onward(entry: &Entry) -> impl Iterator<Item = usize> + '_ {
+    entry.ways.lexicons().filter(|_| entry.form.is_empty())
 }

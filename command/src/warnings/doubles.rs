@@ -1,7 +1,7 @@
 //! What stands twice: entries of one lexicon, and rules.
 
-use crate::text::lexicons::Continuation;
 use crate::text::rules::Rule;
+use crate::text::ways::Ways;
 use crate::text::{Fault, Grammar};
 use crate::warnings::warning;
 use std::collections::HashMap;
@@ -34,28 +34,41 @@ fn is_same(one: &Rule, other: &Rule) -> bool {
 struct Said<'a> {
     lexicon: &'a str,
     form: &'a [u8],
-    continuation: Continuation,
     gloss_text: &'a str,
     gloss: Option<u16>,
 }
 
+/// An entry that says the same as one before.
+#[derive(Clone, Copy)]
+struct Seen {
+    number: usize,
+    line: usize,
+    ways: Ways,
+}
+
 fn double_entries(grammar: &Grammar) -> Vec<Fault> {
-    let mut seen: HashMap<Said, (usize, usize)> = HashMap::new();
+    let mut seen: HashMap<Said, Vec<Seen>> = HashMap::new();
     let mut told = Vec::new();
     for (number, (lexicon, entry)) in grammar.entries().into_iter().enumerate() {
         let gloss = Some(entry.gloss).filter(|&gloss| !grammar.named || usize::from(gloss) != number);
-        let said = Said {
-            lexicon: &lexicon.name,
-            form: &entry.form,
-            continuation: entry.continuation,
-            gloss_text: &entry.gloss_text,
-            gloss,
-        };
-        let (first, line) = *seen.entry(said).or_insert((number, entry.line));
-        if first != number {
-            let (form, first) = (grammar.show_form(&entry.form), format!("entry {first}{}", in_line(line)));
-            let what = format!("entry {number} ({form}) is as {first}: each word that has it has its readings twice");
+        let said = Said { lexicon: &lexicon.name, form: &entry.form, gloss_text: &entry.gloss_text, gloss };
+        let before = seen.entry(said).or_default();
+        let equal = before.iter().find(|other| other.ways == entry.ways);
+        // Two that say the same and go on by other ways are two entries; by one way in common, they are a slip.
+        if let Some(first) = equal.or(before.iter().find(|other| other.ways.meets(entry.ways))) {
+            let (form, of) = (grammar.show_form(&entry.form), format!("entry {}{}", first.number, in_line(first.line)));
+            let double = "each word that has it has its readings twice";
+            let what = match equal {
+                Some(_) => format!("entry {number} ({form}) is as {of}: {double}"),
+                None => {
+                    let shared = grammar.show_ways(first.ways.shared(entry.ways));
+                    format!("entry {number} ({form}) is as {of}, and both go on to {shared}: {double} there")
+                }
+            };
             told.push(warning(entry.line, what));
+        }
+        if equal.is_none() {
+            before.push(Seen { number, line: entry.line, ways: entry.ways });
         }
     }
     told

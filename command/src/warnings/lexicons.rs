@@ -1,13 +1,15 @@
-//! Lexicons that no word comes to, and those that no word comes out of.
+//! Lexicons that no word comes to, those that no word comes out of, and alternations that no entry names.
 
-use crate::text::lexicons::{Continuation, Lexicon};
+use crate::text::lexicons::Lexicon;
 use crate::text::{Fault, Grammar};
 use crate::warnings::{reached, warning};
 
 pub fn warnings(grammar: &Grammar) -> Vec<Fault> {
     let lexicons = &grammar.lexicons;
     let come_to = reached(lexicons.len(), vec![0], |lexicon| onward(&lexicons[lexicon]));
-    let mut told = Vec::new();
+    let unnamed = grammar.alternations.iter().filter(|one| !one.is_named);
+    let mut told: Vec<Fault> =
+        unnamed.map(|one| warning(one.line, format!("ALTERNATION {} is named by no entry", one.name))).collect();
     for (number, lexicon) in lexicons.iter().enumerate() {
         let name = &lexicon.name;
         let ends = || reached(lexicons.len(), vec![number], |lexicon| onward(&lexicons[lexicon]));
@@ -25,13 +27,9 @@ pub fn warnings(grammar: &Grammar) -> Vec<Fault> {
 
 /// The lexicons that a lexicon's entries lead to.
 fn onward(lexicon: &Lexicon) -> Vec<usize> {
-    let next = lexicon.entries.iter().filter_map(|entry| match entry.continuation {
-        Continuation::End => None,
-        Continuation::Lexicon(number) => Some(usize::from(number)),
-    });
-    next.collect()
+    lexicon.entries.iter().flat_map(|entry| entry.ways.lexicons()).collect()
 }
 
 fn has_end(lexicon: &Lexicon) -> bool {
-    lexicon.entries.iter().any(|entry| entry.continuation == Continuation::End)
+    lexicon.entries.iter().any(|entry| entry.ways.end)
 }

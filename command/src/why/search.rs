@@ -3,7 +3,7 @@
 use super::tables::{Refusal, States, Tables};
 use crate::paths::MOST_ENTRIES;
 use crate::text::alphabet::NULL;
-use crate::text::lexicons::Continuation;
+use crate::text::ways::Ways;
 use std::collections::HashSet;
 
 /// Steps after which a search is cut, so that it ends by any grammar.
@@ -89,6 +89,8 @@ pub struct Furthest {
 struct Spot {
     entry: usize,
     place: usize,
+    /// The path ends with this entry, so that no other opens after a pair with a lexical null.
+    ended: bool,
     covered: usize,
     entries: u8,
     lexical_nulls: u8,
@@ -127,7 +129,8 @@ pub fn furthest(tables: &Tables, word: &[u8], rules: bool, steps: usize) -> Furt
         Ok(states) => states,
     };
     let mut search = Search::new(tables, word, rules, steps);
-    let spot = Spot { entry: 0, place: 0, covered: 0, entries: 0, lexical_nulls: 0, surface_nulls: 0, states };
+    let spot =
+        Spot { entry: 0, place: 0, ended: false, covered: 0, entries: 0, lexical_nulls: 0, surface_nulls: 0, states };
     search.open_lexicon(None, &spot, 0);
     while let Some(at) = search.open.pop() {
         if search.nodes.len() >= search.steps {
@@ -148,14 +151,15 @@ impl<'a> Search<'a> {
 
     /// Tries all that can follow a node.
     fn go_on(&mut self, at: usize) {
-        let spot = self.nodes[at].spot.clone();
+        let mut spot = self.nodes[at].spot.clone();
         let entry = self.tables.entries[spot.entry].0;
         let lexical = entry.form.get(spot.place).copied();
-        if let (None, Continuation::Lexicon(lexicon)) = (lexical, entry.continuation) {
-            if usize::from(spot.entries) == MOST_ENTRIES {
-                return self.stop(at, Stop::Entries);
+        if lexical.is_none() && !spot.ended {
+            self.open_next(at, &spot, entry.ways);
+            if !entry.ways.end {
+                return;
             }
-            return self.open_lexicon(Some(at), &spot, usize::from(lexicon));
+            spot.ended = true;
         }
         let surface = self.word.get(spot.covered).copied();
         if lexical.is_none() && surface.is_none() {
@@ -170,6 +174,8 @@ impl<'a> Search<'a> {
             match (lexical, surface) {
                 (Some(_), Some(_)) => self.stop(at, Stop::NoPair),
                 (Some(_), None) => self.stop(at, Stop::WordEnds),
+                // Where an entry may go on, how far that comes says more.
+                (None, Some(_)) if self.tables.goes_on(entry.ways) => {}
                 (None, Some(_)) => self.stop(at, Stop::LeftOver),
                 (None, None) => {}
             }
@@ -209,9 +215,19 @@ impl<'a> Search<'a> {
         fits
     }
 
+    /// Opens what may follow an entry whose letters are all paired.
+    fn open_next(&mut self, at: usize, spot: &Spot, ways: Ways) {
+        if ways.bits != 0 && usize::from(spot.entries) == MOST_ENTRIES {
+            return self.stop(at, Stop::Entries);
+        }
+        for lexicon in ways.lexicons().rev() {
+            self.open_lexicon(Some(at), spot, lexicon);
+        }
+    }
+
     fn open_lexicon(&mut self, parent: Option<usize>, spot: &Spot, lexicon: usize) {
         for entry in self.tables.entries_of(lexicon).rev() {
-            let after = Spot { entry, place: 0, entries: spot.entries + 1, ..spot.clone() };
+            let after = Spot { entry, place: 0, ended: false, entries: spot.entries + 1, ..spot.clone() };
             self.push(parent, Step::Opened(entry), after);
         }
     }
@@ -274,15 +290,19 @@ mod tests {
 
     #[test]
     fn a_way_comes_through_where_the_library_has_a_reading() {
-        for name in ["luz", "quichua", "spanish"] {
+        for (name, words) in [
+            ("luz", "bench/luz"),
+            ("quichua", "grammars/quichua"),
+            ("quichua_ways", "grammars/quichua"),
+            ("spanish", "grammars/spanish"),
+        ] {
             let read =
                 |file: String| std::fs::read_to_string(format!("{}/../{file}", env!("CARGO_MANIFEST_DIR"))).unwrap();
             let grammar = read_grammar(read(format!("grammars/{name}.txt")).as_bytes()).unwrap();
-            let words = if name == "luz" { "bench/luz.words".to_string() } else { format!("grammars/{name}.words") };
             let (image, tables) = (sealed_image(&grammar), Tables::new(&grammar));
             let mut rows = [0; library::ROW];
             let mut found = [0, 0];
-            for line in read(words).lines() {
+            for line in read(format!("{words}.words")).lines() {
                 let word: Vec<u8> = line.split(' ').map(|number| number.parse().unwrap()).collect();
                 let has = library::analyse(&image, &word, &mut rows).rows() > 0;
                 let way = furthest(&tables, &word, true, MOST_STEPS);
@@ -303,6 +323,23 @@ mod tests {
     #[test]
     fn a_search_is_cut_after_its_steps() {
         assert!(by_luz("luzes", true, 3).cut);
+    }
+
+    #[test]
+    fn an_entry_ends_and_goes_on() {
+        let text = LUZ.replace("  Number  ", "  # Number  ").replace("  0    #       \"singular\"\n", "");
+        let grammar = read_grammar(text.as_bytes()).unwrap();
+        let found = |word: &str| {
+            let letters: Vec<u8> = word.chars().map(|c| grammar.alphabet.number(c).unwrap()).collect();
+            furthest(&Tables::new(&grammar), &letters, true, MOST_STEPS)
+        };
+        assert!(found("luz").through && found("luc").through && found("luces").through);
+        let luzs = found("luzs");
+        // That luZ may end is not told, since +es comes as far.
+        let stops: Vec<(&Stop, usize)> =
+            luzs.dead.iter().map(|dead| (&dead.stop, opened(&dead.steps).count())).collect();
+        assert_eq!((luzs.through, luzs.covered, stops), (false, 3, vec![(&Stop::NoPair, 2)]));
+        assert_eq!(found("lucesl").dead.iter().map(|dead| &dead.stop).collect::<Vec<_>>(), [&Stop::LeftOver]);
     }
 
     #[test]

@@ -4,6 +4,7 @@ use crate::text::columns::Sides;
 use crate::text::lexicons::Entry;
 use crate::text::limits;
 use crate::text::pairs::{Pair, BOUNDARY_PAIR};
+use crate::text::ways::Ways;
 use crate::text::Grammar;
 
 /// The state of each rule, side by side; places past the last rule are 0.
@@ -42,6 +43,11 @@ impl<'a> Tables<'a> {
     /// The numbers of a lexicon's entries.
     pub fn entries_of(&self, lexicon: usize) -> std::ops::Range<usize> {
         self.first[lexicon]..self.first[lexicon] + self.grammar.lexicons[lexicon].entries.len()
+    }
+
+    /// Whether an entry may follow by some way.
+    pub fn goes_on(&self, ways: Ways) -> bool {
+        ways.lexicons().any(|lexicon| !self.grammar.lexicons[lexicon].entries.is_empty())
     }
 
     /// The number that stands for the boundary pair, after those of the listed pairs.

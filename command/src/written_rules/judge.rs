@@ -2,9 +2,11 @@
 
 use crate::decode::decode;
 use crate::library;
-use crate::text::lexicons::{Continuation, Entry};
+use crate::text::lexicons::Entry;
 use crate::text::sealed_image;
 use crate::text::sets::Sets;
+use crate::text::ways::Ways;
+use crate::text::Form;
 
 /// Every grammar has a first pair.
 const SOME_PAIRING: [u8; 1] = [0];
@@ -18,8 +20,8 @@ impl Judge {
     /// the calls get an image of the same letters and pairs, without sets and tables, and with one empty entry.
     pub fn new(image: &[u8]) -> Judge {
         let mut grammar = decode(image);
-        let entry =
-            Entry { form: Vec::new(), continuation: Continuation::End, gloss: 0, gloss_text: String::new(), line: 0 };
+        let entry = Entry { form: Vec::new(), ways: Ways::END, gloss: 0, gloss_text: String::new(), line: 0 };
+        grammar.form = Form::One;
         grammar.sets = Sets::of(Vec::new());
         grammar.rules.clear();
         grammar.lexicons.truncate(1);

@@ -1,4 +1,4 @@
-//! Document 01's image check, tests 1 to 8, and then 14 and the sets, which document 02 adds, written from their text.
+//! Document 01's image check, tests 1 to 8, and then 14, the sets and form 2, which document 02 adds, written from their text.
 
 const BLOCK: usize = 512;
 
@@ -76,7 +76,7 @@ fn right_checks(image: &[u8]) -> bool {
 // 3: form, counts, block total, kinds, record counts or unused block bytes differ.
 fn right_layout(image: &[u8]) -> bool {
     let c = counts(image);
-    let within = c.form == 1
+    let within = (1..=2).contains(&c.form)
         && (2..=120).contains(&c.letters)
         && (1..=250).contains(&c.pairs)
         && c.rules <= 32
@@ -93,10 +93,11 @@ fn right_layout(image: &[u8]) -> bool {
     }
     blocks.extend(vec![(4, 1, 506); c.rules]);
     blocks.push((5, c.lexicons, 2));
+    let (width, a_block) = entry_layout(c.form);
     let mut rest = c.entries;
     while rest > 0 {
-        let here = rest.min(31);
-        blocks.push((6, here, 16));
+        let here = rest.min(a_block);
+        blocks.push((6, here, width));
         rest -= here;
     }
     image.len() == BLOCK * blocks.len()
@@ -208,11 +209,29 @@ fn right_columns(image: &[u8]) -> bool {
     })
 }
 
-/// The 16 bytes of each entry.
+/// The bytes of an entry, and the entries of a block, by the form.
+fn entry_layout(form: usize) -> (usize, usize) {
+    match form {
+        2 => (24, 21),
+        _ => (16, 31),
+    }
+}
+
+/// The 16 or 24 bytes of each entry.
 pub fn entries(image: &[u8]) -> Vec<&[u8]> {
     let c = counts(image);
+    let (width, a_block) = entry_layout(c.form);
     let blocks = image.chunks(BLOCK).skip(first_table(image) + c.rules + 1);
-    blocks.flat_map(|block| block[4..500].chunks(16)).take(c.entries).collect()
+    blocks.flat_map(|block| block[4..4 + width * a_block].chunks(width)).take(c.entries).collect()
+}
+
+/// Whether the word may end after an entry of an image, and the lexicons that may follow it.
+pub fn ways(image: &[u8], entry: &[u8]) -> (bool, Vec<usize>) {
+    match (counts(image).form, entry[13]) {
+        (1, 255) => (true, vec![]),
+        (1, lexicon) => (false, vec![lexicon as usize]),
+        (_, mark) => (mark == 1, (0..64).filter(|x| entry[16 + x / 8] >> (x % 8) & 1 == 1).collect()),
+    }
 }
 
 pub fn lexicon_counts(image: &[u8]) -> Vec<usize> {
@@ -229,8 +248,17 @@ fn right_lexicons(image: &[u8]) -> bool {
             length <= 12
                 && entry[1..1 + length].iter().all(|&letter| (2..=c.letters).contains(&(letter as usize)))
                 && entry[1 + length..13].iter().all(|&byte| byte == 0)
-                && ((entry[13] as usize) < c.lexicons || entry[13] == 255)
+                && right_ways(image, entry)
         })
+}
+
+// A lexicon below X, or 255 for end; in form 2 a mark of 0 or 1 and bits for lexicons below X, and not neither.
+fn right_ways(image: &[u8], entry: &[u8]) -> bool {
+    let c = counts(image);
+    let (end, lexicons) = ways(image, entry);
+    (c.form == 1 || entry[13] <= 1)
+        && lexicons.iter().all(|&lexicon| lexicon < c.lexicons)
+        && (end || !lexicons.is_empty())
 }
 
 // 14: a form letter that is the lexical side of no pair.

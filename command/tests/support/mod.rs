@@ -11,7 +11,7 @@ use std::fs;
 use std::path::{Path, PathBuf};
 use std::process::{Command, Stdio};
 
-pub const SAMPLES: [&str; 3] = ["luz", "quichua", "spanish"];
+pub const SAMPLES: [&str; 4] = ["luz", "quichua", "spanish", "quichua_ways"];
 
 pub fn sample_path(name: &str) -> PathBuf {
     Path::new(env!("CARGO_MANIFEST_DIR")).join("../grammars").join(format!("{name}.txt"))
