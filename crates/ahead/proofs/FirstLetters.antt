@@ -58,7 +58,8 @@ module _ (image : List ℕ) (h : Header) (ok : Accepted image h) (e : ℕ) (insi
   first-is =
       let l = entry image e in
       sym (entries.entry-byte image h (ok .laid) e 1 (omega arith))
-      ∙ head-byte l (out4 (leb (formLength l) 12) (every (within 2 (h .letters)) (formOf l)) (every isZero (drop (1 + formLength l) (take 13 l))) (rightWays l (h .form) (h .lexicons)) (entries.entry-right image h (ok .laid) right e inside) .2)
+      ∙ head-byte l (out4 (leb (formLength l) 12) (every (within 2 (h .letters)) (formOf l)) (every isZero (drop (1 + formLength l) (take 13 l))) (rightWays l (h .form) (h .lexicons))
+      (entries.entry-right image h (ok .laid) right e inside) .2)
 
   pub first-most : headOf (grammarOf image .form e) ≤ h .letters
   unfolding grammarOf

@@ -76,7 +76,8 @@ module _ (f : ℕ → Bool) where
   first-passes [] t = absurd t
   first-passes (x ∷ xs) t = go (f x) refl t (first-passes xs)
     where
-      go : (b : Bool) → f x ≡ b → T (b || any f xs) → (T (any f xs) → T (f (first f xs 0)) × List·Memᴰ (first f xs 0) xs) → T (f (cond b x (first f xs 0))) × List·Memᴰ (cond b x (first f xs 0)) (x ∷ xs)
+      go : (b : Bool) → f x ≡ b → T (b || any f xs) → (T (any f xs) → T (f (first f xs 0)) × List·Memᴰ (first f xs 0) xs)
+          → T (f (cond b x (first f xs 0))) × List·Memᴰ (cond b x (first f xs 0)) (x ∷ xs)
       go true e t r = (of-true (f x) e, List·Memᴰ·head refl)
       go false e t r = let u = r t in (u .0, List·Memᴰ·tail (u .1))
 

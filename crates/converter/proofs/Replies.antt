@@ -21,10 +21,12 @@ module _ (image target : List ℕ) where
 
   pub refused-image : (k : ℕ) → imageVerdict image ≡ refused k → Answered (refused k) target
   unfolding conversionTests imageVerdict
-  refused-image k e = by-verdict (refused k) (tests-refused (imageTests image) ((15, oneWays image) ∷ (16, leb (convertedBlocks image) 128) ∷ (17, eqb (length target) (512 * convertedBlocks image)) ∷ []) k e)
+  refused-image k e = by-verdict (refused k) (tests-refused (imageTests image)
+      ((15, oneWays image) ∷ (16, leb (convertedBlocks image) 128) ∷ (17, eqb (length target) (512 * convertedBlocks image)) ∷ []) k e)
 
   module _ (ok : imageVerdict image ≡ accepted) where
-    late : firstFailing (conversionTests image (length target)) ≡ unless (oneWays image) 15 (unless (leb (convertedBlocks image) 128) 16 (unless (eqb (length target) (512 * convertedBlocks image)) 17 accepted))
+    late : firstFailing (conversionTests image (length target)) ≡ unless (oneWays image) 15
+        (unless (leb (convertedBlocks image) 128) 16 (unless (eqb (length target) (512 * convertedBlocks image)) 17 accepted))
     unfolding conversionTests imageVerdict
     late = tests-accepted (imageTests image) ((15, oneWays image) ∷ (16, leb (convertedBlocks image) 128) ∷ (17, eqb (length target) (512 * convertedBlocks image)) ∷ []) ok
 

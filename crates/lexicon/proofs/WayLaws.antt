@@ -65,7 +65,8 @@ module _ (l : List ℕ) (bits : ℕ) (names : Names (inSet (drop 16 l)) bits) (s
   named-is lexicons few =
       both-ways (ltb bits (2 ^ lexicons)) (every (λ x. ltb x lexicons || not (goesTo l 2 x)) (below 64))
       (λ t. every-in (λ x. ltb x lexicons || not (goesTo l 2 x)) (below 64) (λ x m. to x (below-from 64 x m) (ltb→lt bits (2 ^ lexicons) t) (decLt x lexicons)))
-      (λ t. lt→ltb bits (2 ^ lexicons) (digits-low lexicons (64 - lexicons) bits (subst (λ (i : ℕ). bits < 2 ^ i) all small) (λ x a b. from x a (omega arith) (every-at (λ x. ltb x lexicons || not (goesTo l 2 x)) (below 64) (below-has 64 x (omega arith)) t))))
+      (λ t. lt→ltb bits (2 ^ lexicons) (digits-low lexicons (64 - lexicons) bits (subst (λ (i : ℕ). bits < 2 ^ i) all small)
+      (λ x a b. from x a (omega arith) (every-at (λ x. ltb x lexicons || not (goesTo l 2 x)) (below 64) (below-has 64 x (omega arith)) t))))
     where
       all : 64 ≡ lexicons + (64 - lexicons)
       all = omega arith

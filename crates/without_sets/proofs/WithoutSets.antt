@@ -41,7 +41,8 @@ module _ (image : List ℕ) where
   unfolding header
   plain-layout-none e =
       let h = header image in
-      let u = out4 (within 1 2 (h .form)) (plainLimits h) (eqb (blockCount image) (sum (map (λ r. r .blocks) (plainKinds h)))) (every (λ k. plainLaidOut h k (block image k)) (below (blockCount image))) (of-true (plainLayout image) e) in
+      let u = out4 (within 1 2 (h .form)) (plainLimits h) (eqb (blockCount image) (sum (map (λ r. r .blocks) (plainKinds h))))
+      (every (λ k. plainLaidOut h k (block image k)) (below (blockCount image))) (of-true (plainLayout image) e) in
       let n = eqb→eq (blockCount image) (sum (map (λ r. r .blocks) (plainKinds h))) (u .2) in
       first-none h (block image 0) (every-at (λ k. plainLaidOut h k (block image k)) (below (blockCount image)) (below-has (blockCount image) 0 (omega arith)) (u .3))
 

@@ -29,7 +29,8 @@ read-header-requires c κs = right-some (c .before .args .image .now) (c .before
 returns : tie.Need-returns
 returns c =
     let header = c .before .before in
-    sym (layout-form (header .before .before .args .image .now) (headerOf (header .read-header .result)) (header .read-header .ensures) (sym (c .before .right-form .ensures) ∙ not-true (c .before .right-form .result) (c .if1 .taken)))
+    sym (layout-form (header .before .before .args .image .now) (headerOf (header .read-header .result)) (header .read-header .ensures)
+    (sym (c .before .right-form .ensures) ∙ not-true (c .before .right-form .result) (c .if1 .taken)))
 
 within-limits-requires : tie.Need-within-limits-requires
 within-limits-requires c κs = search needs
@@ -38,7 +39,8 @@ returns-2 : tie.Need-returns-2
 returns-2 c =
     let one = c .before .before in
     let header = one .before .before in
-    sym (layout-limits (header .before .before .args .image .now) (headerOf (header .read-header .result)) (header .read-header .ensures) (form-right one) (sym (c .before .within-limits .ensures) ∙ not-true (c .before .within-limits .result) (c .if2 .taken)))
+    sym (layout-limits (header .before .before .args .image .now) (headerOf (header .read-header .result)) (header .read-header .ensures) (form-right one)
+    (sym (c .before .within-limits .ensures) ∙ not-true (c .before .within-limits .result) (c .if2 .taken)))
 
 block-total-requires : tie.Need-block-total-requires
 block-total-requires c κs = counted-of (headerOf (c .before .before .before .before .read-header .result)) (in-limits c)
@@ -48,7 +50,8 @@ returns-3 c =
     let two = c .before .before in
     let one = two .before .before in
     let header = one .before .before in
-    sym (layout-total (header .before .before .args .image .now) (headerOf (header .read-header .result)) (header .read-header .ensures) (form-right one) (in-limits two) (λ e. c .if3 .taken (e ∙ sym (c .before .block-total .ensures))))
+    sym (layout-total (header .before .before .args .image .now) (headerOf (header .read-header .result)) (header .read-header .ensures) (form-right one) (in-limits two)
+    (λ e. c .if3 .taken (e ∙ sym (c .before .block-total .ensures))))
 
 all-laid-out-requires : tie.Need-all-laid-out-requires
 all-laid-out-requires c κs =
@@ -66,7 +69,8 @@ returns-4 c =
     let two = three .before .before in
     let one = two .before .before in
     let header = one .before .before in
-    c .all-laid-out .ensures ∙ sym (layout-blocks (header .before .before .args .image .now) (headerOf (header .read-header .result)) (header .read-header .ensures) (form-right one) (in-limits two) (three .if3 .left ∙ three .before .block-total .ensures))
+    c .all-laid-out .ensures ∙ sym (layout-blocks (header .before .before .args .image .now) (headerOf (header .read-header .result)) (header .read-header .ensures) (form-right one)
+    (in-limits two) (three .if3 .left ∙ three .before .block-total .ensures))
 
 pub right-layout-spec : {M : Type 1} → statement M
 right-layout-spec =

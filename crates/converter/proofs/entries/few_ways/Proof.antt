@@ -19,7 +19,8 @@ returns c =
 returns-2 : tie.Need-returns-2
 returns-2 c =
     let s = c .before in
-    ap (λ (n : ℕ). leb n 1) (sym (add-zero (ones (s .args .bits)))) ∙ sym (ap₂ (λ (n : ℕ) (b : Bool). leb (n + cond b 1 0) 1) (count-ones (s .args .bits) (omega (arith, s .fits .bits))) (c .if1 .left))
+    ap (λ (n : ℕ). leb n 1) (sym (add-zero (ones (s .args .bits))))
+    ∙ sym (ap₂ (λ (n : ℕ) (b : Bool). leb (n + cond b 1 0) 1) (count-ones (s .args .bits) (omega (arith, s .fits .bits))) (c .if1 .left))
 
 pub few-ways-spec : {M : Type 1} → statement M
 few-ways-spec =

@@ -83,7 +83,8 @@ returns c =
     let one = branch .if1 .taken in
     put .put-ways .ensures
     ∙ ap (λ (l : List ℕ). take 16 (set l 13 m) ++ wayBytes (bit bits)) (cp .copy .ensures)
-    ∙ many-stored (e w) (drop (at w) (image w)) (start w .args .out .now) (h w .form) bits (w .ways-of .result .stop) m (w .ways-of .ensures .0) (w .ways-of .ensures .1) (mark .mark-of .ensures) (there w) one
+    ∙ many-stored (e w) (drop (at w) (image w)) (start w .args .out .now) (h w .form) bits (w .ways-of .result .stop) m (w .ways-of .ensures .0) (w .ways-of .ensures .1)
+    (mark .mark-of .ensures) (there w) one
     (e-is w ∙ ap (λ (f : ℕ). take (entryWidth f) (drop (at w) (image w))) one)
 
 -- form 2 becomes form 1
@@ -96,7 +97,8 @@ returns-2 c =
     let two : h w .form ≡ 2 = omega (arith, start w .pre .1 .1 .is-form, c .if1 .left) in
     let narrow : entryWidth (3 - h w .form) ≡ 16 = ap (λ (f : ℕ). entryWidth (3 - f)) two in
     ap (λ (l : List ℕ). set l 13 m) (cp .copy .ensures)
-    ∙ one-stored (e w) (drop (at w) (image w)) (start w .args .out .now) (h w .form) (w .ways-of .result .bits) (w .ways-of .result .stop) m (w .ways-of .ensures .0) (w .ways-of .ensures .1) (mark .mark-of .ensures) (there w) two
+    ∙ one-stored (e w) (drop (at w) (image w)) (start w .args .out .now) (h w .form) (w .ways-of .result .bits) (w .ways-of .result .stop) m (w .ways-of .ensures .0) (w .ways-of .ensures .1)
+    (mark .mark-of .ensures) (there w) two
     (e-is w ∙ ap (λ (f : ℕ). take (entryWidth f) (drop (at w) (image w))) two) (omega (arith, start w .pre .1 .0 .1, narrow))
 
 entry-start-requires : tie.Need-entry-start-requires

@@ -23,8 +23,14 @@ loop-again c =
     let turn = c .before in
     let old = turn .before .args .bytes .now in
     let k = turn .loop .k in
-    let long = length-replicate {A = ℕ} (length old) 0 in
-    (search needs, (search needs, written-more (zeros (length old)) old k 0 (turn .loop .bytes) (omega (arith, long)) (omega arith) (turn .loop .inv .1 .1) (sym (getD-replicate {A = ℕ} (length old) k 0 0 (omega arith)))))
+    let long = length-replicate {A = ℕ} (length old) 0 in (
+      search needs,
+      (
+        search needs,
+        written-more (zeros (length old)) old k 0 (turn .loop .bytes) (omega (arith, long)) (omega arith) (turn .loop .inv .1 .1)
+            (sym (getD-replicate {A = ℕ} (length old) k 0 0 (omega arith))),
+      ),
+    )
 
 returns : tie.Need-returns Inv-loop μ-loop
 returns c =

@@ -40,7 +40,8 @@ module _ (c : tie.After-bits-at) where
   right-is : (leb m 1 && ltb bits (2 ^ start read .args .lexicons) && (eqb m 1 || not (eqb bits 0))) ≡ rightWays (bytes read) 2 (start read .args .lexicons)
   right-is =
       ap (λ (n : ℕ). leb n 1 && ltb bits (2 ^ start read .args .lexicons) && (eqb n 1 || not (eqb bits 0))) (mark-is read)
-      ∙ many-is (bytes read) bits (subst (λ (l : List ℕ). Names (inSet l) bits) (sym (drop-drop 16 (start read .args .at) (start read .args .image .now))) (c .bits-at .ensures)) (omega arith) (start read .args .lexicons) (start read .pre .1)
+      ∙ many-is (bytes read) bits (subst (λ (l : List ℕ). Names (inSet l) bits) (sym (drop-drop 16 (start read .args .at) (start read .args .image .now))) (c .bits-at .ensures))
+      (omega arith) (start read .args .lexicons) (start read .pre .1)
 
 add-byte-at : tie.Need-add-byte-at
 add-byte-at c = search needs

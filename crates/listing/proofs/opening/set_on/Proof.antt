@@ -39,7 +39,8 @@ returns-2 c =
     let laid = s .pre .0 .laid in
     let same = laid .header-is in
     let names = subst (λ (g : Header). Names (goesTo (entry image last) (g .form)) bits) same (c .ways-of .ensures .1) in
-    let right = subst (λ (g : Header). T (rightWays (entry image last) (g .form) (g .lexicons))) same (ways-right image (headerOf (s .args .h)) laid (of-true (rightEntries image) (s .pre .0 .entries-right)) last (last-in (c .before))) in
+    let right = subst (λ (g : Header). T (rightWays (entry image last) (g .form) (g .lexicons))) same
+    (ways-right image (headerOf (s .args .h)) laid (of-true (rightEntries image) (s .pre .0 .entries-right)) last (last-in (c .before))) in
     let few : header image .lexicons ≤ 64 = omega (arith, laid .limits .lexicons-most, ap (λ (g : Header). g .lexicons) same) in
     record {
       known = bits-known (entry image last) (header image .form) (header image .lexicons) right bits (omega arith) names;
