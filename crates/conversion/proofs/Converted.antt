@@ -108,6 +108,9 @@ SameRows [] (s ∷ ss) = ⊥
 SameRows (r ∷ rs) [] = ⊥
 SameRows (r ∷ rs) (s ∷ ss) = (r .kind ≡ s .kind) × ((r .inAll ≡ s .inAll) × (((r .kind ≡ 6 → ⊥) → r .width ≡ s .width) × SameRows rs ss))
 
+row-stays : {kind all wide : ℕ} {N X : Type 0} → X → (kind ≡ kind) × ((all ≡ all) × ((N → wide ≡ wide) × X))
+row-stays t = (refl, (refl, (λ n. refl, t)))
+
 rows-all : (rs ss : List Kind) → SameRows rs ss → (kind : ℕ) → rowOf kind rs .inAll ≡ rowOf kind ss .inAll
 rows-all [] [] t kind = refl
 rows-all [] (s ∷ ss) t kind = absurd t
@@ -139,22 +142,7 @@ rows-none kind (r ∷ rs) t = ap (λ (b : Bool). cond b r (rowOf kind rs) .inAll
 module _ (h : Header) where
   rows-other : SameRows (kinds h) (kinds (otherHeader h))
   unfolding kinds otherHeader
-  rows-other = (
-    refl,
-    (
-      refl,
-      (
-        λ n. refl,
-        (
-          refl,
-          (
-            refl,
-            (λ n. refl, (refl, (refl, (λ n. refl, (refl, (refl, (λ n. refl, (refl, (refl, (λ n. refl, (refl, (refl, (λ n. refl, (refl, (refl, (λ n. absurd (n refl), tt)))))))))))))))),
-          ),
-        ),
-      ),
-    ),
-  )
+  rows-other = row-stays (row-stays (row-stays (row-stays (row-stays (row-stays (refl, (refl, (λ n. absurd (n refl), tt))))))))
 
   pub all-other : (kind : ℕ) → inAll h kind ≡ inAll (otherHeader h) kind
   all-other kind = rows-all (kinds h) (kinds (otherHeader h)) rows-other kind
@@ -226,12 +214,20 @@ module _ (image : List ℕ) (p : Passing image) (fifteen : T (oneWays image)) (s
   unfolding blockTotal kinds
   some = omega arith
 
+  -- the two halves of test 8
+  abbrev isEntryAt : ℕ → Bool
+  isEntryAt e = isEntry (entry image e) (h .form) (h .letters) (h .lexicons)
+
+  counts-and-entries : T (eqb (sum (map (entryCount image) (below (h .lexicons)))) (h .entries)) × T (every isEntryAt (below (h .entries)))
+  unfolding rightEntries
+  counts-and-entries =
+      and-out (eqb (sum (map (entryCount image) (below (h .lexicons)))) (h .entries)) (every isEntryAt (below (h .entries))) (of-true (rightEntries image) (p .entries-right))
+
   module _ (e : ℕ) (there : e < h .entries) where
     entry-right : T (isEntry (entry image e) (h .form) (h .letters) (h .lexicons))
     unfolding rightEntries
     entry-right = every-at (λ e. isEntry (entry image e) (h .form) (h .letters) (h .lexicons)) (below (h .entries)) (below-has (h .entries) e there)
-        ((and-out (eqb (sum (map (entryCount image) (below (h .lexicons)))) (h .entries)) (every (λ e. isEntry (entry image e) (h .form) (h .letters) (h .lexicons)) (below (h .entries)))
-        (of-true (rightEntries image) (p .entries-right))) .1)
+        (counts-and-entries .1)
 
     pub entry-parts : (formLength (entry image e) ≤ 12) × T (rightWays (entry image e) (h .form) (h .lexicons))
     unfolding isEntry isEntryOf
@@ -376,8 +372,7 @@ module _ (image : List ℕ) (p : Passing image) (fifteen : T (oneWays image)) (s
       and-in (eqb (sum (map (entryCount other) (below (header other .lexicons)))) (header other .entries))
       (every (λ e. isEntry (entry other e) (header other .form) (header other .letters) (header other .lexicons)) (below (header other .entries)))
       (subst T (ap₂ (λ (a b : ℕ). eqb a b) (sum-same counterpart) (counterpart .entries))
-      ((and-out (eqb (sum (map (entryCount image) (below (h .lexicons)))) (h .entries)) (every (λ e. isEntry (entry image e) (h .form) (h .letters) (h .lexicons)) (below (h .entries)))
-      (of-true (rightEntries image) (p .entries-right))) .0))
+      (counts-and-entries .0))
       (every-in (λ e. isEntry (entry other e) (header other .form) (header other .letters) (header other .lexicons)) (below (header other .entries))
       (λ e m. entry-test e (subst (λ (n : ℕ). e < n) (sym (counterpart .entries)) (below-from (header other .entries) e m))))
 

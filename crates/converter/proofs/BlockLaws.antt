@@ -140,8 +140,14 @@ head-block : (h : Header) (r : Records) → r 1 0 ≡ headerBytes h → builtBlo
 unfolding builtBlock blockFront recordBytes recordIn kindAt recordsAt kinds headerBytes
 head-block h r e = ap (λ (b : List ℕ). (0 ∷ 0 ∷ 1 ∷ 1 ∷ ((b ++ []) ++ replicate (506 - length (b ++ [])) 0)) ++ (0 ∷ 0 ∷ [])) e
 
-head-changed : (h : Header) → set (set (inner ((0 ∷ 0 ∷ 1 ∷ 1 ∷ (headerBytes h ++ replicate 492 0)) ++ (0 ∷ 0 ∷ []))) 2 ((otherHeader h) .form % 256)) 3
-    ((otherHeader h) .form / 256 % 256) ≡ inner ((0 ∷ 0 ∷ 1 ∷ 1 ∷ (headerBytes (otherHeader h) ++ replicate 492 0)) ++ (0 ∷ 0 ∷ []))
+-- the first block, and its form written over
+abbrev headBlock : Header → List ℕ
+headBlock h = (0 ∷ 0 ∷ 1 ∷ 1 ∷ (headerBytes h ++ replicate 492 0)) ++ (0 ∷ 0 ∷ [])
+
+abbrev withForm : ℕ → List ℕ → List ℕ
+withForm form l = set (set l 2 (form % 256)) 3 (form / 256 % 256)
+
+head-changed : (h : Header) → withForm (otherHeader h .form) (inner (headBlock h)) ≡ inner (headBlock (otherHeader h))
 unfolding inner headerBytes otherHeader
 head-changed h = refl
 
@@ -167,9 +173,10 @@ module _ (image : List ℕ) (p : Passing image) (fifteen : T (oneWays image)) (s
   pub same-later : (k : ℕ) → 1 ≤ k → k < firstBlock hh 6 → sealedBlock k (block image k) ≡ sealedBlock k (builtBlock oo rr k)
   same-later k some before =
       let there : k < blockTotal hh = omega (arith, first-total hh) in
-      let e = same-block hh (recordAt image) rr k there before (λ i l. sym
-      (one.record-rest image p fifteen sixteen (kindAt hh k) (perBlock hh (kindAt hh k) * (k - firstBlock hh (kindAt hh k)) + i) (kind-later k some there)
-      (kind-six hh (recordAt image) rr k there before))) in
+      let kind = kindAt hh k in
+      let six = kind-six hh (recordAt image) rr k there before in
+      let at : ℕ → ℕ = λ i. perBlock hh kind * (k - firstBlock hh kind) + i in
+      let e = same-block hh (recordAt image) rr k there before (λ i l. sym (one.record-rest image p fifteen sixteen kind (at i) (kind-later k some there) six)) in
       sealed-same k (block image k) (builtBlock oo rr k)
       (ap inner (was k there ∙ ap (sealedBlock k) e) ∙ inner-sealed k (builtBlock oo rr k) (block-long oo rr sixteen (one.some image p fifteen sixteen) (one.sized image p fifteen sixteen) k))
 
@@ -178,7 +185,7 @@ module _ (image : List ℕ) (p : Passing image) (fifteen : T (oneWays image)) (s
   unfolding kinds blockTotal
   first-there = omega arith
 
-  head-long : (g : Header) → length ((0 ∷ 0 ∷ 1 ∷ 1 ∷ (headerBytes g ++ replicate 492 0)) ++ (0 ∷ 0 ∷ [])) ≡ 512
+  head-long : (g : Header) → length (headBlock g) ≡ 512
   unfolding headerBytes
   head-long g = refl
 
@@ -189,8 +196,7 @@ module _ (image : List ℕ) (p : Passing image) (fifteen : T (oneWays image)) (s
       let there = first-there in
       sealed-same 0 (set (set (block image 0) 4 (oo .form % 256)) 5 (oo .form / 256 % 256)) (builtBlock oo rr 0)
       (inner-set (block image 0) (oo .form % 256) (oo .form / 256 % 256)
-      ∙ ap (λ (l : List ℕ). set (set l 2 (oo .form % 256)) 3 (oo .form / 256 % 256))
-      (ap inner (was 0 there ∙ ap (sealedBlock 0) old) ∙ inner-sealed 0 ((0 ∷ 0 ∷ 1 ∷ 1 ∷ (headerBytes hh ++ replicate 492 0)) ++ (0 ∷ 0 ∷ [])) (head-long hh))
+      ∙ ap (withForm (oo .form)) (ap inner (was 0 there ∙ ap (sealedBlock 0) old) ∙ inner-sealed 0 (headBlock hh) (head-long hh))
       ∙ head-changed hh
       ∙ ap inner (sym new))
 

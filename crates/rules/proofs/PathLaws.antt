@@ -75,14 +75,16 @@ abbrev pub linkedFrom : List ℕ → ℕ → Bool → List ℕ → Bool
 linkedFrom image bits stop es = linked (grammarOf image .entries) (grammarOf image .follows) (grammarOf image .ends) (inSome image (header image .lexicons) bits) stop es
 
 module _ (image : List ℕ) where
+  -- linked, by what may come first
+  abbrev linkedBy : (ℕ → Bool) → Bool → List ℕ → Bool
+  linkedBy may stop es = linked (grammarOf image .entries) (grammarOf image .follows) (grammarOf image .ends) may stop es
+
   linked-may : (es : List ℕ) (may other : ℕ → Bool) (stop : Bool) → ((e : ℕ) → may e ≡ other e)
-      → linked (grammarOf image .entries) (grammarOf image .follows) (grammarOf image .ends) may stop es ≡ linked (grammarOf image .entries) (grammarOf image .follows) (grammarOf image .ends)
-      other stop es
+      → linkedBy may stop es ≡ linkedBy other stop es
   unfolding linked
   linked-may [] may other stop same = refl
   linked-may (e ∷ es) may other stop same =
-      ap (λ (b : Bool). b && ltb e (grammarOf image .entries) && linked (grammarOf image .entries) (grammarOf image .follows) (grammarOf image .ends) (grammarOf image .follows e)
-      (grammarOf image .ends e) es) (same e)
+      ap (λ (b : Bool). b && ltb e (grammarOf image .entries) && linkedBy (grammarOf image .follows e) (grammarOf image .ends e) es) (same e)
 
   pub linked-start : 1 ≤ header image .lexicons → (es : List ℕ) → linkedFrom image 1 false es ≡ isLinked (grammarOf image) es
   unfolding grammarOf
@@ -99,8 +101,7 @@ module _ (image : List ℕ) where
   mayOpen bits e entries = inSome image (header image .lexicons) bits e && ltb e entries
 
   linked-cons : (bits : ℕ) (stop : Bool) (e : ℕ) (es : List ℕ)
-      → linkedFrom image bits stop (e ∷ es) ≡ (mayOpen bits e (header image .entries) && linked (grammarOf image .entries) (grammarOf image .follows) (grammarOf image .ends)
-      (grammarOf image .follows e) (grammarOf image .ends e) es)
+      → linkedFrom image bits stop (e ∷ es) ≡ (mayOpen bits e (header image .entries) && linkedBy (grammarOf image .follows e) (grammarOf image .ends e) es)
   unfolding linked grammarOf
   linked-cons bits stop e es = refl
 

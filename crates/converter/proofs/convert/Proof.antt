@@ -17,7 +17,7 @@ use Rattle.grammar.specs.Answers.{verdictOf}
 use Rattle.grammar.proofs.Verdicts.{accepted-image, laid-some}
 use Rattle.conversion.specs.Conversion.{otherHeader, oneWays, convertedBlocks}
 use Rattle.converter.specs.Answers.{Converting}
-use Rattle.converter.proofs.Replies.{refused-image, refused-15, refused-16, refused-17, all-passed}
+use Rattle.conversion.proofs.Replies.{refused-image, refused-15, refused-16, refused-17, all-passed}
 use Rattle.converter.proofs.BlockLaws.{other-counted}
 use Rattle.converter.proofs.convert.Statement.{statement}
 use Rattle.converter.proofs.convert.Tie as tie

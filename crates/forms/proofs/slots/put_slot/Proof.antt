@@ -2,7 +2,7 @@
 use Prim.Native.Nat.{ℕ, _+_, _*_, _-_, _<_}
 use lib.ListN.{length, set, length-set}
 use native.Mathlib.Omega.{arith}
-use mathlib.Core.Path.{sym, ap, subst}
+use mathlib.Core.Path.{_≡_, sym, ap, subst}
 use mathlib.Core.List.{List}
 use mathlib.Core.Logic.{⊎-elim}
 use borrow.Author.Needs.{needs}
@@ -95,7 +95,7 @@ returns c =
     let b = begun d .entry-start in
     let s = start d in
     let a = s .args in
-    let few = omega (arith, s .pre .0 .limits .entries-most, s .pre .1 .0) in
+    let few : a .e < 65536 = omega (arith, s .pre .0 .limits .entries-most, s .pre .1 .0) in
     let here =
     slot-put (a .image .now) (headerOf (a .h)) (s .pre .0) (a .slots .now) (new d) (b .result) (a .i) (a .e) (way .way-of .result) (b .ensures .0) few
     (omega (arith, s .pre .1 .1)) (d .copy .ensures) (way .way-of .ensures) in

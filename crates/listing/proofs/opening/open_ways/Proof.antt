@@ -2,7 +2,6 @@
 use borrow.Author.Needs.{needs}
 use native.Mathlib.Omega.{arith}
 use mathlib.Core.Path.{_≡_, sym, ap, _∙_}
-use mathlib.Core.Bool.{false}
 use mathlib.Core.List.{List}
 use Prim.Native.Nat.{ℕ, _<_}
 use Rattle.model.specs.Blocks.{Header, header}
@@ -35,10 +34,6 @@ module _ (asked : tie.After-number-at) where
   abbrev number : ℕ
   number = asked .number-at .result
 
-  -- it may not open, so that nothing may
-  not-here : inSome (image (asked .before)) (header (image (asked .before)) .lexicons) (bits (asked .before)) number ≡ false → _
-  not-here = let m = asked .before in exactly-none (image m) (bits m) (start m .pre .1 .1) (path m) (n m) (m .if1 .left) number (asked .number-at .ensures .0)
-
 -- the entry asked for, from where the next of the set is found
 abbrev asked-at : tie.After-next-of-set → tie.After-number-at
 asked-at first = first .before .before .before
@@ -66,10 +61,13 @@ returns-2 : tie.Need-returns-2
 unfolding pathPattern
 returns-2 c =
     let asked = c .before .before in
-    let more = asked .before in
-    let s = start more in
-    let past = some-past (image more) (headerOf (s .args .h)) (s .pre .0) (bits more) (number asked) (c .if2 .taken) in
-    rw (more .before .enum-told2 .given .1) (not-here asked past, λ e k. absurd (omega arith))
+    let m = asked .before in
+    let s = start m in
+    let past = some-past (image m) (headerOf (s .args .h)) (s .pre .0) (bits m) (number asked) (c .if2 .taken) in
+    rw (m .before .enum-told2 .given .1) (
+      exactly-none (image m) (bits m) (s .pre .1 .1) (path m) (n m) (m .if1 .left) (number asked) (asked .number-at .ensures .0) past,
+      λ e k. absurd (omega arith),
+    )
 
 next-of-set-requires : tie.Need-next-of-set-requires
 next-of-set-requires c κs =
@@ -81,9 +79,13 @@ unfolding pathPattern
 returns-3 c =
     let first = c .before .before in
     let asked = asked-at first in
+    let m = asked .before in
     let next = first .next-of-set .ensures .next in
     let passed = next .passed (number asked) (omega arith) (omega (arith, next .onward, c .if3 .taken)) in
-    rw (asked .before .before .enum-told2 .given .1) (not-here asked passed, λ e k. absurd (omega arith))
+    rw (m .before .enum-told2 .given .1) (
+      exactly-none (image m) (bits m) (start m .pre .1 .1) (path m) (n m) (m .if1 .left) (number asked) (asked .number-at .ensures .0) passed,
+      λ e k. absurd (omega arith),
+    )
 
 add-t12 : tie.Need-add-t12
 add-t12 c = search needs

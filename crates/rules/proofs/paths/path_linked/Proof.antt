@@ -61,7 +61,7 @@ module _ (c : tie.After-may-open Inv-loop μ-loop) where
 loop-holds : tie.Need-loop-holds Inv-loop μ-loop
 loop-holds c =
     let s = c .before .before in
-    let some = omega (arith, s .pre .laid .limits .lexicons-least, ap (λ (g : Header). g .lexicons) (s .pre .laid .header-is)) in
+    let some : 1 ≤ header (s .args .image .now) .lexicons = omega (arith, s .pre .laid .limits .lexicons-least, ap (λ (g : Header). g .lexicons) (s .pre .laid .header-is)) in
     (omega arith, linked-start (s .args .image .now) some (entryNumbers (s .args .path .now)))
 
 mul-number-at : tie.Need-mul-number-at Inv-loop μ-loop

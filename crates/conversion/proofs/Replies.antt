@@ -8,12 +8,15 @@ use lib.Dec.{leb, eqb}
 use borrow.Author.Tests.{lt-leb, le-leb, ne-eqb, eq-eqb}
 use Rattle.model.specs.Refusals.{Verdict, accepted, refused, unless, firstFailing, imageTests, imageVerdict}
 use Rattle.model.proofs.Tests.{tests-refused, tests-accepted}
-use Rattle.conversion.specs.Conversion as model
 use Rattle.conversion.specs.Conversion.{conversionAfter, targetAfter, conversionTests, conversionReply, afterConversion, convertedImage, convertedBlocks, oneWays}
 
 module _ (image target : List ℕ) where
   abbrev Answered : Verdict → List ℕ → Type 0
   Answered w new = (conversionAfter w ≡ conversionReply image (length target)) × (new ≡ afterConversion image target)
+
+  -- the tests after those of the image
+  abbrev own : List (ℕ × Bool)
+  own = (15, oneWays image) ∷ (16, leb (convertedBlocks image) 128) ∷ (17, eqb (length target) (512 * convertedBlocks image)) ∷ []
 
   by-verdict : (w : Verdict) → firstFailing (conversionTests image (length target)) ≡ w → Answered w (targetAfter w (convertedImage image) target)
   unfolding conversionReply afterConversion
@@ -21,14 +24,13 @@ module _ (image target : List ℕ) where
 
   pub refused-image : (k : ℕ) → imageVerdict image ≡ refused k → Answered (refused k) target
   unfolding conversionTests imageVerdict
-  refused-image k e = by-verdict (refused k) (tests-refused (imageTests image)
-      ((15, oneWays image) ∷ (16, leb (convertedBlocks image) 128) ∷ (17, eqb (length target) (512 * convertedBlocks image)) ∷ []) k e)
+  refused-image k e = by-verdict (refused k) (tests-refused (imageTests image) own k e)
 
   module _ (ok : imageVerdict image ≡ accepted) where
     late : firstFailing (conversionTests image (length target)) ≡ unless (oneWays image) 15
         (unless (leb (convertedBlocks image) 128) 16 (unless (eqb (length target) (512 * convertedBlocks image)) 17 accepted))
     unfolding conversionTests imageVerdict
-    late = tests-accepted (imageTests image) ((15, oneWays image) ∷ (16, leb (convertedBlocks image) 128) ∷ (17, eqb (length target) (512 * convertedBlocks image)) ∷ []) ok
+    late = tests-accepted (imageTests image) own ok
 
     pub refused-15 : oneWays image ≡ false → Answered (refused 15) target
     refused-15 a = by-verdict (refused 15) (late ∙ rw a refl)
