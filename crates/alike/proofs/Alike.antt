@@ -9,7 +9,7 @@ use mathlib.Core.List.{List, [], _∷_, _++_, map, List·Memᴰ}
 use mathlib.Core.List.{List·Memᴰ·head, List·Memᴰ·tail, List·Memᴰ·not-nil, List·Memᴰ·cases-cons, List·Memᴰ·append-cases, List·Memᴰ·eq-of-singleton}
 use lib.ListN.{length}
 use lib.Dec.{T, leb, ltb, ltb→lt, lt→ltb}
-use Rattle.model.specs.Lists.{below, every, joined, sameList, within, isZero}
+use Rattle.model.specs.Lists.{below, every, joined, sameList, isZero}
 use Rattle.model.specs.RuleTables.{fed, accepts}
 use Rattle.model.specs.Lexicon.{linked, pathLength}
 use Rattle.model.specs.Grammar.{Grammar}

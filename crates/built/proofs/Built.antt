@@ -1,25 +1,24 @@
 -- An image made from counts and records says what it was made from: its blocks, its records, its header; and tests 1 to 3 let it pass.
-use Prim.Native.Nat.{ℕ, zero, suc, _+_, _*_, _-_, _/_, _%_, _<_, _≤_, min}
-use native.Mathlib.Nat.{add-assoc, le-refl, mul-le-mul, mul-suc, mod-lt, div-add-mod, div-lt-iff-lt-mul, mul-zero, mul-comm}
+use Prim.Native.Nat.{ℕ, zero, suc, _+_, _*_, _-_, _/_, _%_, _<_, _≤_}
+use native.Mathlib.Nat.{add-assoc, le-refl, mul-le-mul, mul-suc, mod-lt, div-add-mod, div-lt-iff-lt-mul}
 use native.Mathlib.Omega.{arith}
-use mathlib.Core.Bool.{Bool, true, false, _&&_}
 use mathlib.Core.Path.{_≡_, refl, sym, ap, ap₂, _∙_, subst}
-use mathlib.Core.List.{List, [], _∷_, _++_, append-assoc, append-nil, List·Memᴰ}
-use lib.ListN.{length, getD, take, drop, replicate, length-append, length-replicate, length-take, length-drop}
-use lib.Seq.{take-at, drop-at, take-take, drop-drop, getD-take, getD-drop, drop-append-add}
+use mathlib.Core.List.{List, [], _∷_, _++_, append-assoc, append-nil}
+use lib.ListN.{length, take, drop, replicate, length-append, length-replicate}
+use lib.Seq.{take-at, drop-at, take-take, drop-drop, getD-take, getD-drop}
 use lib.Dec.{T, eqb}
 use Rattle.model.specs.Lists.{below, every, flatMap, part, isZero, within, byte, number, numberBytes}
 use Rattle.model.specs.Blocks.{Header, header, block, blockCount, blockTotal, kinds, rowOf, inAll, recordWidth, perBlock}
 use Rattle.model.specs.Blocks.{firstBlock, recordStart, recordAt, kindAt, recordsAt, laidOut, numbered, sealedBlock, sealedImage, checkOf}
 use Rattle.model.specs.Refusals.{rightLength, rightChecks}
 use Rattle.model.proofs.Booleans.{and-in, in3, within-in, eq→eqb}
-use Rattle.model.proofs.Lists.{length-below, below-from, getD-below, drop-take, every-in}
+use Rattle.model.proofs.Lists.{length-below, below-from, getD-below, drop-take}
 use Rattle.model.proofs.Parts.{Wide, length-parts, part-at, flatMap-same}
 use Rattle.model.proofs.Blocks.{header-read}
 use Rattle.model.proofs.Sealing.{number-back, length-sealedImage, block-sealed, sealed-checks}
 use Rattle.image.specs.Laid.{Limited}
 use Rattle.image.specs.Kinds.{IsKind}
-use Rattle.image.proofs.Records.{Fitted, kind-fitted, some-fit, record-slot, record-block, record-before}
+use Rattle.image.proofs.Records.{kind-fitted, some-fit, record-block}
 use Rattle.layout.proofs.Placing.{placed}
 use Rattle.built.specs.Built.{Records, headerBytes, recordIn, recordBytes, blockFront, builtBlock, built, Sized}
 use Rattle.built.proofs.Placed.{records-by, records-among, records-fit}

@@ -1,40 +1,34 @@
 -- The converted image: it is accepted and of the other form, its rows are those of the image, and from form 1 to form 2 and back gives the same bytes.
-use Prim.Native.Nat.{ℕ, zero, suc, _+_, _*_, _-_, _<_, _≤_}
+use Prim.Native.Nat.{ℕ, _+_, _-_, _<_, _≤_}
 use native.Mathlib.Omega.{arith}
 use native.Mathlib.Decide.{decLt, ℕ-discrete}
 use mathlib.Core.Bool.{Bool, true, false, _&&_, _||_, not, cond}
 use mathlib.Core.Path.{_≡_, refl, sym, ap, ap₂, _∙_, subst}
 use mathlib.Core.Logic.{_⊎_, inl, inr}
-use mathlib.Core.List.{List, [], _∷_, _++_, map}
+use mathlib.Core.List.{List, [], _∷_, map}
 use lib.ListN.{length, take, drop}
-use lib.Dec.{T, leb, eqb, eqb→eq, leb→le}
+use lib.Dec.{T, leb, eqb, leb→le}
 use borrow.Author.Tests.{eqb-true, eq-eqb, ne-eqb}
-use Rattle.model.specs.Lists.{below, every, any, sum, flatMap, within, isZero, byte}
+use Rattle.model.specs.Lists.{below, every, sum, within, isZero}
 use Rattle.model.specs.Blocks.{Header, Kind, header, kinds, rowOf, entryWidth, inAll, recordWidth, recordAt, blockCount, blockTotal, block, laidOut, withinLimits}
 use Rattle.model.specs.Lexicon.{entryCount, entry, formLength, formOf, mayStop, goesTo, rightWays, wayCount, isEntryOf, isEntry}
-use Rattle.model.specs.GrammarOf.{grammarOf}
 use Rattle.model.specs.Query.{Request, queryOf}
-use Rattle.model.specs.Tree.{readings}
 use Rattle.model.specs.Calls.{allReadings}
-use Rattle.model.specs.Refusals.{Verdict, accepted, unless, firstFailing, rightLength, rightChecks, rightLayout, rightLetters}
+use Rattle.model.specs.Refusals.{accepted, rightLength, rightChecks, rightLayout, rightLetters}
 use Rattle.model.specs.Refusals.{rightPairs, rightTables, rightColumns, rightEntries, rightForms, formatTests, imageTests, imageVerdict}
-use Rattle.model.proofs.Booleans.{and-out, and-in, in4, out4, true-of, of-true, within-in, eq→eqb, not-out}
+use Rattle.model.proofs.Booleans.{and-out, and-in, in4, out4, true-of, of-true, within-in, eq→eqb}
 use Rattle.model.proofs.Lists.{below-has, below-from, every-at, every-in}
-use Rattle.model.proofs.Parts.{flatMap-same}
 use Rattle.model.proofs.Tests.{passed}
-use Rattle.image.specs.Laid.{Counted, Limited, Laid}
+use Rattle.image.specs.Laid.{Limited, Laid}
 use Rattle.image.specs.Kinds.{IsKind}
 use Rattle.image.proofs.Records.{record-length, counted}
 use Rattle.layout.proofs.Laid.{limits-kept, laid}
 use Rattle.alike.proofs.Alike.{alike-readings}
-use Rattle.built.specs.Built.{headerBytes, recordIn, recordBytes, blockFront, builtBlock, built, Sized}
-use Rattle.built.proofs.Placed.{records-among}
+use Rattle.built.specs.Built.{headerBytes, Sized}
 use Rattle.built.proofs.Built.{built-count, built-length, built-checks, built-laid, built-record, built-header}
-use Rattle.built.proofs.Rebuilt.{rebuilt}
-use Rattle.conversion.specs.Conversion.{toMany, toOne, otherEntry, otherHeader, otherRecords, convertedImage, oneWays}
-use Rattle.conversion.proofs.Entries.{same-form, same-entry, many-front, many-long, many-stop, many-goes, many-right, there-and-back, one-front, one-long, one-stop, one-goes, one-right}
+use Rattle.conversion.specs.Conversion.{otherEntry, otherHeader, otherRecords, convertedImage, oneWays}
+use Rattle.conversion.proofs.Entries.{same-form, same-entry, many-front, many-long, many-stop, many-goes, many-right, one-front, one-long, one-stop, one-goes, one-right}
 use Rattle.conversion.proofs.Counterpart.{Counterpart, counterpart-alike, letters-test, pairs-test, tables-test, columns-test, forms-test, sum-same}
-use Rattle.conversion.proofs.Head.{header-record}
 
 -- every test of the image check, passed
 pub record Passing (image : List ℕ) : Type 0 where

@@ -2,12 +2,12 @@
 use Prim.Native.Nat.{ℕ, _+_, _<_, _≤_}
 use native.Mathlib.Omega.{arith}
 use mathlib.Core.Bool.{Bool, _&&_, _||_}
-use mathlib.Core.Path.{_≡_, refl, sym, ap, ap₂, _∙_, subst}
+use mathlib.Core.Path.{_≡_, refl, ap, ap₂, _∙_}
 use mathlib.Core.List.{List, [], _∷_, _++_, map, List·Memᴰ, List·Memᴰ·head, List·Memᴰ·tail}
 use lib.ListN.{getD}
-use lib.Dec.{T, leb, ltb, eqb}
-use Rattle.model.specs.Lists.{below, every, any, distinct, sum, within, byte, number}
-use Rattle.model.specs.Blocks.{Header, header, kinds, inAll, recordAt}
+use lib.Dec.{leb, ltb, eqb}
+use Rattle.model.specs.Lists.{below, every, any, distinct, sum, byte, number}
+use Rattle.model.specs.Blocks.{header, kinds, inAll, recordAt}
 use Rattle.model.specs.RuleTables.{Pair, pair, pairs, letterSets, codePoints, pairsAndBoundary, boundaryPair, table, columnCount}
 use Rattle.model.specs.RuleTables.{columnFor, columnsOf, nextState, isFinal, isCodePoint, isPair, samePair, isSet, isTable}
 use Rattle.model.specs.Lexicon.{entryCount, firstEntry, inLexicon, entry, formOf, mayStop, goesTo}

@@ -1,8 +1,8 @@
 -- The converter's reply and its target, by the first test that fails.
 use Prim.Native.Nat.{ℕ, _*_, _<_, _≤_}
-use mathlib.Core.Bool.{Bool, true, false}
-use mathlib.Core.Path.{_≡_, refl, sym, ap, ap₂, _∙_}
-use mathlib.Core.List.{List, [], _∷_, _++_}
+use mathlib.Core.Bool.{true, false}
+use mathlib.Core.Path.{_≡_, refl, sym, ap, _∙_}
+use mathlib.Core.List.{List, []}
 use lib.ListN.{length}
 use lib.Dec.{leb, eqb}
 use borrow.Author.Tests.{lt-leb, le-leb, ne-eqb, eq-eqb}
@@ -14,23 +14,19 @@ module _ (image target : List ℕ) where
   abbrev Answered : Verdict → List ℕ → Type 0
   Answered w new = (conversionAfter w ≡ conversionReply image (length target)) × (new ≡ afterConversion image target)
 
-  -- the tests after those of the image
-  abbrev own : List (ℕ × Bool)
-  own = (15, oneWays image) ∷ (16, leb (convertedBlocks image) 128) ∷ (17, eqb (length target) (512 * convertedBlocks image)) ∷ []
-
   by-verdict : (w : Verdict) → firstFailing (conversionTests image (length target)) ≡ w → Answered w (targetAfter w (convertedImage image) target)
   unfolding conversionReply afterConversion
   by-verdict w e = (ap conversionAfter (sym e), ap (λ (w : Verdict). targetAfter w (convertedImage image) target) (sym e))
 
   pub refused-image : (k : ℕ) → imageVerdict image ≡ refused k → Answered (refused k) target
   unfolding conversionTests imageVerdict
-  refused-image k e = by-verdict (refused k) (tests-refused (imageTests image) own k e)
+  refused-image k e = by-verdict (refused k) (tests-refused (imageTests image) _ k e)
 
   module _ (ok : imageVerdict image ≡ accepted) where
     late : firstFailing (conversionTests image (length target)) ≡ unless (oneWays image) 15
         (unless (leb (convertedBlocks image) 128) 16 (unless (eqb (length target) (512 * convertedBlocks image)) 17 accepted))
     unfolding conversionTests imageVerdict
-    late = tests-accepted (imageTests image) own ok
+    late = tests-accepted (imageTests image) _ ok
 
     pub refused-15 : oneWays image ≡ false → Answered (refused 15) target
     refused-15 a = by-verdict (refused 15) (late ∙ rw a refl)

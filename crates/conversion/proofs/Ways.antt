@@ -7,10 +7,10 @@ use mathlib.Core.Path.{_≡_, refl, sym, ap, _∙_, subst}
 use mathlib.Core.List.{List, [], _∷_, _++_}
 use lib.Dec.{T, eqb}
 use borrow.Author.Tests.{eq-eqb, ne-eqb}
-use Rattle.model.specs.Lists.{below, any, count, first, byte, bit}
+use Rattle.model.specs.Lists.{below, any, count, first, bit}
 use Rattle.model.specs.RuleTables.{inSet}
 use Rattle.model.proofs.Booleans.{true-of, of-true, false-of}
-use Rattle.model.proofs.Lists.{getD-map-below, below-has, below-from}
+use Rattle.model.proofs.Lists.{getD-map-below, below-from}
 use mathlib.Core.List.{List·Memᴰ, List·Memᴰ·head, List·Memᴰ·tail}
 use Rattle.conversion.specs.Conversion.{digitsFrom, wayBytes}
 

@@ -1,17 +1,14 @@
 -- Blocks of the converted image: those before the entries are the image's own, but for the form in the first one; those of entries are made of records.
 use Prim.Native.Nat.{ℕ, zero, suc, _+_, _*_, _-_, _/_, _%_, _<_, _≤_, min}
 use native.Mathlib.Omega.{arith}
-use native.Mathlib.Decide.{ℕ-discrete}
-use mathlib.Core.Bool.{Bool, true, false, _&&_}
 use mathlib.Core.Path.{_≡_, refl, sym, ap, ap₂, _∙_, subst}
-use mathlib.Core.List.{List, [], _∷_, _++_, append-nil, append-assoc, List·Memᴰ}
-use lib.ListN.{length, take, drop, set, replicate, length-append, length-replicate, replicate-append-replicate}
+use mathlib.Core.List.{List, [], _∷_, _++_, append-assoc}
+use lib.ListN.{length, take, drop, set, replicate, replicate-append-replicate}
 use lib.Seq.{take-at, take-set-lt, drop-set-add, drop-drop}
 use lib.Dec.{T}
 use Rattle.model.specs.Lists.{below, every, flatMap, within, byte, numberBytes}
 use Rattle.model.specs.Blocks.{Header, Kind, header, kinds, rowOf, inAll, recordWidth, perBlock, firstBlock, recordAt, blockTotal, block, kindAt, recordsAt, checkOf, numbered, sealedBlock}
 use Rattle.model.specs.Lexicon.{entry}
-use Rattle.model.specs.Refusals.{accepted, imageVerdict}
 use Rattle.model.proofs.Booleans.{of-true, within-out}
 use Rattle.model.proofs.Lists.{below-from, every-at}
 use Rattle.model.proofs.Parts.{flatMap-same, Wide}

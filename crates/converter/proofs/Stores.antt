@@ -1,11 +1,11 @@
 -- Lists written in place: byte after byte, and part after part.
-use Prim.Native.Nat.{ℕ, zero, suc, _+_, _*_, _-_, _<_, _≤_}
+use Prim.Native.Nat.{ℕ, zero, suc, _+_, _*_, _-_, _<_}
 use native.Mathlib.Nat.{mul-suc}
 use native.Mathlib.Numerals.{add-one}
 use native.Mathlib.Omega.{arith}
 use mathlib.Core.Path.{_≡_, refl, sym, ap, ap₂, _∙_}
-use mathlib.Core.List.{List, [], _∷_, _++_, append-assoc, append-nil}
-use lib.ListN.{length, take, drop, set, replicate, length-append, length-replicate, drop-of-length-le, replicate-append-replicate}
+use mathlib.Core.List.{List, [], _++_, append-assoc}
+use lib.ListN.{length, take, drop, set, replicate, length-append}
 use lib.Seq.{take-suc, drop-cons, append-snoc, length-take-le, take-all, take-at, drop-at, drop-drop, set-at}
 use borrow.Rule.Slice.PartMut.{putMid}
 use Rattle.model.specs.Lists.{below, flatMap, byte}

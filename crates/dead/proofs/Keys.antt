@@ -5,10 +5,10 @@ use mathlib.Core.Bool.{Bool, _&&_}
 use mathlib.Core.Logic.{_⊎_, inl, inr}
 use mathlib.Core.Path.{_≡_, refl, sym, ap, ap₂, _∙_, subst}
 use mathlib.Core.List.{List, []}
-use lib.ListN.{getD, take, drop}
+use lib.ListN.{getD, drop}
 use lib.Dec.{eqb}
 use borrow.Author.Tests.{lt-ltb, le-ltb, eq-eqb, ne-eqb}
-use Rattle.model.specs.Lists.{below, any}
+use Rattle.model.specs.Lists.{below}
 use Rattle.model.specs.Blocks.{header}
 use Rattle.model.specs.Lexicon.{inLexicon, entry, mayStop, goesTo}
 use Rattle.model.specs.Query.{Query}

@@ -6,7 +6,6 @@ use native.Mathlib.Omega.{arith}
 use native.Mathlib.Decide.{decLt, decLe}
 use mathlib.Core.Bool.{Bool, true, false, _&&_, _||_, not, cond}
 use mathlib.Core.Path.{_≡_, refl, sym, ap, ap₂, _∙_, subst}
-use mathlib.Core.Logic.{_⊎_, inl, inr}
 use mathlib.Core.List.{List, [], _∷_, _++_, map, List·Memᴰ, List·Memᴰ·head, List·Memᴰ·tail}
 use lib.ListN.{length, take, drop, length-take, length-drop}
 use lib.Seq.{drop-drop, take-take, getD-take, getD-drop}
@@ -15,7 +14,7 @@ use borrow.Author.Tests.{le-leb, lt-leb}
 use Rattle.model.specs.Lists.{below, every, any, sum, within, isZero, byte, bit, number}
 use Rattle.model.specs.Blocks.{Header, kinds, entryWidth, recordWidth, firstBlock, recordStart}
 use Rattle.model.specs.RuleTables.{inSet}
-use Rattle.model.specs.Lexicon.{mayStop, goesTo, rightWays, entryCount, firstEntry, inLexicon, entry, formLength, formOf, continuation, isEntryOf, isEntry}
+use Rattle.model.specs.Lexicon.{mayStop, goesTo, rightWays, entryCount, firstEntry, inLexicon, entry, formLength, formOf, isEntryOf, isEntry}
 use Rattle.model.specs.Refusals.{rightEntries}
 use Rattle.model.specs.Beside.{formStart}
 use Rattle.model.proofs.Booleans.{and-out, and-in, out4, within-out}

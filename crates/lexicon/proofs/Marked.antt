@@ -1,12 +1,12 @@
 -- Entries by their marked letters: test 8 where the letters from 2 to L are marked, tests 8 and 14 where the lexical sides of the pairs are.
 use Prim.Native.Nat.{ℕ, _+_, _-_, _<_, _≤_}
 use native.Mathlib.Omega.{arith}
-use mathlib.Core.Bool.{Bool, true, false, _&&_, _||_, not}
+use mathlib.Core.Bool.{Bool, true, false, _&&_, not}
 use mathlib.Core.Path.{_≡_, refl, sym, ap, ap₂, _∙_, subst}
 use mathlib.Core.List.{List}
 use lib.ListN.{length, getD, take, drop, length-drop}
 use lib.Seq.{getD-drop}
-use lib.Dec.{T, leb, ltb, eqb}
+use lib.Dec.{T, leb, eqb}
 use Rattle.model.specs.Lists.{below, every, within, isZero}
 use Rattle.model.specs.Blocks.{Header}
 use Rattle.model.specs.Lexicon.{firstEntry, entry, formLength, formOf, rightWays, isEntryOf, isEntry}

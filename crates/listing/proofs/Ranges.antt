@@ -15,8 +15,8 @@ use Rattle.model.specs.Lexicon.{firstEntry, entryCount, inLexicon, entry, goesT
 use Rattle.model.specs.GrammarOf.{grammarOf}
 use Rattle.model.specs.Query.{Pattern, anything, exactly, entryNumbers}
 use Rattle.model.specs.Refusals.{rightEntries}
-use Rattle.model.proofs.Booleans.{and-out, left-false, right-true, right-false, of-true, true-of, false-of, eq→eqb}
-use Rattle.model.proofs.Lists.{length-map-below, getD-map-below, below-has, below-from, any-has, any-from, bit-none}
+use Rattle.model.proofs.Booleans.{and-out, left-false, right-true, right-false, of-true, true-of, false-of}
+use Rattle.model.proofs.Lists.{length-map-below, getD-map-below, below-from, any-from, bit-none}
 use Rattle.image.specs.Accepted.{Accepted}
 use Rattle.image.specs.Index.{indexOf}
 use Rattle.index.proofs.Laws.{length-indexOf, lexicon-number}
@@ -28,7 +28,7 @@ use Rattle.rules.proofs.PathLaws.{any-same, some-here}
 use Rattle.listing.specs.declared.opening.Ways.{Ways}
 use Rattle.listing.specs.declared.opening.Next.{Next}
 use Rattle.listing.specs.Places.{root, ended, waysAfter}
-use Rattle.listing.specs.Opening.{mayEnter, mayEnterSome, Known, SetOf, WaysOf, NextOf, NextWays}
+use Rattle.listing.specs.Opening.{mayEnterSome, Known, SetOf, WaysOf, NextWays}
 
 module _ (image : List ℕ) (x : ℕ) where
   in-range : (e : ℕ) → firstEntry image x ≤ e → e < firstEntry image x + entryCount image x → inLexicon image x e ≡ true

@@ -1,22 +1,20 @@
 -- `convert` meets its contract: each refusal is that of the first test that fails, and where all pass the blocks are put.
 use borrow.Author.Needs.{needs}
-use Prim.Native.Nat.{ℕ, _*_, _<_, _≤_}
+use Prim.Native.Nat.{ℕ, _*_, _≤_}
 use native.Mathlib.Omega.{arith}
-use mathlib.Core.Bool.{true, false}
-use mathlib.Core.Path.{_≡_, refl, sym, ap, _∙_, subst}
+use mathlib.Core.Bool.{true}
+use mathlib.Core.Path.{_≡_, sym, ap, _∙_, subst}
 use mathlib.Core.List.{List}
 use lib.ListN.{length}
 use borrow.Author.Tests.{not-true, not-false}
-use Rattle.model.specs.Blocks.{Header, header, blockTotal}
-use Rattle.model.specs.Refusals.{accepted, refused, imageVerdict}
+use Rattle.model.specs.Blocks.{header, blockTotal}
+use Rattle.model.specs.Refusals.{accepted, imageVerdict}
 use Rattle.model.proofs.Booleans.{of-true}
 use Rattle.image.specs.Header.{headerOf}
-use Rattle.image.specs.Laid.{Counted, Limited, Laid}
-use Rattle.image.proofs.Records.{counted}
+use Rattle.image.specs.Laid.{Counted, Laid}
 use Rattle.grammar.specs.Answers.{verdictOf}
 use Rattle.grammar.proofs.Verdicts.{accepted-image, laid-some}
 use Rattle.conversion.specs.Conversion.{otherHeader, oneWays, convertedBlocks}
-use Rattle.converter.specs.Answers.{Converting}
 use Rattle.conversion.proofs.Replies.{refused-image, refused-15, refused-16, refused-17, all-passed}
 use Rattle.converter.proofs.BlockLaws.{other-counted}
 use Rattle.converter.proofs.convert.Statement.{statement}
@@ -98,7 +96,7 @@ returns-3 : tie.Need-returns-3
 returns-3 c =
     let b = c .before .before in
     let few : convertedBlocks (image (e b)) ≤ 128 = omega (arith, total-is b, c .before .if2 .left) in
-    refused-17 (image (e b)) (target (e b)) (ok (e b)) (one-way b) few (λ d. c .if3 .taken (d ∙ ap (λ (n : ℕ). 512 * n) (sym (total-is b))))
+    refused-17 (image (e b)) (target (e b)) (ok (e b)) (one-way b) few (λ d. omega (arith, d, total-is b, c .if3 .taken))
 
 put-blocks-requires : tie.Need-put-blocks-requires
 put-blocks-requires c κs =
@@ -111,7 +109,7 @@ put-blocks-requires c κs =
         one-ways = of-true _ (one-way b);
         few = omega (arith, b .block-total .ensures, c .before .before .if2 .left);
       },
-      c .before .if3 .left ∙ ap (λ (n : ℕ). 512 * n) (b .block-total .ensures),
+      omega (arith, b .block-total .ensures, c .before .if3 .left),
     )
 
 returns-4 : tie.Need-returns-4
@@ -127,7 +125,8 @@ returns-5 c =
     let fit = put .before .before in
     let b = fit .before .before in
     let few : convertedBlocks (image (e b)) ≤ 128 = omega (arith, total-is b, fit .before .if2 .left) in
-    let a = all-passed (image (e b)) (target (e b)) (ok (e b)) (one-way b) few (fit .if3 .left ∙ ap (λ (n : ℕ). 512 * n) (total-is b)) in
+    let long : length (target (e b)) ≡ 512 * convertedBlocks (image (e b)) = omega (arith, total-is b, fit .if3 .left) in
+    let a = all-passed (image (e b)) (target (e b)) (ok (e b)) (one-way b) few long in
     (a .0, put .put-blocks .ensures ∙ a .1)
 
 check-requires : tie.Need-check-requires

@@ -9,7 +9,6 @@ use mathlib.Core.Path.{_≡_, refl, sym, ap, _∙_}
 use Prim.Native.Nat.{ℕ, _+_, _*_, _<_, _≤_}
 use lib.ListN.{length, take, drop}
 use lib.Seq.{getD-drop}
-use lib.Dec.{ltb, eqb}
 use Rattle.model.specs.Lists.{below, every, within, isZero, byte}
 use Rattle.model.specs.Lexicon.{rightWays, isEntryOf}
 use Rattle.letters.specs.Marks.{isMarked}

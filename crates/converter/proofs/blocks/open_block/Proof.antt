@@ -1,10 +1,10 @@
 -- `open_block` meets its contract: zeros, and two bytes over them.
 use borrow.Author.Needs.{needs}
-use Prim.Native.Nat.{ℕ, _<_}
+use Prim.Native.Nat.{ℕ}
 use native.Mathlib.Omega.{arith}
-use mathlib.Core.Path.{_≡_, refl, sym, ap, _∙_}
+use mathlib.Core.Path.{ap, _∙_}
 use mathlib.Core.List.{List}
-use lib.ListN.{length, set, replicate}
+use lib.ListN.{set}
 use Rattle.converter.proofs.Stores.{zeros}
 use Rattle.converter.proofs.blocks.open_block.Statement.{statement}
 use Rattle.converter.proofs.blocks.open_block.Tie as tie

@@ -1,8 +1,7 @@
 -- `put_block` meets its contract: before the entries a block is as it was put and then sealed; from the entries on it is made anew and sealed.
 use borrow.Author.Needs.{needs}
-use Prim.Native.Nat.{ℕ, _<_, _≤_}
 use native.Mathlib.Omega.{arith}
-use mathlib.Core.Path.{_≡_, refl, sym, ap, _∙_}
+use mathlib.Core.Path.{ap, _∙_}
 use Rattle.model.specs.Blocks.{sealedBlock}
 use Rattle.image.proofs.Records.{counted}
 use Rattle.converter.proofs.BlockLaws.{o-limits}

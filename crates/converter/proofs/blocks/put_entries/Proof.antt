@@ -1,20 +1,20 @@
 -- `put_entries` meets its contract: a block is opened, and its records are put one after the other, so that after n of them it is the block as built.
 use borrow.Author.Needs.{needs}
-use Prim.Native.Nat.{ℕ, suc, _+_, _*_, _-_, _/_, _<_, _≤_}
+use Prim.Native.Nat.{ℕ, suc, _+_, _*_, _-_, _<_, _≤_}
 use native.Mathlib.Nat.{le-refl, mul-le-mul, mul-suc, div-le-self}
 use native.Mathlib.Omega.{arith}
 use mathlib.Core.Path.{_≡_, refl, sym, ap, ap₂, _∙_, subst}
-use mathlib.Core.List.{List, [], _∷_, _++_}
-use lib.ListN.{length, take, drop, length-take, length-drop}
+use mathlib.Core.List.{List, [], _∷_}
+use lib.ListN.{length, drop, length-take, length-drop}
 use borrow.Rule.Slice.PartMut.{same-len-mid}
 use Rattle.model.specs.Lists.{below}
-use Rattle.model.specs.Blocks.{Header, header, kinds, entryWidth, recordWidth, perBlock, firstBlock, blockTotal, recordsAt}
+use Rattle.model.specs.Blocks.{Header, header, entryWidth, recordWidth, perBlock, firstBlock, recordsAt}
 use Rattle.model.specs.Lexicon.{entry}
 use Rattle.image.specs.Header.{headerOf}
 use Rattle.image.specs.Laid.{Laid}
 use Rattle.image.proofs.Records.{counted, entry-wide}
 use Rattle.lexicon.proofs.Laws.{width-is}
-use Rattle.built.specs.Built.{recordIn, builtBlock}
+use Rattle.built.specs.Built.{recordIn}
 use Rattle.conversion.specs.Conversion.{otherHeader, otherRecords, otherEntry}
 use Rattle.converter.specs.Answers.{Converting}
 use Rattle.converter.proofs.Stores.{zeros, partsTo, parts-more}

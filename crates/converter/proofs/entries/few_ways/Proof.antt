@@ -1,12 +1,11 @@
 -- `few_ways` meets its contract, by whether a path may stop.
-use borrow.Author.Needs.{needs}
 use Prim.Native.Nat.{ℕ, _+_}
 use native.Mathlib.Omega.{arith}
 use native.Mathlib.Nat.{add-zero}
-use mathlib.Core.Bool.{Bool, true, false, cond}
-use mathlib.Core.Path.{_≡_, refl, sym, ap, ap₂, _∙_}
+use mathlib.Core.Bool.{Bool, cond}
+use mathlib.Core.Path.{sym, ap, ap₂, _∙_}
 use lib.Count.{ones}
-use lib.Dec.{leb, eqb}
+use lib.Dec.{leb}
 use Rattle.converter.proofs.EntryLaws.{no-more, count-ones}
 use Rattle.converter.proofs.entries.few_ways.Statement.{statement}
 use Rattle.converter.proofs.entries.few_ways.Tie as tie

@@ -1,8 +1,8 @@
 -- `one_ways` meets its contract: entry after entry.
 use borrow.Author.Needs.{needs}
-use Prim.Native.Nat.{ℕ, _+_, _-_, _<_, _≤_}
+use Prim.Native.Nat.{ℕ, _+_, _-_, _≤_}
 use native.Mathlib.Omega.{arith}
-use mathlib.Core.Bool.{Bool, true, false, _||_, not, cond}
+use mathlib.Core.Bool.{Bool, true, _||_, not, cond}
 use mathlib.Core.Path.{_≡_, refl, sym, ap, ap₂, _∙_}
 use mathlib.Core.List.{List}
 use lib.Dec.{leb, eqb}
@@ -10,7 +10,7 @@ use borrow.Author.Tests.{not-true, not-false, eq-eqb, ne-eqb}
 use Rattle.model.specs.Lists.{below, every, count, bit}
 use Rattle.model.specs.Blocks.{Header, header}
 use Rattle.model.specs.Lexicon.{entry, mayStop, goesTo, wayCount}
-use Rattle.model.proofs.Lists.{every-none, every-more, every-fails}
+use Rattle.model.proofs.Lists.{every-more, every-fails}
 use Rattle.image.specs.Header.{headerOf}
 use Rattle.image.specs.Laid.{Laid}
 use Rattle.digits.specs.Ways.{Names}

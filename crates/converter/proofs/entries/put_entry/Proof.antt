@@ -2,11 +2,11 @@
 use borrow.Author.Needs.{needs}
 use Prim.Native.Nat.{ℕ, _+_, _-_, _<_, _≤_}
 use native.Mathlib.Omega.{arith}
-use mathlib.Core.Path.{_≡_, refl, sym, ap, ap₂, _∙_}
+use mathlib.Core.Path.{_≡_, sym, ap, ap₂, _∙_}
 use mathlib.Core.List.{List, _++_}
 use lib.ListN.{length, take, drop, set, length-drop, length-set}
 use Rattle.model.specs.Lists.{bit}
-use Rattle.model.specs.Blocks.{Header, entryWidth, recordStart}
+use Rattle.model.specs.Blocks.{Header, entryWidth}
 use Rattle.model.specs.Lexicon.{entry}
 use Rattle.image.specs.Header.{headerOf}
 use Rattle.image.proofs.Records.{record-part, entry-wide}
@@ -50,7 +50,7 @@ copied-long : (c : tie.After-copy) → length (c .copy .last .1 .1 .0) ≡ lengt
 copied-long c = c .copy .kept .1 .1 .0
 
 copy-requires : tie.Need-copy-requires
-copy-requires c κs = (omega (arith, room (c .before), entry-wide (h (c .before) .form)), out-wide (c .before))
+copy-requires c κs = (omega (arith, room (c .before), entry-wide (h (c .before) .form)), omega (arith, out-wide (c .before)))
 
 mark-of-requires : tie.Need-mark-of-requires
 mark-of-requires c κs =

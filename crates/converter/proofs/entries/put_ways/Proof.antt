@@ -2,11 +2,11 @@
 use borrow.Author.Needs.{needs}
 use Prim.Native.Nat.{ℕ, _+_, _*_, _-_, _/_, _%_, _^_, _<_, _≤_}
 use native.Mathlib.Omega.{arith}
-use mathlib.Core.Path.{_≡_, refl, sym, ap, _∙_}
+use mathlib.Core.Path.{_≡_, sym, ap, _∙_}
 use mathlib.Core.List.{List, [], _++_, append-nil}
-use lib.ListN.{length, getD, take, drop, length-append, drop-of-length-le, take-append-drop}
+use lib.ListN.{length, take, drop, length-append, drop-of-length-le, take-append-drop}
 use lib.Seq.{length-take-le, take-at, getD-append-add}
-use Rattle.model.specs.Lists.{below, bit, byte}
+use Rattle.model.specs.Lists.{bit, byte}
 use Rattle.model.proofs.Lists.{getD-map-below, length-map-below}
 use Rattle.conversion.specs.Conversion.{digitsFrom, wayBytes}
 use Rattle.converter.proofs.EntryLaws.{way-byte}

@@ -4,7 +4,7 @@ use Prim.Native.Nat.{ℕ, _-_, _≤_}
 use native.Mathlib.Omega.{arith}
 use mathlib.Core.Path.{_≡_, refl, sym, ap, _∙_}
 use mathlib.Core.List.{List, [], _++_, append-nil}
-use lib.ListN.{length, drop, length-replicate, getD-replicate, drop-of-length-le}
+use lib.ListN.{length, length-replicate, getD-replicate, drop-of-length-le}
 use Rattle.converter.proofs.Stores.{zeros, writtenTo, written-none, written-more, written-all}
 use Rattle.converter.proofs.writing.clear.Statement.{statement}
 use Rattle.converter.proofs.writing.clear.Tie as tie

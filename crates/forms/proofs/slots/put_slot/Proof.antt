@@ -1,5 +1,5 @@
 -- `forms::slots::put_slot` meets its contract: thirteen bytes of the entry, its way on over the next, and its number after them are the slot, and no other byte moves.
-use Prim.Native.Nat.{ℕ, _+_, _*_, _-_, _<_}
+use Prim.Native.Nat.{ℕ, _+_, _*_, _<_}
 use lib.ListN.{length, set, length-set}
 use native.Mathlib.Omega.{arith}
 use mathlib.Core.Path.{_≡_, sym, ap, subst}

@@ -6,8 +6,6 @@ use mathlib.Core.Path.{_≡_, refl, sym, ap, _∙_, subst}
 use Prim.Native.Nat.{ℕ, _-_, _^_, _<_, _≤_}
 use lib.Pow.{pow-pos}
 use Rattle.model.specs.Blocks.{Header, header}
-use Rattle.model.specs.Lexicon.{inLexicon}
-use Rattle.model.proofs.Booleans.{true-of}
 use Rattle.image.specs.Header.{headerOf}
 use Rattle.digits.proofs.Bits.{digit-most}
 use Rattle.rules.specs.Paths.{inSome}

@@ -1,7 +1,7 @@
 -- `open_ways` meets its contract: asked nothing of the path, all that the set names may open; asked an entry, that one alone, and only where it is the next of the set.
 use borrow.Author.Needs.{needs}
 use native.Mathlib.Omega.{arith}
-use mathlib.Core.Path.{_≡_, sym, ap, _∙_}
+use mathlib.Core.Path.{sym, ap, _∙_}
 use mathlib.Core.List.{List}
 use Prim.Native.Nat.{ℕ, _<_}
 use Rattle.model.specs.Blocks.{Header, header}
