@@ -31,6 +31,9 @@
  *    7  for a listed or the boundary pair a rule has no matching column, or two narrowest
  *    8  lexicon counts do not add up to the entries, or an entry breaks its layout
  *   14  an entry can never be spelled: a letter of its form is the lexical side of no pair
+ *   15  conversion to form 1 of an image in which an entry has more than one way on, an ending counted as a way
+ *   16  the converted image would have over 128 blocks
+ *   17  the target is of another length than the converted image
  *    9  word length 0 or over 32; where the word is code points, an odd count of bytes too
  *   10  a word letter outside 2-L
  *   11  path of 0 or over 16 entries, or an odd count of bytes
@@ -141,6 +144,15 @@ uint64_t headwords_check(const uint8_t *image, size_t image_length);
 /* Writes number and check into every block, and nothing else: replies 1. Refused for its length alone: replies 7 (k is
  * 1), and nothing is written. Whether the sealed image is accepted, headwords_check says. */
 uint64_t headwords_seal(uint8_t *image, size_t image_length);
+
+/* The image in the other form: form 1 has one continuation for an entry, form 2 several, and an entry that may both end a
+ * path and go on.
+ *   1       converted; every byte of the target is written
+ *   4k + 3  refused (1 to 8, 14, 15, 16 or 17); nothing is written
+ * The target's length has to be that of the converted image: 512 bytes for each of its blocks, of which the entries take one
+ * for every 31 in form 1 and one for every 21 in form 2; the others stay as they are. The converted image is accepted, and
+ * every word and path has the same reply and the same rows by it. From form 1 to form 2 and back gives the same bytes. */
+uint64_t headwords_convert(const uint8_t *image, size_t image_length, uint8_t *target, size_t target_length);
 
 /* 1 where the path (as for headwords_generate) and the pairing (one byte a pair number) are a reading of the word that they
  * spell, 0 where they are not, 4k + 3 where they are refused (1 to 8, 14, 11 to 13). */

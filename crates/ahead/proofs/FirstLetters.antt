@@ -7,7 +7,7 @@ use mathlib.Core.Path.{_≡_, refl, sym, ap, ap₂, _∙_, subst}
 use mathlib.Core.List.{List, [], _∷_, _++_}
 use lib.ListN.{length, getD, take, drop, set, replicate, length-set}
 use lib.Seq.{take-nil, getD-set-same, getD-set-other}
-use lib.Dec.{T, leb, ltb, eqb}
+use lib.Dec.{T, leb, eqb}
 use borrow.Author.Tests.{eqb-true, ne-eqb}
 use Rattle.model.specs.Lists.{given, any, every, within, flatMap, isZero, byte}
 use Rattle.model.specs.Blocks.{Header, recordStart}
@@ -58,7 +58,8 @@ module _ (image : List ℕ) (h : Header) (ok : Accepted image h) (e : ℕ) (insi
   first-is =
       let l = entry image e in
       sym (entries.entry-byte image h (ok .laid) e 1 (omega arith))
-      ∙ head-byte l (out4 (leb (formLength l) 12) (every (within 2 (h .letters)) (formOf l)) (every isZero (drop (1 + formLength l) (take 13 l))) (rightWays l (h .form) (h .lexicons)) (entries.entry-right image h (ok .laid) right e inside) .2)
+      ∙ head-byte l (out4 (leb (formLength l) 12) (every (within 2 (h .letters)) (formOf l)) (every isZero (drop (1 + formLength l) (take 13 l))) (rightWays l (h .form) (h .lexicons))
+      (entries.entry-right image h (ok .laid) right e inside) .2)
 
   pub first-most : headOf (grammarOf image .form e) ≤ h .letters
   unfolding grammarOf

@@ -5,14 +5,16 @@ use native.Mathlib.Omega.{arith}
 use mathlib.Core.Bool.{Bool, true, false, _&&_, not}
 use mathlib.Core.Path.{_≡_, refl, sym, ap, ap₂, _∙_, subst}
 use mathlib.Core.Logic.{_⊎_, inl, inr}
-use mathlib.Core.List.{List, [], _∷_, _++_, map, List·Memᴰ, List·Memᴰ·head, List·Memᴰ·tail, List·Memᴰ·not-nil, List·Memᴰ·cases-cons, List·Memᴰ·append-cases, List·Memᴰ·eq-of-singleton}
+use mathlib.Core.List.{List, [], _∷_, _++_, map, List·Memᴰ}
+use mathlib.Core.List.{List·Memᴰ·head, List·Memᴰ·tail, List·Memᴰ·not-nil, List·Memᴰ·cases-cons, List·Memᴰ·append-cases, List·Memᴰ·eq-of-singleton}
 use lib.ListN.{length}
 use lib.Dec.{T, leb, ltb, ltb→lt, lt→ltb}
-use Rattle.model.specs.Lists.{below, every, joined, sameList, within, isZero}
+use Rattle.model.specs.Lists.{below, every, joined, sameList, isZero}
 use Rattle.model.specs.RuleTables.{fed, accepts}
 use Rattle.model.specs.Lexicon.{linked, pathLength}
 use Rattle.model.specs.Grammar.{Grammar}
-use Rattle.model.specs.Readings.{Reading, nulls, withoutNulls, spelled, fewNulls, wordLength, isLine, pairingLength, afterLetter, passes, isLinked, isPath, isReading, upTo, beyond, endingList, endingSteps, Ascending}
+use Rattle.model.specs.Readings.{Reading, nulls, withoutNulls, spelled, fewNulls, wordLength, isLine, pairingLength, afterLetter}
+use Rattle.model.specs.Readings.{passes, isLinked, isPath, isReading, upTo, beyond, endingList, endingSteps, Ascending}
 use Rattle.model.specs.Query.{Query, fits, answers}
 use Rattle.model.specs.Tree.{readings}
 use Rattle.model.proofs.Booleans.{and-out, and-in, out3, in3, out8, in8, true-of, false-of}
@@ -50,7 +52,8 @@ linked-below g (e ∷ es) may stop t x m =
     let u = out3 (may e) (ltb e (g .entries)) (linked (g .entries) (g .follows) (g .ends) (g .follows e) (g .ends e) es) t in
     go u (linked-below g es (g .follows e) (g .ends e) (u .2) x) (List·Memᴰ·cases-cons m)
   where
-    go : T (may e) × T (ltb e (g .entries)) × T (linked (g .entries) (g .follows) (g .ends) (g .follows e) (g .ends e) es) → (List·Memᴰ x es → x < g .entries) → (x ≡ e) ⊎ List·Memᴰ x es → x < g .entries
+    go : T (may e) × T (ltb e (g .entries)) × T (linked (g .entries) (g .follows) (g .ends) (g .follows e) (g .ends e) es) → (List·Memᴰ x es → x < g .entries)
+        → (x ≡ e) ⊎ List·Memᴰ x es → x < g .entries
     go u r (inl d) = let l = ltb→lt e (g .entries) (u .1) in omega arith
     go u r (inr k) = r k
 
@@ -60,7 +63,8 @@ unfolding isReading isPath
 reading-below g r t =
     let es = r .path in
     let ps = r .pairing in
-    let m = out8 (isPath g es) (pairingLength ps) (every (λ p. ltb p (g .pairs)) ps) (sameList (spelled (g .lexical) ps) (joined (map (g .form) es))) (fewNulls (g .lexical) ps) (isLine (g .surface) ps) (isLine (g .spoken) ps) (passes g ps) t in
+    let m = out8 (isPath g es) (pairingLength ps) (every (λ p. ltb p (g .pairs)) ps) (sameList (spelled (g .lexical) ps) (joined (map (g .form) es))) (fewNulls (g .lexical) ps)
+    (isLine (g .surface) ps) (isLine (g .spoken) ps) (passes g ps) t in
     (linked-below g es (g .begins) false ((and-out (pathLength es) (isLinked g es) (m .0)) .1), λ p k. ltb→lt p (g .pairs) (every-at (λ p. ltb p (g .pairs)) ps k (m .2)))
 
 module _ {g h : Grammar} (a : Alike g h) where
@@ -107,7 +111,8 @@ module _ {g h : Grammar} (a : Alike g h) where
     spoken-same : map (g .spoken) ps ≡ map (h .spoken) ps
     spoken-same = map-same (g .spoken) (h .spoken) ps (λ p m. a .spoken p (i p m))
 
-  accepts-same : (r : ℕ) → r < g .rules → (ps : List ℕ) → ((p : ℕ) → List·Memᴰ p ps → p ≤ g .pairs) → (s : ℕ) → accepts (g .next r) (g .final r) s ps ≡ accepts (h .next r) (h .final r) s ps
+  accepts-same : (r : ℕ) → r < g .rules → (ps : List ℕ) → ((p : ℕ) → List·Memᴰ p ps → p ≤ g .pairs) → (s : ℕ)
+      → accepts (g .next r) (g .final r) s ps ≡ accepts (h .next r) (h .final r) s ps
   unfolding accepts
   accepts-same r l [] i s = ap (λ (b : Bool). not (isZero s) && b) (a .final r l s)
   accepts-same r l (p ∷ ps) i s =
@@ -130,11 +135,13 @@ module _ {g h : Grammar} (a : Alike g h) where
   reading-to r t =
       let es = r .path in
       let ps = r .pairing in
-      let m = out8 (isPath g es) (pairingLength ps) (every (λ p. ltb p (g .pairs)) ps) (sameList (spelled (g .lexical) ps) (joined (map (g .form) es))) (fewNulls (g .lexical) ps) (isLine (g .surface) ps) (isLine (g .spoken) ps) (passes g ps) t in
+      let m = out8 (isPath g es) (pairingLength ps) (every (λ p. ltb p (g .pairs)) ps) (sameList (spelled (g .lexical) ps) (joined (map (g .form) es))) (fewNulls (g .lexical) ps)
+      (isLine (g .surface) ps) (isLine (g .spoken) ps) (passes g ps) t in
       let p = and-out (pathLength es) (isLinked g es) (m .0) in
       let i = (reading-below g r t) .0 in
       let j = (reading-below g r t) .1 in
-      in8 (isPath h es) (pairingLength ps) (every (λ p. ltb p (h .pairs)) ps) (sameList (spelled (h .lexical) ps) (joined (map (h .form) es))) (fewNulls (h .lexical) ps) (isLine (h .surface) ps) (isLine (h .spoken) ps) (passes h ps)
+      in8 (isPath h es) (pairingLength ps) (every (λ p. ltb p (h .pairs)) ps) (sameList (spelled (h .lexical) ps) (joined (map (h .form) es))) (fewNulls (h .lexical) ps) (isLine (h .surface) ps)
+      (isLine (h .spoken) ps) (passes h ps)
       (and-in (pathLength es) (isLinked h es) (p .0) (linked-to es (g .begins) (h .begins) false false (a .begins) refl (p .1)))
       (m .1)
       (subst (λ (n : ℕ). T (every (λ p. ltb p n) ps)) (a .pairs) (m .2))
@@ -148,7 +155,8 @@ module _ {g h : Grammar} (a : Alike g h) where
   unfolding answers
   answers-to q r t u =
       let j = (reading-below g r t) .1 in
-      subst T (ap₂ (λ (x y : List ℕ). fits (q .entries) 0 (r .path) && (fits (q .letters) 0 (withoutNulls x) && fits (q .spoken) 0 (withoutNulls y))) (surface-same (r .pairing) j) (spoken-same (r .pairing) j)) u
+      subst T (ap₂ (λ (x y : List ℕ). fits (q .entries) 0 (r .path) && (fits (q .letters) 0 (withoutNulls x) && fits (q .spoken) 0 (withoutNulls y))) (surface-same (r .pairing) j)
+      (spoken-same (r .pairing) j)) u
 
   -- and their steps
   upTo-same : (n : ℕ) (ps : List ℕ) → AllBelow (g .pairs) ps → upTo g n ps ≡ upTo h n ps

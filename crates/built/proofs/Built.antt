@@ -1,24 +1,24 @@
 -- An image made from counts and records says what it was made from: its blocks, its records, its header; and tests 1 to 3 let it pass.
-use Prim.Native.Nat.{ℕ, zero, suc, _+_, _*_, _-_, _/_, _%_, _<_, _≤_, min}
-use native.Mathlib.Nat.{add-assoc, le-refl, mul-le-mul, mul-suc, mod-lt, div-add-mod, div-lt-iff-lt-mul, mul-zero, mul-comm}
+use Prim.Native.Nat.{ℕ, zero, suc, _+_, _*_, _-_, _/_, _%_, _<_, _≤_}
+use native.Mathlib.Nat.{add-assoc, le-refl, mul-le-mul, mul-suc, mod-lt, div-add-mod, div-lt-iff-lt-mul}
 use native.Mathlib.Omega.{arith}
-use mathlib.Core.Bool.{Bool, true, false, _&&_}
 use mathlib.Core.Path.{_≡_, refl, sym, ap, ap₂, _∙_, subst}
-use mathlib.Core.List.{List, [], _∷_, _++_, append-assoc, append-nil, List·Memᴰ}
-use lib.ListN.{length, getD, take, drop, replicate, length-append, length-replicate, length-take, length-drop}
-use lib.Seq.{take-at, drop-at, take-take, drop-drop, getD-take, getD-drop, drop-append-add}
+use mathlib.Core.List.{List, [], _∷_, _++_, append-assoc, append-nil}
+use lib.ListN.{length, take, drop, replicate, length-append, length-replicate}
+use lib.Seq.{take-at, drop-at, take-take, drop-drop, getD-take, getD-drop}
 use lib.Dec.{T, eqb}
 use Rattle.model.specs.Lists.{below, every, flatMap, part, isZero, within, byte, number, numberBytes}
-use Rattle.model.specs.Blocks.{Header, header, block, blockCount, blockTotal, kinds, rowOf, inAll, recordWidth, perBlock, firstBlock, recordStart, recordAt, kindAt, recordsAt, laidOut, numbered, sealedBlock, sealedImage, checkOf}
+use Rattle.model.specs.Blocks.{Header, header, block, blockCount, blockTotal, kinds, rowOf, inAll, recordWidth, perBlock}
+use Rattle.model.specs.Blocks.{firstBlock, recordStart, recordAt, kindAt, recordsAt, laidOut, numbered, sealedBlock, sealedImage, checkOf}
 use Rattle.model.specs.Refusals.{rightLength, rightChecks}
 use Rattle.model.proofs.Booleans.{and-in, in3, within-in, eq→eqb}
-use Rattle.model.proofs.Lists.{length-below, below-from, getD-below, drop-take, every-in}
+use Rattle.model.proofs.Lists.{length-below, below-from, getD-below, drop-take}
 use Rattle.model.proofs.Parts.{Wide, length-parts, part-at, flatMap-same}
 use Rattle.model.proofs.Blocks.{header-read}
 use Rattle.model.proofs.Sealing.{number-back, length-sealedImage, block-sealed, sealed-checks}
 use Rattle.image.specs.Laid.{Limited}
 use Rattle.image.specs.Kinds.{IsKind}
-use Rattle.image.proofs.Records.{Fitted, kind-fitted, some-fit, record-slot, record-block, record-before}
+use Rattle.image.proofs.Records.{kind-fitted, some-fit, record-block}
 use Rattle.layout.proofs.Placing.{placed}
 use Rattle.built.specs.Built.{Records, headerBytes, recordIn, recordBytes, blockFront, builtBlock, built, Sized}
 use Rattle.built.proofs.Placed.{records-by, records-among, records-fit}
@@ -59,7 +59,8 @@ module _ (h : Header) (records : Records) (few : blockTotal h ≤ 128) (some : 1
 
     pub bytes-long : length bytes ≡ recordWidth h (kindAt h k) * recordsAt h k
     unfolding recordBytes
-    bytes-long = length-parts (recordWidth h (kindAt h k)) (recordIn h records k) (below (recordsAt h k)) records-wide ∙ ap (λ (n : ℕ). recordWidth h (kindAt h k) * n) (length-below (recordsAt h k))
+    bytes-long = length-parts (recordWidth h (kindAt h k)) (recordIn h records k) (below (recordsAt h k)) records-wide
+        ∙ ap (λ (n : ℕ). recordWidth h (kindAt h k) * n) (length-below (recordsAt h k))
 
     front-long : length (blockFront h records k) ≡ 510
     unfolding blockFront
@@ -92,8 +93,7 @@ module _ (h : Header) (records : Records) (few : blockTotal h ≤ 128) (some : 1
 
   plain-right : T (rightLength plain)
   unfolding rightLength
-  plain-right =
-      let e = plain-long in
+  plain-right = let e = plain-long in
       and-in (within 1 65536 (length plain)) (eqb (length plain % 512) 0) (within-in 1 65536 (length plain) (omega arith) (omega arith)) (eq→eqb (length plain % 512) 0 (omega arith))
 
   plain-count : blockCount plain ≡ blockTotal h
@@ -116,7 +116,8 @@ module _ (h : Header) (records : Records) (few : blockTotal h ≤ 128) (some : 1
   unfolding built sealedImage
   built-blocks =
       ap (λ (n : ℕ). flatMap (λ k. sealedBlock k (block plain k)) (below n)) plain-count
-      ∙ flatMap-same (λ k. sealedBlock k (block plain k)) (λ k. sealedBlock k (builtBlock h records k)) (below (blockTotal h)) (λ k m. ap (sealedBlock k) (plain-block k (below-from (blockTotal h) k m)))
+      ∙ flatMap-same (λ k. sealedBlock k (block plain k)) (λ k. sealedBlock k (builtBlock h records k)) (below (blockTotal h))
+      (λ k m. ap (sealedBlock k) (plain-block k (below-from (blockTotal h) k m)))
 
   pub built-count : blockCount image ≡ blockTotal h
   built-count = omega (arith, built-long)
@@ -193,7 +194,8 @@ module _ (h : Header) (records : Records) (few : blockTotal h ≤ 128) (some : 1
   -- test 3, block by block
   pub built-laid : (k : ℕ) → k < blockTotal h → T (laidOut h k (block image k))
   unfolding laidOut
-  built-laid k there = rw (built-block k there) (in3 (eqb (kindAt h k) (kindAt h k)) (eqb (recordsAt h k) (recordsAt h k)) (every isZero (drop (4 + recordWidth h (kindAt h k) * recordsAt h k) (take 510 (sealedFront k ++ check))))
+  built-laid k there = rw (built-block k there) (in3 (eqb (kindAt h k) (kindAt h k)) (eqb (recordsAt h k) (recordsAt h k))
+      (every isZero (drop (4 + recordWidth h (kindAt h k) * recordsAt h k) (take 510 (sealedFront k ++ check))))
       (eq→eqb (kindAt h k) (kindAt h k) refl) (eq→eqb (recordsAt h k) (recordsAt h k) refl)
       (subst (λ (l : List ℕ). T (every isZero l)) (sym unused) (zeros-zero (506 - length (bytes k)))))
     where

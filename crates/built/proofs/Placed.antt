@@ -1,10 +1,10 @@
 -- Where block k stands among the blocks of its kind, and how many records it holds: by the table of kinds alone, whatever widths it says.
-use Prim.Native.Nat.{ℕ, _+_, _*_, _-_, _/_, _%_, _<_, _≤_, min}
+use Prim.Native.Nat.{ℕ, _+_, _*_, _-_, _<_, _≤_, min}
 use native.Mathlib.Nat.{le-refl, mul-le-mul}
 use native.Mathlib.Omega.{arith}
 use native.Mathlib.Decide.{decLt}
-use mathlib.Core.Bool.{Bool, true, false, not, cond}
-use mathlib.Core.Path.{_≡_, refl, sym, ap, _∙_, subst}
+use mathlib.Core.Bool.{Bool, false, not}
+use mathlib.Core.Path.{_≡_, refl, ap, _∙_}
 use mathlib.Core.List.{List, [], _∷_, map, List·Memᴰ, List·Memᴰ·head, List·Memᴰ·tail}
 use lib.Dec.{T, eqb, T-not}
 use borrow.Author.Tests.{lt-ltb, le-ltb, eq-eqb}
@@ -43,7 +43,8 @@ module _ (k : ℕ) where
   located [] n d least most = absurd (omega arith)
   located (r ∷ rs) n d least most = let u = and-out (not (any (sameKind r) rs)) (distinct sameKind rs) d in go (decLt k (n + r .blocks)) (u .0) (located rs (n + r .blocks) (u .1))
     where
-      go : Dec (k < n + r .blocks) → T (not (any (sameKind r) rs)) → (n + r .blocks ≤ k → k < n + r .blocks + blocksIn rs → Among rs (n + r .blocks) (kindFrom k (n + r .blocks) rs)) → Among (r ∷ rs) n (kindFrom k n (r ∷ rs))
+      go : Dec (k < n + r .blocks) → T (not (any (sameKind r) rs)) → (n + r .blocks ≤ k → k < n + r .blocks + blocksIn rs → Among rs (n + r .blocks) (kindFrom k (n + r .blocks) rs))
+          → Among (r ∷ rs) n (kindFrom k n (r ∷ rs))
       go (yes l) none rest = rw (lt-ltb k (n + r .blocks) l, eq-eqb (r .kind) (r .kind) refl) (least, l)
       go (no l) none rest =
           let t = kind-row rs (n + r .blocks) (omega arith) (omega arith) in

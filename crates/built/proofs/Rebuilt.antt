@@ -1,15 +1,16 @@
 -- An image that passes tests 1 to 3 is what its own counts and records build: they are all that it says.
-use Prim.Native.Nat.{ℕ, zero, suc, _+_, _*_, _-_, _/_, _%_, _<_, _≤_}
-use native.Mathlib.Nat.{le-refl, mul-le-mul, mul-suc, mul-add, mul-comm, add-mul-div-left, div-eq-of-lt, mod-eq-of-lt, add-mul-mod-self-left}
+use Prim.Native.Nat.{ℕ, suc, _+_, _*_, _-_, _/_, _%_, _<_, _≤_}
+use native.Mathlib.Nat.{le-refl, mul-le-mul, mul-suc, add-mul-div-left, div-eq-of-lt, mod-eq-of-lt, add-mul-mod-self-left}
 use native.Mathlib.Omega.{arith}
-use mathlib.Core.Bool.{Bool, true, false, _&&_}
-use mathlib.Core.Path.{_≡_, refl, sym, ap, ap₂, _∙_, subst}
+use mathlib.Core.Bool.{_&&_}
+use mathlib.Core.Path.{_≡_, refl, sym, ap, ap₂, _∙_}
 use mathlib.Core.List.{List, [], _∷_, _++_, List·Memᴰ}
-use lib.ListN.{length, getD, take, drop, replicate, take-append-drop, length-take, length-drop}
+use lib.ListN.{length, take, drop, replicate, take-append-drop, length-drop}
 use lib.Seq.{take-all, take-take, drop-drop, getD-take, getD-drop, length-take-le}
 use lib.Dec.{T, eqb, eqb→eq}
 use Rattle.model.specs.Lists.{below, every, flatMap, part, isZero, within, byte, number, numberBytes}
-use Rattle.model.specs.Blocks.{Header, header, block, blockCount, blockNumber, blockCheck, blockKind, recordCount, blockTotal, kinds, rowOf, inAll, recordWidth, perBlock, firstBlock, recordStart, recordAt, kindAt, recordsAt, laidOut, withinLimits, weightedSum, checkOf, sealedBlock, sealedImage}
+use Rattle.model.specs.Blocks.{Header, header, block, blockCount, blockNumber, blockCheck, blockKind, recordCount, blockTotal}
+use Rattle.model.specs.Blocks.{recordWidth, perBlock, firstBlock, recordStart, recordAt, kindAt, recordsAt, laidOut, withinLimits, weightedSum, checkOf, sealedBlock}
 use Rattle.model.specs.Refusals.{rightLength, rightChecks, rightLayout}
 use Rattle.model.proofs.Booleans.{and-out, out3, out4, true-of}
 use Rattle.model.proofs.Lists.{below-has, below-from, drop-take, every-at}
@@ -19,8 +20,8 @@ use Rattle.model.proofs.Sealing.{right-few, right-some, block-whole}
 use Rattle.image.specs.Laid.{Laid}
 use Rattle.image.proofs.Records.{record-length}
 use Rattle.layout.proofs.Laid.{laid}
-use Rattle.built.specs.Built.{Records, recordIn, recordBytes, builtBlock, built, Sized}
-use Rattle.built.proofs.Placed.{records-by, records-least, records-fit, block-among}
+use Rattle.built.specs.Built.{recordIn, recordBytes, builtBlock, built, Sized}
+use Rattle.built.proofs.Placed.{records-least, records-fit, block-among}
 use Rattle.built.proofs.Built.{in-block, bytes-long, sealedFront, block-sealed-is, built-block, built-long}
 
 zeros-are : (l : List ℕ) → T (every isZero l) → l ≡ replicate (length l) 0
@@ -140,11 +141,13 @@ module _ (image : List ℕ) (small : (i : ℕ) → byte image i < 256) (one : T 
 
     block-right : T (eqb (blockNumber b) k && eqb (blockCheck b) (checkOf b))
     unfolding rightChecks
-    block-right = every-at (λ k. eqb (blockNumber (block image k)) k && eqb (blockCheck (block image k)) (checkOf (block image k))) (below (blockCount image)) (below-has (blockCount image) k counted) two
+    block-right = every-at (λ k. eqb (blockNumber (block image k)) k && eqb (blockCheck (block image k)) (checkOf (block image k))) (below (blockCount image))
+        (below-has (blockCount image) k counted) two
 
     block-laid : T (eqb (blockKind b) (kindAt h k)) × T (eqb (recordCount b) (recordsAt h k)) × T (every isZero (drop (4 + w * n) (take 510 b)))
     unfolding laidOut
-    block-laid = out3 (eqb (blockKind b) (kindAt h k)) (eqb (recordCount b) (recordsAt h k)) (every isZero (drop (4 + w * n) (take 510 b))) (every-at (λ k. laidOut h k (block image k)) (below (blockCount image)) (below-has (blockCount image) k counted) (parts .3))
+    block-laid = out3 (eqb (blockKind b) (kindAt h k)) (eqb (recordCount b) (recordsAt h k)) (every isZero (drop (4 + w * n) (take 510 b)))
+        (every-at (λ k. laidOut h k (block image k)) (below (blockCount image)) (below-has (blockCount image) k counted) (parts .3))
 
     small-here : (i : ℕ) → i < 512 → byte b i < 256
     small-here i l = rw (block-byte image k i l) (small (512 * k + i))
@@ -160,7 +163,8 @@ module _ (image : List ℕ) (small : (i : ℕ) → byte image i < 256) (one : T 
     block-same =
         let u = and-out (eqb (blockNumber b) k) (eqb (blockCheck b) (checkOf b)) block-right in
         sym (take-append-drop 510 b)
-        ∙ ap₂ (λ (x y : List ℕ). x ++ y) front-same (check-is b (block-whole image one k counted) k kind n (w * n) (omega (arith, few)) (records-fit h k) small-here (eqb→eq (blockCheck b) (checkOf b) (u .1)) ∙ ap (λ (l : List ℕ). numberBytes (checkOf l)) front-same)
+        ∙ ap₂ (λ (x y : List ℕ). x ++ y) front-same (check-is b (block-whole image one k counted) k kind n (w * n) (omega (arith, few)) (records-fit h k) small-here
+        (eqb→eq (blockCheck b) (checkOf b) (u .1)) ∙ ap (λ (l : List ℕ). numberBytes (checkOf l)) front-same)
         ∙ sym (built-block h (recordAt image) few some sized k there)
 
     -- block by block: sealed, and from its records

@@ -1,39 +1,34 @@
 -- The converted image: it is accepted and of the other form, its rows are those of the image, and from form 1 to form 2 and back gives the same bytes.
-use Prim.Native.Nat.{ℕ, zero, suc, _+_, _*_, _-_, _<_, _≤_}
+use Prim.Native.Nat.{ℕ, _+_, _-_, _<_, _≤_}
 use native.Mathlib.Omega.{arith}
 use native.Mathlib.Decide.{decLt, ℕ-discrete}
 use mathlib.Core.Bool.{Bool, true, false, _&&_, _||_, not, cond}
 use mathlib.Core.Path.{_≡_, refl, sym, ap, ap₂, _∙_, subst}
 use mathlib.Core.Logic.{_⊎_, inl, inr}
-use mathlib.Core.List.{List, [], _∷_, _++_, map}
+use mathlib.Core.List.{List, [], _∷_, map}
 use lib.ListN.{length, take, drop}
-use lib.Dec.{T, leb, eqb, eqb→eq, leb→le}
+use lib.Dec.{T, leb, eqb, leb→le}
 use borrow.Author.Tests.{eqb-true, eq-eqb, ne-eqb}
-use Rattle.model.specs.Lists.{below, every, any, sum, flatMap, within, isZero, byte}
+use Rattle.model.specs.Lists.{below, every, sum, within, isZero}
 use Rattle.model.specs.Blocks.{Header, Kind, header, kinds, rowOf, entryWidth, inAll, recordWidth, recordAt, blockCount, blockTotal, block, laidOut, withinLimits}
 use Rattle.model.specs.Lexicon.{entryCount, entry, formLength, formOf, mayStop, goesTo, rightWays, wayCount, isEntryOf, isEntry}
-use Rattle.model.specs.GrammarOf.{grammarOf}
 use Rattle.model.specs.Query.{Request, queryOf}
-use Rattle.model.specs.Tree.{readings}
 use Rattle.model.specs.Calls.{allReadings}
-use Rattle.model.specs.Refusals.{Verdict, accepted, unless, firstFailing, rightLength, rightChecks, rightLayout, rightLetters, rightPairs, rightTables, rightColumns, rightEntries, rightForms, formatTests, imageTests, imageVerdict}
-use Rattle.model.proofs.Booleans.{and-out, and-in, in4, out4, true-of, of-true, within-in, eq→eqb, not-out}
+use Rattle.model.specs.Refusals.{accepted, rightLength, rightChecks, rightLayout, rightLetters}
+use Rattle.model.specs.Refusals.{rightPairs, rightTables, rightColumns, rightEntries, rightForms, formatTests, imageTests, imageVerdict}
+use Rattle.model.proofs.Booleans.{and-out, and-in, in4, out4, true-of, of-true, within-in, eq→eqb}
 use Rattle.model.proofs.Lists.{below-has, below-from, every-at, every-in}
-use Rattle.model.proofs.Parts.{flatMap-same}
 use Rattle.model.proofs.Tests.{passed}
-use Rattle.image.specs.Laid.{Counted, Limited, Laid}
+use Rattle.image.specs.Laid.{Limited, Laid}
 use Rattle.image.specs.Kinds.{IsKind}
 use Rattle.image.proofs.Records.{record-length, counted}
 use Rattle.layout.proofs.Laid.{limits-kept, laid}
 use Rattle.alike.proofs.Alike.{alike-readings}
-use Rattle.built.specs.Built.{headerBytes, recordIn, recordBytes, blockFront, builtBlock, built, Sized}
-use Rattle.built.proofs.Placed.{records-among}
+use Rattle.built.specs.Built.{headerBytes, Sized}
 use Rattle.built.proofs.Built.{built-count, built-length, built-checks, built-laid, built-record, built-header}
-use Rattle.built.proofs.Rebuilt.{rebuilt}
-use Rattle.conversion.specs.Conversion.{toMany, toOne, otherEntry, otherHeader, otherRecords, convertedImage, oneWays}
-use Rattle.conversion.proofs.Entries.{same-form, same-entry, many-front, many-long, many-stop, many-goes, many-right, there-and-back, one-front, one-long, one-stop, one-goes, one-right}
+use Rattle.conversion.specs.Conversion.{otherEntry, otherHeader, otherRecords, convertedImage, oneWays}
+use Rattle.conversion.proofs.Entries.{same-form, same-entry, many-front, many-long, many-stop, many-goes, many-right, one-front, one-long, one-stop, one-goes, one-right}
 use Rattle.conversion.proofs.Counterpart.{Counterpart, counterpart-alike, letters-test, pairs-test, tables-test, columns-test, forms-test, sum-same}
-use Rattle.conversion.proofs.Head.{header-record}
 
 -- every test of the image check, passed
 pub record Passing (image : List ℕ) : Type 0 where
@@ -59,7 +54,17 @@ passing-of image e =
     let h = passed (rightColumns image) 7 _ (g .1) in
     let i = passed (rightEntries image) 8 _ (h .1) in
     let j = passed (rightForms image) 14 _ (i .1) in
-    record { length-right = a .0; checks-right = b .0; layout-right = c .0; letters-right = d .0; pairs-right = f .0; tables-right = g .0; columns-right = h .0; entries-right = i .0; forms-right = j .0 }
+    record {
+      length-right = a .0;
+      checks-right = b .0;
+      layout-right = c .0;
+      letters-right = d .0;
+      pairs-right = f .0;
+      tables-right = g .0;
+      columns-right = h .0;
+      entries-right = i .0;
+      forms-right = j .0;
+    }
 
 pub passing-to : (image : List ℕ) → Passing image → imageVerdict image ≡ accepted
 unfolding imageVerdict imageTests formatTests
@@ -82,7 +87,13 @@ kept form lexicons (inl is) few e =
     (λ long right one. record { front = many-front e long; long = many-long e long; stop = many-stop e long; goes = many-goes e long; right = many-right e long lexicons few right })
 kept form lexicons (inr is) few e =
     subst (λ (f : ℕ). Keeps lexicons f e) (sym is)
-    (λ long right one. record { front = one-front e long; long = one-long e long; stop = one-stop e long lexicons right (one refl); goes = one-goes e long lexicons right (one refl); right = one-right e long lexicons right (one refl) })
+    (λ long right one. record {
+      front = one-front e long;
+      long = one-long e long;
+      stop = one-stop e long lexicons right (one refl);
+      goes = one-goes e long lexicons right (one refl);
+      right = one-right e long lexicons right (one refl);
+    })
 
 -- the tables of kinds of the two forms: other blocks and another width for the entries, and nothing else
 abbrev SameRows : List Kind → List Kind → Type 0
@@ -90,6 +101,9 @@ SameRows [] [] = Unit {0}
 SameRows [] (s ∷ ss) = ⊥
 SameRows (r ∷ rs) [] = ⊥
 SameRows (r ∷ rs) (s ∷ ss) = (r .kind ≡ s .kind) × ((r .inAll ≡ s .inAll) × (((r .kind ≡ 6 → ⊥) → r .width ≡ s .width) × SameRows rs ss))
+
+row-stays : {kind all wide : ℕ} {N X : Type 0} → X → (kind ≡ kind) × ((all ≡ all) × ((N → wide ≡ wide) × X))
+row-stays t = (refl, (refl, (λ n. refl, t)))
 
 rows-all : (rs ss : List Kind) → SameRows rs ss → (kind : ℕ) → rowOf kind rs .inAll ≡ rowOf kind ss .inAll
 rows-all [] [] t kind = refl
@@ -122,7 +136,7 @@ rows-none kind (r ∷ rs) t = ap (λ (b : Bool). cond b r (rowOf kind rs) .inAll
 module _ (h : Header) where
   rows-other : SameRows (kinds h) (kinds (otherHeader h))
   unfolding kinds otherHeader
-  rows-other = (refl, (refl, (λ n. refl, (refl, (refl, (λ n. refl, (refl, (refl, (λ n. refl, (refl, (refl, (λ n. refl, (refl, (refl, (λ n. refl, (refl, (refl, (λ n. refl, (refl, (refl, (λ n. absurd (n refl), tt)))))))))))))))))))))
+  rows-other = row-stays (row-stays (row-stays (row-stays (row-stays (row-stays (refl, (refl, (λ n. absurd (n refl), tt))))))))
 
   pub all-other : (kind : ℕ) → inAll h kind ≡ inAll (otherHeader h) kind
   all-other kind = rows-all (kinds h) (kinds (otherHeader h)) rows-other kind
@@ -134,8 +148,13 @@ module _ (h : Header) where
   none-of : (kind : ℕ) → ((n : ℕ) → 1 ≤ n → n ≤ 7 → n ≡ kind → ⊥) → inAll h kind ≡ 0
   unfolding kinds
   none-of kind f =
-      rows-none kind (kinds h)
-      (f 1 (omega arith) (omega arith), (f 2 (omega arith) (omega arith), (f 3 (omega arith) (omega arith), (f 7 (omega arith) (omega arith), (f 4 (omega arith) (omega arith), (f 5 (omega arith) (omega arith), (f 6 (omega arith) (omega arith), tt)))))))
+      rows-none kind (kinds h) (
+        f 1 (omega arith) (omega arith),
+        (
+          f 2 (omega arith) (omega arith),
+          (f 3 (omega arith) (omega arith), (f 7 (omega arith) (omega arith), (f 4 (omega arith) (omega arith), (f 5 (omega arith) (omega arith), (f 6 (omega arith) (omega arith), tt))))),
+        ),
+      )
 
   pub known : (kind i : ℕ) → i < inAll h kind → IsKind kind
   known kind i l = go (decLt kind 8) (decLt 0 kind)
@@ -189,17 +208,26 @@ module _ (image : List ℕ) (p : Passing image) (fifteen : T (oneWays image)) (s
   unfolding blockTotal kinds
   some = omega arith
 
+  -- the two halves of test 8
+  abbrev isEntryAt : ℕ → Bool
+  isEntryAt e = isEntry (entry image e) (h .form) (h .letters) (h .lexicons)
+
+  counts-and-entries : T (eqb (sum (map (entryCount image) (below (h .lexicons)))) (h .entries)) × T (every isEntryAt (below (h .entries)))
+  unfolding rightEntries
+  counts-and-entries =
+      and-out (eqb (sum (map (entryCount image) (below (h .lexicons)))) (h .entries)) (every isEntryAt (below (h .entries))) (of-true (rightEntries image) (p .entries-right))
+
   module _ (e : ℕ) (there : e < h .entries) where
     entry-right : T (isEntry (entry image e) (h .form) (h .letters) (h .lexicons))
     unfolding rightEntries
-    entry-right =
-        every-at (λ e. isEntry (entry image e) (h .form) (h .letters) (h .lexicons)) (below (h .entries)) (below-has (h .entries) e there)
-        ((and-out (eqb (sum (map (entryCount image) (below (h .lexicons)))) (h .entries)) (every (λ e. isEntry (entry image e) (h .form) (h .letters) (h .lexicons)) (below (h .entries))) (of-true (rightEntries image) (p .entries-right))) .1)
+    entry-right = every-at (λ e. isEntry (entry image e) (h .form) (h .letters) (h .lexicons)) (below (h .entries)) (below-has (h .entries) e there)
+        (counts-and-entries .1)
 
     pub entry-parts : (formLength (entry image e) ≤ 12) × T (rightWays (entry image e) (h .form) (h .lexicons))
     unfolding isEntry isEntryOf
     entry-parts =
-        let u = out4 (leb (formLength (entry image e)) 12) (every (within 2 (h .letters)) (formOf (entry image e))) (every isZero (drop (1 + formLength (entry image e)) (take 13 (entry image e)))) (rightWays (entry image e) (h .form) (h .lexicons)) entry-right in
+        let u = out4 (leb (formLength (entry image e)) 12) (every (within 2 (h .letters)) (formOf (entry image e)))
+        (every isZero (drop (1 + formLength (entry image e)) (take 13 (entry image e)))) (rightWays (entry image e) (h .form) (h .lexicons)) entry-right in
         (leb→le (formLength (entry image e)) 12 (u .0), u .3)
 
     pub entry-long : length (entry image e) ≡ entryWidth (h .form)
@@ -210,7 +238,8 @@ module _ (image : List ℕ) (p : Passing image) (fifteen : T (oneWays image)) (s
     unfolding oneWays
     one-way two =
         leb→le (wayCount (entry image e) 2) 1
-        (every-at (λ e. leb (wayCount (entry image e) 2) 1) (below (h .entries)) (below-has (h .entries) e there) (subst (λ (b : Bool). T (not b || every (λ e. leb (wayCount (entry image e) 2) 1) (below (h .entries)))) (eq-eqb (h .form) 2 two) fifteen))
+        (every-at (λ e. leb (wayCount (entry image e) 2) 1) (below (h .entries)) (below-has (h .entries) e there)
+        (subst (λ (b : Bool). T (not b || every (λ e. leb (wayCount (entry image e) 2) 1) (below (h .entries)))) (eq-eqb (h .form) 2 two) fifteen))
 
     pub stays : Kept (h .form) (h .lexicons) (entry image e)
     stays = kept (h .form) (h .lexicons) by-form (is-laid .limits .lexicons-most) (entry image e) entry-long (entry-parts .1) one-way
@@ -315,7 +344,8 @@ module _ (image : List ℕ) (p : Passing image) (fifteen : T (oneWays image)) (s
   layout-test : T (rightLayout other)
   unfolding rightLayout
   layout-test =
-      subst (λ (g : Header). T (within 1 2 (g .form) && withinLimits g && eqb (blockCount other) (blockTotal g) && every (λ k. laidOut g k (block other k)) (below (blockCount other)))) (sym header-is)
+      subst (λ (g : Header). T (within 1 2 (g .form) && withinLimits g && eqb (blockCount other) (blockTotal g) && every (λ k. laidOut g k (block other k)) (below (blockCount other))))
+      (sym header-is)
       (in4 (within 1 2 (o .form)) (withinLimits o) (eqb (blockCount other) (blockTotal o)) (every (λ k. laidOut o k (block other k)) (below (blockCount other)))
       (within-in 1 2 (o .form) (limits .form-least) (limits .form-most))
       (of-true (withinLimits o) (limits-kept o (counted o limits)))
@@ -333,9 +363,10 @@ module _ (image : List ℕ) (p : Passing image) (fifteen : T (oneWays image)) (s
   entries-test : T (rightEntries other)
   unfolding rightEntries
   entries-test =
-      and-in (eqb (sum (map (entryCount other) (below (header other .lexicons)))) (header other .entries)) (every (λ e. isEntry (entry other e) (header other .form) (header other .letters) (header other .lexicons)) (below (header other .entries)))
+      and-in (eqb (sum (map (entryCount other) (below (header other .lexicons)))) (header other .entries))
+      (every (λ e. isEntry (entry other e) (header other .form) (header other .letters) (header other .lexicons)) (below (header other .entries)))
       (subst T (ap₂ (λ (a b : ℕ). eqb a b) (sum-same counterpart) (counterpart .entries))
-      ((and-out (eqb (sum (map (entryCount image) (below (h .lexicons)))) (h .entries)) (every (λ e. isEntry (entry image e) (h .form) (h .letters) (h .lexicons)) (below (h .entries))) (of-true (rightEntries image) (p .entries-right))) .0))
+      (counts-and-entries .0))
       (every-in (λ e. isEntry (entry other e) (header other .form) (header other .letters) (header other .lexicons)) (below (header other .entries))
       (λ e m. entry-test e (subst (λ (n : ℕ). e < n) (sym (counterpart .entries)) (below-from (header other .entries) e m))))
 

@@ -2,13 +2,14 @@
 use Prim.Native.Nat.{ℕ, _+_, _<_, _≤_}
 use native.Mathlib.Omega.{arith}
 use mathlib.Core.Bool.{Bool, _&&_, _||_}
-use mathlib.Core.Path.{_≡_, refl, sym, ap, ap₂, _∙_, subst}
+use mathlib.Core.Path.{_≡_, refl, ap, ap₂, _∙_}
 use mathlib.Core.List.{List, [], _∷_, _++_, map, List·Memᴰ, List·Memᴰ·head, List·Memᴰ·tail}
 use lib.ListN.{getD}
-use lib.Dec.{T, leb, ltb, eqb}
-use Rattle.model.specs.Lists.{below, every, any, distinct, sum, within, byte, number}
-use Rattle.model.specs.Blocks.{Header, header, kinds, inAll, recordAt}
-use Rattle.model.specs.RuleTables.{Pair, pair, pairs, letterSets, codePoints, pairsAndBoundary, boundaryPair, table, columnCount, columnFor, columnsOf, nextState, isFinal, isCodePoint, isPair, samePair, isSet, isTable}
+use lib.Dec.{leb, ltb, eqb}
+use Rattle.model.specs.Lists.{below, every, any, distinct, sum, byte, number}
+use Rattle.model.specs.Blocks.{header, kinds, inAll, recordAt}
+use Rattle.model.specs.RuleTables.{Pair, pair, pairs, letterSets, codePoints, pairsAndBoundary, boundaryPair, table, columnCount}
+use Rattle.model.specs.RuleTables.{columnFor, columnsOf, nextState, isFinal, isCodePoint, isPair, samePair, isSet, isTable}
 use Rattle.model.specs.Lexicon.{entryCount, firstEntry, inLexicon, entry, formOf, mayStop, goesTo}
 use Rattle.model.specs.GrammarOf.{grammarOf}
 use Rattle.model.specs.Refusals.{rightLetters, rightPairs, rightTables, rightColumns, isLexical, rightForms}
@@ -43,7 +44,8 @@ any-same f h (x ∷ xs) e = ap₂ (λ (a b : Bool). a || b) (e x (List·Memᴰ·
 module _ {image other : List ℕ} (c : Counterpart image other) where
   code-points : codePoints image ≡ codePoints other
   unfolding codePoints kinds
-  code-points = mapped (λ i. number (recordAt image 2 i) 0) (λ i. number (recordAt other 2 i) 0) (header image .letters) (header other .letters) (c .letters) (λ i l. ap (λ (r : List ℕ). number r 0) (c .records 2 i (λ e. omega arith) (λ e. omega arith) l))
+  code-points = mapped (λ i. number (recordAt image 2 i) 0) (λ i. number (recordAt other 2 i) 0) (header image .letters) (header other .letters) (c .letters)
+      (λ i l. ap (λ (r : List ℕ). number r 0) (c .records 2 i (λ e. omega arith) (λ e. omega arith) l))
 
   pairs-same : pairs image ≡ pairs other
   unfolding pairs kinds
@@ -88,7 +90,8 @@ module _ {image other : List ℕ} (c : Counterpart image other) where
   follows-same : (e f : ℕ) → e < header image .entries → grammarOf image .follows e f ≡ grammarOf other .follows e f
   unfolding grammarOf
   follows-same e f l =
-      any-same (λ x. goesTo (entry image e) (header image .form) x && inLexicon image x f) (λ x. goesTo (entry other e) (header other .form) x && inLexicon other x f) (below (header image .lexicons))
+      any-same (λ x. goesTo (entry image e) (header image .form) x && inLexicon image x f) (λ x. goesTo (entry other e) (header other .form) x && inLexicon other x f)
+      (below (header image .lexicons))
       (λ x m. let k = below-from (header image .lexicons) x m in ap₂ (λ (a b : Bool). a && b) (c .goes e l x (omega (arith, c .lexicons-most))) (lexicon-same x k f))
       ∙ ap (λ (n : ℕ). any (λ x. goesTo (entry other e) (header other .form) x && inLexicon other x f) (below n)) (c .lexicons)
 
@@ -124,13 +127,15 @@ module _ {image other : List ℕ} (c : Counterpart image other) where
   tables-test =
       ap₂ (λ (a b : Bool). a && b)
       (ap₂ (λ (n : ℕ) (ss : List (List ℕ)). every (isSet n) ss) (c .letters) sets-same)
-      (tested (λ r. isTable (table image r) (header image .letters) (header image .sets)) (λ r. isTable (table other r) (header other .letters) (header other .sets)) (header image .rules) (header other .rules) (c .rules)
+      (tested (λ r. isTable (table image r) (header image .letters) (header image .sets)) (λ r. isTable (table other r) (header other .letters) (header other .sets)) (header image .rules)
+      (header other .rules) (c .rules)
       (λ r l. let t = table-same r l in λ i. isTable (t i) (c .letters i) (c .sets i)))
 
   pub columns-test : rightColumns image ≡ rightColumns other
   unfolding rightColumns
   columns-test =
-      tested (λ r. every (λ n. ltb n (columnCount (table image r))) (columnsOf image r)) (λ r. every (λ n. ltb n (columnCount (table other r))) (columnsOf other r)) (header image .rules) (header other .rules) (c .rules)
+      tested (λ r. every (λ n. ltb n (columnCount (table image r))) (columnsOf image r)) (λ r. every (λ n. ltb n (columnCount (table other r))) (columnsOf other r)) (header image .rules)
+      (header other .rules) (c .rules)
       (λ r l. ap₂ (λ (t ns : List ℕ). every (λ n. ltb n (columnCount t)) ns) (table-same r l) (columns-same r l))
 
   pub sum-same : sum (map (entryCount image) (below (header image .lexicons))) ≡ sum (map (entryCount other) (below (header other .lexicons)))

@@ -7,10 +7,10 @@ use mathlib.Core.Path.{_≡_, refl, sym, ap, _∙_, subst}
 use mathlib.Core.List.{List, [], _∷_, _++_}
 use lib.Dec.{T, eqb}
 use borrow.Author.Tests.{eq-eqb, ne-eqb}
-use Rattle.model.specs.Lists.{below, any, count, first, byte, bit}
+use Rattle.model.specs.Lists.{below, any, count, first, bit}
 use Rattle.model.specs.RuleTables.{inSet}
 use Rattle.model.proofs.Booleans.{true-of, of-true, false-of}
-use Rattle.model.proofs.Lists.{getD-map-below, below-has, below-from}
+use Rattle.model.proofs.Lists.{getD-map-below, below-from}
 use mathlib.Core.List.{List·Memᴰ, List·Memᴰ·head, List·Memᴰ·tail}
 use Rattle.conversion.specs.Conversion.{digitsFrom, wayBytes}
 
@@ -76,7 +76,8 @@ module _ (f : ℕ → Bool) where
   first-passes [] t = absurd t
   first-passes (x ∷ xs) t = go (f x) refl t (first-passes xs)
     where
-      go : (b : Bool) → f x ≡ b → T (b || any f xs) → (T (any f xs) → T (f (first f xs 0)) × List·Memᴰ (first f xs 0) xs) → T (f (cond b x (first f xs 0))) × List·Memᴰ (cond b x (first f xs 0)) (x ∷ xs)
+      go : (b : Bool) → f x ≡ b → T (b || any f xs) → (T (any f xs) → T (f (first f xs 0)) × List·Memᴰ (first f xs 0) xs)
+          → T (f (cond b x (first f xs 0))) × List·Memᴰ (cond b x (first f xs 0)) (x ∷ xs)
       go true e t r = (of-true (f x) e, List·Memᴰ·head refl)
       go false e t r = let u = r t in (u .0, List·Memᴰ·tail (u .1))
 

@@ -1,17 +1,14 @@
 -- Blocks of the converted image: those before the entries are the image's own, but for the form in the first one; those of entries are made of records.
 use Prim.Native.Nat.{ℕ, zero, suc, _+_, _*_, _-_, _/_, _%_, _<_, _≤_, min}
 use native.Mathlib.Omega.{arith}
-use native.Mathlib.Decide.{ℕ-discrete}
-use mathlib.Core.Bool.{Bool, true, false, _&&_}
 use mathlib.Core.Path.{_≡_, refl, sym, ap, ap₂, _∙_, subst}
-use mathlib.Core.List.{List, [], _∷_, _++_, append-nil, append-assoc, List·Memᴰ}
-use lib.ListN.{length, take, drop, set, replicate, length-append, length-replicate, replicate-append-replicate}
+use mathlib.Core.List.{List, [], _∷_, _++_, append-assoc}
+use lib.ListN.{length, take, drop, set, replicate, replicate-append-replicate}
 use lib.Seq.{take-at, take-set-lt, drop-set-add, drop-drop}
 use lib.Dec.{T}
 use Rattle.model.specs.Lists.{below, every, flatMap, within, byte, numberBytes}
 use Rattle.model.specs.Blocks.{Header, Kind, header, kinds, rowOf, inAll, recordWidth, perBlock, firstBlock, recordAt, blockTotal, block, kindAt, recordsAt, checkOf, numbered, sealedBlock}
 use Rattle.model.specs.Lexicon.{entry}
-use Rattle.model.specs.Refusals.{accepted, imageVerdict}
 use Rattle.model.proofs.Booleans.{of-true, within-out}
 use Rattle.model.proofs.Lists.{below-from, every-at}
 use Rattle.model.proofs.Parts.{flatMap-same, Wide}
@@ -131,7 +128,8 @@ module _ (h : Header) (r s : Records) (k : ℕ) (there : k < blockTotal h) (befo
   unfolding builtBlock blockFront recordBytes
   same-block e =
       let bytes : flatMap (recordIn h r k) (below (recordsAt h k)) ≡ flatMap (recordIn (otherHeader h) s k) (below (recordsAt (otherHeader h) k)) =
-      flatMap-same (recordIn h r k) (recordIn (otherHeader h) s k) (below (recordsAt h k)) (λ i m. same-in e i (below-from (recordsAt h k) i m)) ∙ ap (λ (n : ℕ). flatMap (recordIn (otherHeader h) s k) (below n)) (sym same-count) in
+      flatMap-same (recordIn h r k) (recordIn (otherHeader h) s k) (below (recordsAt h k)) (λ i m. same-in e i (below-from (recordsAt h k) i m))
+      ∙ ap (λ (n : ℕ). flatMap (recordIn (otherHeader h) s k) (below n)) (sym same-count) in
       λ i. (0 ∷ 0 ∷ sym same-kind i ∷ sym same-count i ∷ (bytes i ++ replicate (506 - length (bytes i)) 0)) ++ (0 ∷ 0 ∷ [])
 
 -- the block of the header
@@ -139,7 +137,14 @@ head-block : (h : Header) (r : Records) → r 1 0 ≡ headerBytes h → builtBlo
 unfolding builtBlock blockFront recordBytes recordIn kindAt recordsAt kinds headerBytes
 head-block h r e = ap (λ (b : List ℕ). (0 ∷ 0 ∷ 1 ∷ 1 ∷ ((b ++ []) ++ replicate (506 - length (b ++ [])) 0)) ++ (0 ∷ 0 ∷ [])) e
 
-head-changed : (h : Header) → set (set (inner ((0 ∷ 0 ∷ 1 ∷ 1 ∷ (headerBytes h ++ replicate 492 0)) ++ (0 ∷ 0 ∷ []))) 2 ((otherHeader h) .form % 256)) 3 ((otherHeader h) .form / 256 % 256) ≡ inner ((0 ∷ 0 ∷ 1 ∷ 1 ∷ (headerBytes (otherHeader h) ++ replicate 492 0)) ++ (0 ∷ 0 ∷ []))
+-- the first block, and its form written over
+abbrev headBlock : Header → List ℕ
+headBlock h = (0 ∷ 0 ∷ 1 ∷ 1 ∷ (headerBytes h ++ replicate 492 0)) ++ (0 ∷ 0 ∷ [])
+
+abbrev withForm : ℕ → List ℕ → List ℕ
+withForm form l = set (set l 2 (form % 256)) 3 (form / 256 % 256)
+
+head-changed : (h : Header) → withForm (otherHeader h .form) (inner (headBlock h)) ≡ inner (headBlock (otherHeader h))
 unfolding inner headerBytes otherHeader
 head-changed h = refl
 
@@ -165,7 +170,10 @@ module _ (image : List ℕ) (p : Passing image) (fifteen : T (oneWays image)) (s
   pub same-later : (k : ℕ) → 1 ≤ k → k < firstBlock hh 6 → sealedBlock k (block image k) ≡ sealedBlock k (builtBlock oo rr k)
   same-later k some before =
       let there : k < blockTotal hh = omega (arith, first-total hh) in
-      let e = same-block hh (recordAt image) rr k there before (λ i l. sym (one.record-rest image p fifteen sixteen (kindAt hh k) (perBlock hh (kindAt hh k) * (k - firstBlock hh (kindAt hh k)) + i) (kind-later k some there) (kind-six hh (recordAt image) rr k there before))) in
+      let kind = kindAt hh k in
+      let six = kind-six hh (recordAt image) rr k there before in
+      let at : ℕ → ℕ = λ i. perBlock hh kind * (k - firstBlock hh kind) + i in
+      let e = same-block hh (recordAt image) rr k there before (λ i l. sym (one.record-rest image p fifteen sixteen kind (at i) (kind-later k some there) six)) in
       sealed-same k (block image k) (builtBlock oo rr k)
       (ap inner (was k there ∙ ap (sealedBlock k) e) ∙ inner-sealed k (builtBlock oo rr k) (block-long oo rr sixteen (one.some image p fifteen sixteen) (one.sized image p fifteen sixteen) k))
 
@@ -174,7 +182,7 @@ module _ (image : List ℕ) (p : Passing image) (fifteen : T (oneWays image)) (s
   unfolding kinds blockTotal
   first-there = omega arith
 
-  head-long : (g : Header) → length ((0 ∷ 0 ∷ 1 ∷ 1 ∷ (headerBytes g ++ replicate 492 0)) ++ (0 ∷ 0 ∷ [])) ≡ 512
+  head-long : (g : Header) → length (headBlock g) ≡ 512
   unfolding headerBytes
   head-long g = refl
 
@@ -185,12 +193,13 @@ module _ (image : List ℕ) (p : Passing image) (fifteen : T (oneWays image)) (s
       let there = first-there in
       sealed-same 0 (set (set (block image 0) 4 (oo .form % 256)) 5 (oo .form / 256 % 256)) (builtBlock oo rr 0)
       (inner-set (block image 0) (oo .form % 256) (oo .form / 256 % 256)
-      ∙ ap (λ (l : List ℕ). set (set l 2 (oo .form % 256)) 3 (oo .form / 256 % 256)) (ap inner (was 0 there ∙ ap (sealedBlock 0) old) ∙ inner-sealed 0 ((0 ∷ 0 ∷ 1 ∷ 1 ∷ (headerBytes hh ++ replicate 492 0)) ++ (0 ∷ 0 ∷ [])) (head-long hh))
+      ∙ ap (withForm (oo .form)) (ap inner (was 0 there ∙ ap (sealedBlock 0) old) ∙ inner-sealed 0 (headBlock hh) (head-long hh))
       ∙ head-changed hh
       ∙ ap inner (sym new))
 
 -- a block of entries, record by record: as the code leaves it
-module _ (o : Header) (r : Records) (few : blockTotal o ≤ 128) (some : 1 ≤ blockTotal o) (sized : (kind i : ℕ) → i < inAll o kind → length (r kind i) ≡ recordWidth o kind) (k : ℕ) (six : kindAt o k ≡ 6) where
+module _ (o : Header) (r : Records) (few : blockTotal o ≤ 128) (some : 1 ≤ blockTotal o) (sized : (kind i : ℕ) → i < inAll o kind → length (r kind i) ≡ recordWidth o kind) (k : ℕ)
+    (six : kindAt o k ≡ 6) where
   pub entries-block : partsTo (0 ∷ 0 ∷ 6 ∷ recordsAt o k ∷ []) (recordIn o r k) (recordWidth o 6) (0 ∷ 0 ∷ 6 ∷ recordsAt o k ∷ zeros 508) (recordsAt o k) ≡ builtBlock o r k
   unfolding partsTo builtBlock blockFront recordBytes
   entries-block =
@@ -295,7 +304,8 @@ module _ {image : List ℕ} {h o : Header} (v : Converting image h o) where
     few-here = subst (λ (x : ℕ). recordWidth o x * recordsAt o k ≤ 506) six (records-fit o k)
 
     pub entry-number : (i : ℕ) → i < recordsAt o k → perBlock o 6 * (k - firstBlock o 6) + i < h .entries
-    entry-number i l = subst (λ (n : ℕ). perBlock o 6 * (k - firstBlock o 6) + i < n) all-entries (subst (λ (x : ℕ). perBlock o x * (k - firstBlock o x) + i < inAll o x) six (records-among o k i l))
+    entry-number i l = subst (λ (n : ℕ). perBlock o 6 * (k - firstBlock o 6) + i < n) all-entries
+        (subst (λ (x : ℕ). perBlock o x * (k - firstBlock o x) + i < inAll o x) six (records-among o k i l))
 
     pub record-put : (i : ℕ) → recordIn o (otherRecords image) k i ≡ otherEntry (h .form) (entry image (perBlock o 6 * (k - firstBlock o 6) + i))
     unfolding recordIn
@@ -310,7 +320,8 @@ module _ {image : List ℕ} {h o : Header} (v : Converting image h o) where
         let b = below-from n i m in
         o-sized (kindAt o k) (perBlock o (kindAt o k) * (k - firstBlock o (kindAt o k)) + i) (records-among o k i (omega arith)) ∙ ap (recordWidth o) six
 
-    pub block-made : partsTo (0 ∷ 0 ∷ 6 ∷ recordsAt o k ∷ []) (recordIn o (otherRecords image) k) (recordWidth o 6) (0 ∷ 0 ∷ 6 ∷ recordsAt o k ∷ zeros 508) (recordsAt o k) ≡ builtBlock o (otherRecords image) k
+    pub block-made : partsTo (0 ∷ 0 ∷ 6 ∷ recordsAt o k ∷ []) (recordIn o (otherRecords image) k) (recordWidth o 6) (0 ∷ 0 ∷ 6 ∷ recordsAt o k ∷ zeros 508) (recordsAt o k)
+        ≡ builtBlock o (otherRecords image) k
     block-made = entries-block o (otherRecords image) (v .few) o-some o-sized k six
 
   pub image-made : flatMap (λ k. sealedBlock k (builtBlock o (otherRecords image) k)) (below (blockTotal o)) ≡ convertedImage image

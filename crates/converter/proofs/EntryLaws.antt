@@ -3,9 +3,9 @@ use Prim.Native.Nat.{ℕ, zero, suc, _+_, _*_, _-_, _/_, _%_, _^_, _<_, _≤_, m
 use native.Mathlib.Nat.{zero-add, suc-add, add-suc, add-zero, pow-succ'}
 use native.Mathlib.Omega.{arith}
 use native.Mathlib.Decide.{decLe, decLt}
-use mathlib.Core.Bool.{Bool, true, false, _||_, not, cond}
+use mathlib.Core.Bool.{Bool, false, _||_, not, cond}
 use mathlib.Core.Path.{_≡_, refl, sym, ap, ap₂, _∙_, subst}
-use mathlib.Core.List.{List, [], _∷_, _++_, map, append-assoc, append-nil, List·Memᴰ, List·Memᴰ·head, List·Memᴰ·tail}
+use mathlib.Core.List.{List, [], _∷_, _++_, append-assoc, append-nil, List·Memᴰ, List·Memᴰ·head, List·Memᴰ·tail}
 use lib.ListN.{length, take, drop, set, length-append, length-take, length-drop, drop-of-length-le}
 use lib.Seq.{set-split, set-append-left, take-take, take-at, length-take-le}
 use lib.Dec.{T, leb, ltb, eqb, eqb→eq}
@@ -77,7 +77,8 @@ sole f bits few names some one = go (any-from f (below 64) some)
         inside z t (yes k) u = eqb→eq z (first f (below 64) 0) (subst T (count-one f 64 one z k (subst T (sym (names z k)) t) (first f (below 64) 0) (u .1)) (u .0))
         inside z t (no k) u = absurd (subst T (digits-few 64 bits few z (omega arith)) t)
 
-pub first-named : (bits : ℕ) → bits < 2 ^ 64 → T (any (bit bits) (below 64)) → count (bit bits) (below 64) ≤ 1 → (trailingZeros 64 bits ≡ first (bit bits) (below 64) 0) × (first (bit bits) (below 64) 0 < 64)
+pub first-named : (bits : ℕ) → bits < 2 ^ 64 → T (any (bit bits) (below 64)) → count (bit bits) (below 64) ≤ 1
+    → (trailingZeros 64 bits ≡ first (bit bits) (below 64) 0) × (first (bit bits) (below 64) 0 < 64)
 first-named bits few some one = (sole (bit bits) bits few (λ x l. refl) some one, first-below (bit bits) 64 some .1)
 
 -- eight digits of a number
@@ -90,7 +91,8 @@ digits-are f zero n i e = omega arith
 digits-are f (suc m) n i e =
     let low : _≡_ {A = ℕ} (cond (f i) 1 0) (n % 2) = ap (λ (b : Bool). cond b 1 0) (ap f (sym (add-zero i)) ∙ e 0 (omega arith)) ∙ low-digit n in
     let high : digitsFrom f m (suc i) ≡ n / 2 % 2 ^ m = digits-are f m (n / 2) (suc i) (λ x l. ap f (suc-add i x ∙ sym (add-suc i x)) ∙ e (suc x) (omega arith)) in
-    let whole : n % 2 ^ suc m ≡ (n / 2 % 2 ^ m) * 2 + n % 2 = ap (λ (p : ℕ). n % p) (pow-succ' 2 m ∙ (let e : 2 * 2 ^ m ≡ 2 ^ m * 2 = omega arith in e)) ∙ mod-mul n {m = 2 ^ m} {c = 2} (pow-pos m) (omega arith) in
+    let whole : n % 2 ^ suc m ≡ (n / 2 % 2 ^ m) * 2 + n % 2 =
+    ap (λ (p : ℕ). n % p) (pow-succ' 2 m ∙ (let e : 2 * 2 ^ m ≡ 2 ^ m * 2 = omega arith in e)) ∙ mod-mul n {m = 2 ^ m} {c = 2} (pow-pos m) (omega arith) in
     omega (arith, low, high, whole)
 
 pub way-byte : (n j : ℕ) → digitsFrom (bit n) 8 (8 * j) ≡ n / 2 ^ (8 * j) % 256
@@ -108,7 +110,8 @@ at-most : (a b : ℕ) → a ≡ b → a + 0 ≤ 1 → b ≤ 1
 at-most a b e l = omega arith
 
 -- what the conversion asks of the set of an entry of form 2 that does not end a path
-pub asks-one : (e : List ℕ) (form lexicons bits : ℕ) (stop : Bool) → form ≡ 2 → T (rightWays e form lexicons) → wayCount e 2 ≤ 1 → stop ≡ mayStop e form → Names (goesTo e form) bits → stop ≡ false → T (any (bit bits) (below 64)) × (count (bit bits) (below 64) ≤ 1)
+pub asks-one : (e : List ℕ) (form lexicons bits : ℕ) (stop : Bool) → form ≡ 2 → T (rightWays e form lexicons) → wayCount e 2 ≤ 1 → stop ≡ mayStop e form
+    → Names (goesTo e form) bits → stop ≡ false → T (any (bit bits) (below 64)) × (count (bit bits) (below 64) ≤ 1)
 unfolding rightWays wayCount
 asks-one e form lexicons bits stop two right one s names off =
     let names2 : Names (goesTo e 2) bits = subst (λ (f : ℕ). Names (goesTo e f) bits) two names in
@@ -117,7 +120,8 @@ asks-one e form lexicons bits stop two right one s names off =
     let u = out3 (leb (byte e 13) 1) (every (λ x. ltb x lexicons || not (goesTo e 2 x)) (below 64)) (mayStop e 2 || any (goesTo e 2) (below 64)) right2 in
     let w = any-from (goesTo e 2) (below 64) (subst (λ (b : Bool). T (b || any (goesTo e 2) (below 64))) stays (u .2)) in (
       any-has (bit bits) (below 64) (w .1) (subst T (names2 (w .0) (below-from 64 (w .0) (w .1))) (w .2)),
-      at-most (count (goesTo e 2) (below 64)) (count (bit bits) (below 64)) (count-alike (goesTo e 2) (bit bits) 64 names2) (subst (λ (b : Bool). count (goesTo e 2) (below 64) + cond b 1 0 ≤ 1) stays one),
+      at-most (count (goesTo e 2) (below 64)) (count (bit bits) (below 64)) (count-alike (goesTo e 2) (bit bits) 64 names2)
+          (subst (λ (b : Bool). count (goesTo e 2) (below 64) + cond b 1 0 ≤ 1) stays one),
     )
 
 -- sixteen bytes copied, and byte 13 written over
@@ -152,7 +156,8 @@ module _ (e x out : List ℕ) (form bits : ℕ) (stop : Bool) (m : ℕ) (ends : 
   one-stored two is long =
       let n : m ≡ cond (mayStop e 2) 255 (first (goesTo e 2) (below 64) 0) =
       mark ∙ ap (λ (b : Bool). cond b (cond stop 255 (first (bit bits) (below 64) 0)) (cond stop 1 0)) (eq-eqb form 2 two)
-      ∙ ap₂ (λ (b : Bool) (z : ℕ). cond b 255 z) (ends ∙ ap (mayStop e) two) (sym (first-same (goesTo e form) (bit bits) 64 names) ∙ ap (λ (f : ℕ). first (goesTo e f) (below 64) 0) two) in
+      ∙ ap₂ (λ (b : Bool) (z : ℕ). cond b 255 z) (ends ∙ ap (mayStop e) two)
+      (sym (first-same (goesTo e form) (bit bits) 64 names) ∙ ap (λ (f : ℕ). first (goesTo e f) (below 64) 0) two) in
       stored-is e x out 24 is (omega arith) there m
       ∙ ap (λ (l : List ℕ). stored e x out 24 is (omega arith) there m ++ l) (drop-of-length-le out {i = 16} (omega arith))
       ∙ append-nil (stored e x out 24 is (omega arith) there m)

@@ -1,4 +1,3 @@
 pub mod Stores
 pub mod EntryLaws
 pub mod BlockLaws
-pub mod Replies

@@ -1,11 +1,11 @@
 -- Lists written in place: byte after byte, and part after part.
-use Prim.Native.Nat.{ℕ, zero, suc, _+_, _*_, _-_, _<_, _≤_}
+use Prim.Native.Nat.{ℕ, zero, suc, _+_, _*_, _-_, _<_}
 use native.Mathlib.Nat.{mul-suc}
 use native.Mathlib.Numerals.{add-one}
 use native.Mathlib.Omega.{arith}
 use mathlib.Core.Path.{_≡_, refl, sym, ap, ap₂, _∙_}
-use mathlib.Core.List.{List, [], _∷_, _++_, append-assoc, append-nil}
-use lib.ListN.{length, take, drop, set, replicate, length-append, length-replicate, drop-of-length-le, replicate-append-replicate}
+use mathlib.Core.List.{List, [], _++_, append-assoc}
+use lib.ListN.{length, take, drop, set, replicate, length-append}
 use lib.Seq.{take-suc, drop-cons, append-snoc, length-take-le, take-all, take-at, drop-at, drop-drop, set-at}
 use borrow.Rule.Slice.PartMut.{putMid}
 use Rattle.model.specs.Lists.{below, flatMap, byte}
@@ -39,7 +39,8 @@ module _ (front : List ℕ) (f : ℕ → List ℕ) (w : ℕ) (base : List ℕ) w
   unfoldable pub partsTo : ℕ → List ℕ
   partsTo i = front ++ (flatMap f (below i) ++ drop (length front + w * i) base)
 
-  pub parts-more : (i from size : ℕ) (now part : List ℕ) → from ≡ length front + w * i → size ≡ w → Wide w f (below i) → now ≡ partsTo i → part ≡ f i → putMid from size now part ≡ partsTo (i + 1)
+  pub parts-more : (i from size : ℕ) (now part : List ℕ) → from ≡ length front + w * i → size ≡ w → Wide w f (below i) → now ≡ partsTo i → part ≡ f i
+      → putMid from size now part ≡ partsTo (i + 1)
   unfolding partsTo
   parts-more i from size now part e1 e2 wide e is =
       let all = flatMap f (below i) in
@@ -54,7 +55,8 @@ module _ (front : List ℕ) (f : ℕ → List ℕ) (w : ℕ) (base : List ℕ) w
       let r : drop size (drop from now) ≡ rest = ap (drop size) d ∙ drop-drop size at base ∙ ap (λ (n : ℕ). drop n base) m in
       ap₂ (λ (x y : List ℕ). x ++ y) t (ap₂ (λ (x y : List ℕ). x ++ y) is r)
       ∙ append-assoc front all (f i ++ rest)
-      ∙ ap (λ (x : List ℕ). front ++ x) (sym (append-assoc all (f i) rest) ∙ ap (λ (x : List ℕ). x ++ rest) (sym (flatMap-below f i) ∙ ap (λ (j : ℕ). flatMap f (below j)) (sym (add-one i))))
+      ∙ ap (λ (x : List ℕ). front ++ x) (sym (append-assoc all (f i) rest)
+      ∙ ap (λ (x : List ℕ). x ++ rest) (sym (flatMap-below f i) ∙ ap (λ (j : ℕ). flatMap f (below j)) (sym (add-one i))))
 
 -- zeros
 abbrev pub zeros : ℕ → List ℕ

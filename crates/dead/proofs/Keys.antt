@@ -5,10 +5,10 @@ use mathlib.Core.Bool.{Bool, _&&_}
 use mathlib.Core.Logic.{_⊎_, inl, inr}
 use mathlib.Core.Path.{_≡_, refl, sym, ap, ap₂, _∙_, subst}
 use mathlib.Core.List.{List, []}
-use lib.ListN.{getD, take, drop}
+use lib.ListN.{getD, drop}
 use lib.Dec.{eqb}
 use borrow.Author.Tests.{lt-ltb, le-ltb, eq-eqb, ne-eqb}
-use Rattle.model.specs.Lists.{below, any}
+use Rattle.model.specs.Lists.{below}
 use Rattle.model.specs.Blocks.{header}
 use Rattle.model.specs.Lexicon.{inLexicon, entry, mayStop, goesTo}
 use Rattle.model.specs.Query.{Query}
@@ -38,7 +38,8 @@ module _ (image : List ℕ) where
     no-rest = let e : place .to - place .from ≡ 0 = omega arith in rw e refl
 
     -- an entry is open: what its number says is what may follow it, and whether it ends
-    none-by : place .last < ended → (next : ℕ) → ((f : ℕ) → grammarOf image .follows (place .last) f ≡ followsBy image next f) → grammarOf image .ends (place .last) ≡ endsBy image next → Tells image place (noneLeft next)
+    none-by : place .last < ended → (next : ℕ) → ((f : ℕ) → grammarOf image .follows (place .last) f ≡ followsBy image next f)
+        → grammarOf image .ends (place .last) ≡ endsBy image next → Tells image place (noneLeft next)
     unfolding restBy waysBy stopBy endedBy waysAfter stopsAfter
     none-by h next follows ends =
         let not-root = ne-eqb (place .last) root (λ e. omega arith) in
@@ -54,15 +55,19 @@ module _ (image : List ℕ) where
         none-by h (256 + place .last) (λ f. rw (over, own) refl) (rw (over, own) refl)
 
     -- by a way that says what it goes to, and whether it ends
-    by-way : place .last < ended → header image .lexicons ≤ 64 → (way : ℕ) → way < 256 → ((x : ℕ) → x < 64 → goesTo (entry image (place .last)) (header image .form) x ≡ eqb way x) → mayStop (entry image (place .last)) (header image .form) ≡ eqb way 255 → Tells image place (noneLeft way)
+    by-way : place .last < ended → header image .lexicons ≤ 64 → (way : ℕ) → way < 256
+        → ((x : ℕ) → x < 64 → goesTo (entry image (place .last)) (header image .form) x ≡ eqb way x) → mayStop (entry image (place .last)) (header image .form) ≡ eqb way 255
+        → Tells image place (noneLeft way)
     unfolding followsBy endsBy grammarOf
     by-way h few way l goes stop =
         none-by h way
-        (λ f. rw (lt-ltb way 256 l) (any-same (λ x. goesTo (entry image (place .last)) (header image .form) x && inLexicon image x f) (λ x. eqb way x && inLexicon image x f) (below (header image .lexicons)) (λ x m. ap (λ (b : Bool). b && inLexicon image x f) (goes x (omega (arith, below-from (header image .lexicons) x m))))))
+        (λ f. rw (lt-ltb way 256 l) (any-same (λ x. goesTo (entry image (place .last)) (header image .form) x && inLexicon image x f) (λ x. eqb way x && inLexicon image x f)
+        (below (header image .lexicons)) (λ x m. ap (λ (b : Bool). b && inLexicon image x f) (goes x (omega (arith, below-from (header image .lexicons) x m))))))
         (rw (lt-ltb way 256 l) stop)
 
     -- by its sole way
-    pub way-tells : place .last < ended → header image .lexicons ≤ 64 → (way : ℕ) → WayOf (entry image (place .last)) (header image .form) way → (way ≡ 254 → ⊥) → Tells image place (noneLeft way)
+    pub way-tells : place .last < ended → header image .lexicons ≤ 64 → (way : ℕ) → WayOf (entry image (place .last)) (header image .form) way → (way ≡ 254 → ⊥)
+        → Tells image place (noneLeft way)
     way-tells h few way w sole = go (w .in-bound)
       where
         go : (way < 64) ⊎ ((way ≡ 254) ⊎ (way ≡ 255)) → Tells image place (noneLeft way)

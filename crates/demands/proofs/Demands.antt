@@ -2,13 +2,13 @@
 -- entry (a), its reply (r) and its arguments at exit (s); `now` is a lent slice's bytes.
 use Prim.Native.Nat.{ℕ, _+_, _*_, _<_}
 use mathlib.Core.Bool.{Bool}
-use mathlib.Core.Path.{_≡_, refl, sym, ap₂, _∙_, subst}
+use mathlib.Core.Path.{_≡_, refl, sym, ap, ap₂, _∙_, subst}
 use mathlib.Core.Logic.{_↔_, _⊎_, inl, inr}
 use mathlib.Core.List.{List, [], _∷_, _++_, map, List·Memᴰ}
 use lib.ListN.{length, take, drop}
 use lib.Dec.{T}
 use Rattle.model.specs.Lists.{joined}
-use Rattle.model.specs.Blocks.{sealedImage}
+use Rattle.model.specs.Blocks.{header, sealedImage}
 use Rattle.model.specs.RuleTables.{fed, accepts}
 use Rattle.model.specs.Lexicon.{entry, formLength}
 use Rattle.model.specs.GrammarOf.{grammarOf}
@@ -17,12 +17,12 @@ use Rattle.model.specs.Query.{Request, analysis, generation, queryOf}
 use Rattle.model.specs.Tree.{readings}
 use Rattle.model.specs.Refusals.{Verdict, accepted, firstFailing, rightLength, formatTests, imageTests, imageVerdict, wordTests, pathTests, pairingTests, ownTests, requestTests, judgeTests, viewTests, pointTests, spellingTests}
 use Rattle.model.specs.Rows.{Reply, rowBytes, replyNumber}
-use Rattle.model.specs.Calls.{Sealing, allReadings}
+use Rattle.model.specs.Calls.{Sealing, stepsOf, allReadings}
 use Rattle.model.specs.Spelling.{wordSpelled}
 use Rattle.model.specs.Beside.{Judgement, FormReply, formReply, Spelling, spellingReply, afterSpelling}
 use Rattle.model.specs.Demand.{Demand3, IsMore, rowsHandedBack}
 use Rattle.model.specs.Unspelled.{Unspelled}
-use Rattle.model.proofs.Listing.{IsListing, listing-iff}
+use Rattle.model.proofs.Listing.{ListsBy, listing-iff}
 use Rattle.model.proofs.Endings.{image-listing}
 use Rattle.model.proofs.Demand.{demand3-call}
 use Rattle.model.proofs.Unspelled.{refused-14, refused-by-each}
@@ -46,6 +46,9 @@ use Rattle.spelling.proofs.spell.Reads as spell
 use Rattle.shares.specs.Words.{ManyReply, wordsAsked}
 use Rattle.many.specs.Answers.{manyOf}
 use Rattle.many.proofs.analyse_words.Reads as analyse-words
+use Rattle.conversion.specs.Conversion.{Conversion, conversionTests, conversionReply, afterConversion}
+use Rattle.converter.specs.Answers.{conversionOf}
+use Rattle.converter.proofs.convert.Reads as convert
 use Rattle.headwords.proofs.headwords_analyse.Reads as headwords-analyse
 use Rattle.headwords.proofs.headwords_analyse_words.Reads as headwords-analyse-words
 use Rattle.headwords.proofs.headwords_generate.Reads as headwords-generate
@@ -55,9 +58,11 @@ use Rattle.headwords.proofs.headwords_judge.Reads as headwords-judge
 use Rattle.headwords.proofs.headwords_judge_rules.Reads as headwords-judge-rules
 use Rattle.headwords.proofs.headwords_form.Reads as headwords-form
 use Rattle.headwords.proofs.headwords_spell.Reads as headwords-spell
-use Rattle.headwords.specs.Numbers.{verdictNumber, sealingNumber, judgementNumber, formNumber, spellingNumber, manyNumber}
+use Rattle.headwords.proofs.headwords_convert.Reads as headwords-convert
+use Rattle.headwords.specs.Numbers.{verdictNumber, sealingNumber, judgementNumber, formNumber, spellingNumber, conversionNumber, manyNumber}
 use Rattle.print.proofs.Small.{Small}
 use Rattle.demands.specs.Words.{inTable, FirstFails, Coding, JudgedSo, JudgedSoNumber, IsReading, KeepsRules, formLetters, FormCopied, SpelledOut, wordAt, shareOf, WordsAnswered, AmongWords, Asks, pathBytes}
+use Rattle.demands.specs.Words.{ConvertedTo, AreBytes}
 use Rattle.demands.proofs.Ends.{Ends, each-ends}
 use Rattle.demands.proofs.Refusing.{InTable, fails-first, Case, either-of, not-both-of, by-first, by-table, unchanged-of}
 use Rattle.demands.proofs.Calls as calls
@@ -65,6 +70,7 @@ use Rattle.demands.proofs.Calls.{Promised}
 use Rattle.demands.proofs.Numbers as numbers
 use Rattle.demands.proofs.Spelled.{word-handed, analysis-taken}
 use Rattle.demands.proofs.Many.{words-case, many-coding, words-number-case, among-promised}
+use Rattle.demands.proofs.Conversions.{conversion-table, conversion-case, conversion-coding, conversion-number-case, conversion-refused, there-and-back}
 use Rattle.demands.proofs.Given.{reading-path, reading-forms, reading-tables, row-given}
 use Rattle.demands.proofs.BothWays.{word-taken, path-taken, both-taken, image-accepted, rows-converse, readings-converse, path-in-row}
 
@@ -109,6 +115,7 @@ pub takes-every :
     × ((κs : _) (a : _) → judge-rules.Asked κs a)
     × ((κs : _) (a : _) → spell.Asked κs a)
     × ((κs : _) (a : _) → analyse-words.Asked κs a)
+    × ((κs : _) (a : _) → convert.Asked κs a)
     × ((κs : _) (a : _) → headwords-analyse.Asked κs a)
     × ((κs : _) (a : _) → headwords-generate.Asked κs a)
     × ((κs : _) (a : _) → headwords-seal.Asked κs a)
@@ -118,9 +125,32 @@ pub takes-every :
     × ((κs : _) (a : _) → headwords-form.Asked κs a)
     × ((κs : _) (a : _) → headwords-spell.Asked κs a)
     × ((κs : _) (a : _) → headwords-analyse-words.Asked κs a)
-takes-every = (λ κs a. tt, λ κs a. tt, λ κs a. tt, λ κs a. tt, λ κs a. tt, λ κs a. tt, λ κs a. tt, λ κs a. tt, λ κs a. tt, λ κs a. tt, λ κs a. tt, λ κs a. tt, λ κs a. tt, λ κs a. tt, λ κs a. tt, λ κs a. tt, λ κs a. tt, λ κs a. tt, λ κs a. tt)
+    × ((κs : _) (a : _) → headwords-convert.Asked κs a)
+takes-every = (
+  λ κs a. tt,
+  λ κs a. tt,
+  λ κs a. tt,
+  λ κs a. tt,
+  λ κs a. tt,
+  λ κs a. tt,
+  λ κs a. tt,
+  λ κs a. tt,
+  λ κs a. tt,
+  λ κs a. tt,
+  λ κs a. tt,
+  λ κs a. tt,
+  λ κs a. tt,
+  λ κs a. tt,
+  λ κs a. tt,
+  λ κs a. tt,
+  λ κs a. tt,
+  λ κs a. tt,
+  λ κs a. tt,
+  λ κs a. tt,
+  λ κs a. tt,
+)
 
--- "ends": each of the nineteen returns, from whatever it is lent.
+-- "ends": each of the twenty-one returns, from whatever it is lent.
 pub ends : {M : Type 1} → Ends M
 ends = each-ends
 
@@ -146,7 +176,8 @@ demand1 {tests} {Refused} {Unchanged} {Work} t c =
       unchanged = unchanged-of Refused Unchanged Work tests c;
     }
 
--- "the image check .. 1-8; every other call 1-8 and then its own"; 14 "tested after 8 and before 9", 19 and 20 "come after 13", 23 and 24 "in that order after 9": the numbers of the tests of each, in their order
+-- "the image check .. 1-8; every other call 1-8 and then its own"; 14 "tested after 8 and before 9", 15 to 17 "in that order after
+-- 14", 19 and 20 "come after 13", 23 and 24 "in that order after 9": the numbers of the tests of each, in their order
 pub tests-made : (image word path pairing text points : List ℕ) (e room : ℕ)
     → (map (λ t. t .0) (imageTests image) ≡ 1 ∷ 2 ∷ 3 ∷ 4 ∷ 5 ∷ 6 ∷ 7 ∷ 8 ∷ 14 ∷ [])
     × (map (λ t. t .0) (requestTests image (analysis word)) ≡ 1 ∷ 2 ∷ 3 ∷ 4 ∷ 5 ∷ 6 ∷ 7 ∷ 8 ∷ 14 ∷ 9 ∷ 10 ∷ [])
@@ -155,8 +186,9 @@ pub tests-made : (image word path pairing text points : List ℕ) (e room : ℕ)
     × (map (λ t. t .0) (rulesTests image pairing text) ≡ 1 ∷ 2 ∷ 3 ∷ 4 ∷ 5 ∷ 6 ∷ 7 ∷ 8 ∷ 14 ∷ 13 ∷ 19 ∷ 20 ∷ [])
     × (map (λ t. t .0) (viewTests image e) ≡ 1 ∷ 2 ∷ 3 ∷ 4 ∷ 5 ∷ 6 ∷ 7 ∷ 8 ∷ 14 ∷ 12 ∷ [])
     × (map (λ t. t .0) (spellingTests image points room) ≡ 1 ∷ 2 ∷ 3 ∷ 4 ∷ 5 ∷ 6 ∷ 7 ∷ 8 ∷ 14 ∷ 9 ∷ 23 ∷ 24 ∷ [])
-unfolding formatTests imageTests requestTests ownTests wordTests pathTests pairingTests judgeTests textTests rulesTests viewTests pointTests spellingTests
-tests-made image word path pairing text points e room = (refl, refl, refl, refl, refl, refl, refl)
+    × (map (λ t. t .0) (conversionTests image room) ≡ 1 ∷ 2 ∷ 3 ∷ 4 ∷ 5 ∷ 6 ∷ 7 ∷ 8 ∷ 14 ∷ 15 ∷ 16 ∷ 17 ∷ [])
+unfolding formatTests imageTests requestTests ownTests wordTests pathTests pairingTests judgeTests textTests rulesTests viewTests pointTests spellingTests conversionTests
+tests-made image word path pairing text points e room = (refl, refl, refl, refl, refl, refl, refl, refl)
 
 -- analysis and generation, from Rattle and from C: the image's tests and then the word's or the path's; their work is demand 3
 pub demand1-listing : {image : List ℕ} {request : Request} {before after : List ℕ} {reply : Reply} → Listing image request before after reply
@@ -215,6 +247,13 @@ pub demand1-analyse-words : (κs : _) (a : _) (r : _) (s : _) → analyse-words.
 demand1-analyse-words κs a r s p =
     demand1 (calls.check-table (a .0 .now)) (words-case (a .0 .now) (a .1 .0 .now) (a .1 .1 .0 .now) (a .1 .1 .1 .0 .now) (s .1 .1 .0 .now) (s .1 .1 .1 .0 .now) (manyOf r) (p .0) (p .1 .0) (p .1 .1))
 
+-- the converter: 1 to 8, 14, 15, 16 and 17
+pub demand1-convert : (κs : _) (a : _) (r : _) (s : _) → convert.Post κs a r s
+    → let image = a .0 .now in let before = a .1 .0 .now in let after = s .1 .0 .now in
+    Demand1 (conversionTests image (length before)) (λ k. conversionOf r ≡ Conversion.refused k) (after ≡ before) ((conversionOf r ≡ Conversion.converted) × ConvertedTo image after)
+demand1-convert κs a r s p =
+    demand1 (conversion-table (a .0 .now) (length (a .1 .0 .now))) (conversion-case (a .0 .now) (a .1 .0 .now) (s .1 .0 .now) (conversionOf r) (p .0) (p .1))
+
 -- The calls from C. Their coding loses nothing: no two replies have one number, and 4k + 3 is refused k alone.
 pub codings :
     Coding replyNumber Reply.refused
@@ -224,7 +263,8 @@ pub codings :
     × ((room : ℕ) → Coding (formNumber room) FormReply.refused)
     × Coding spellingNumber Spelling.refused
     × Coding manyNumber ManyReply.refused
-codings = (numbers.listing-coding, numbers.sealing-coding, numbers.check-coding, numbers.judge-coding, numbers.form-coding, numbers.spelling-coding, many-coding)
+    × Coding conversionNumber Conversion.refused
+codings = (numbers.listing-coding, numbers.sealing-coding, numbers.check-coding, numbers.judge-coding, numbers.form-coding, numbers.spelling-coding, many-coding, conversion-coding)
 
 pub demand1-headwords-analyse : (κs : _) (a : _) (r : _) (s : _) → headwords-analyse.Post κs a r s
     → let image = a .0 .now in let request = analysis (a .1 .0 .now) in let before = a .1 .1 .0 .now in let after = s .1 .1 .0 .now in
@@ -276,8 +316,14 @@ pub demand1-headwords-analyse-words : (κs : _) (a : _) (r : _) (s : _) → head
 demand1-headwords-analyse-words κs a r s p =
     demand1 (calls.check-table (a .0 .now)) (words-number-case (a .0 .now) (a .1 .0 .now) (a .1 .1 .0 .now) (a .1 .1 .1 .0 .now) (s .1 .1 .0 .now) (s .1 .1 .1 .0 .now) r (p .0) (p .1 .0) (p .1 .1))
 
+pub demand1-headwords-convert : (κs : _) (a : _) (r : _) (s : _) → headwords-convert.Post κs a r s
+    → let image = a .0 .now in let before = a .1 .0 .now in let after = s .1 .0 .now in
+    Demand1 (conversionTests image (length before)) (λ k. r ≡ 4 * k + 3) (after ≡ before) ((r ≡ 1) × ConvertedTo image after)
+demand1-headwords-convert κs a r s p =
+    demand1 (conversion-table (a .0 .now) (length (a .1 .0 .now))) (conversion-number-case (a .0 .now) (a .1 .0 .now) (s .1 .0 .now) r (p .0) (p .1))
+
 -- Document 02, (b): "Such an image is to be refused by every call but sealing.": one that passes tests 1 to 8 and has an entry that can never be spelled is
--- refused with 14 by each of the other seventeen, whatever it is asked for, and no byte changes. In C 4k + 3 is 59.
+-- refused with 14 by each of the other nineteen, whatever it is asked for, and no byte changes. In C 4k + 3 is 59.
 abbrev pub Slipped : List ℕ → Type 0
 Slipped image = (firstFailing (formatTests image) ≡ accepted) × ((e : ℕ) × Unspelled image e)
 
@@ -304,6 +350,7 @@ pub unspelled-refused :
     × ((κs : _) (a : _) (r : _) (s : _) → form-view.Post κs a r s → Slipped (a .0 .now) → r .now ≡ [])
     × ((κs : _) (a : _) (r : _) (s : _) → spell.Post κs a r s → Slipped (a .0 .now) → (spellingOf r ≡ Spelling.refused 14) × (s .1 .1 .0 .now ≡ a .1 .1 .0 .now))
     × ((κs : _) (a : _) (r : _) (s : _) → analyse-words.Post κs a r s → Slipped (a .0 .now) → (manyOf r ≡ ManyReply.refused 14) × (s .1 .1 .0 .now ≡ a .1 .1 .0 .now) × (s .1 .1 .1 .0 .now ≡ a .1 .1 .1 .0 .now))
+    × ((κs : _) (a : _) (r : _) (s : _) → convert.Post κs a r s → Slipped (a .0 .now) → (conversionOf r ≡ Conversion.refused 14) × (s .1 .0 .now ≡ a .1 .0 .now))
     × ((κs : _) (a : _) (r : _) (s : _) → headwords-analyse.Post κs a r s → Slipped (a .0 .now) → (r ≡ 59) × (s .1 .1 .0 .now ≡ a .1 .1 .0 .now))
     × ((κs : _) (a : _) (r : _) (s : _) → headwords-generate.Post κs a r s → Slipped (a .0 .now) → (r ≡ 59) × (s .1 .1 .0 .now ≡ a .1 .1 .0 .now))
     × ((κs : _) (a : _) (r : _) (s : _) → headwords-check.Post κs a r s → Slipped (a .0 .now) → r ≡ 59)
@@ -312,6 +359,7 @@ pub unspelled-refused :
     × ((κs : _) (a : _) (r : _) (s : _) → headwords-form.Post κs a r s → Slipped (a .0 .now) → (r ≡ 59) × (s .1 .1 .0 .now ≡ a .1 .1 .0 .now))
     × ((κs : _) (a : _) (r : _) (s : _) → headwords-spell.Post κs a r s → Slipped (a .0 .now) → (r ≡ 59) × (s .1 .1 .0 .now ≡ a .1 .1 .0 .now))
     × ((κs : _) (a : _) (r : _) (s : _) → headwords-analyse-words.Post κs a r s → Slipped (a .0 .now) → (r ≡ 59) × (s .1 .1 .0 .now ≡ a .1 .1 .0 .now) × (s .1 .1 .1 .0 .now ≡ a .1 .1 .1 .0 .now))
+    × ((κs : _) (a : _) (r : _) (s : _) → headwords-convert.Post κs a r s → Slipped (a .0 .now) → (r ≡ 59) × (s .1 .0 .now ≡ a .1 .0 .now))
 unfolding imageVerdict
 unspelled-refused = (
   λ κs a r s p u. refused-with-14 (slip-refused (a .0 .now) u) (demand1-check κs a r s p) .0,
@@ -321,6 +369,7 @@ unspelled-refused = (
   λ κs a r s p u. p ∙ sym (view-none (a .0 .now) (a .1 .0) 14 (sym (form-refused (a .0 .now) (a .1 .0) 14 (slip-refused (a .0 .now) u)))),
   λ κs a r s p u. refused-with-14 (refused-by-each (a .0 .now) (slip-refused (a .0 .now) u) .3 (a .1 .0 .now) (length (a .1 .1 .0 .now))) (demand1-spell κs a r s p),
   λ κs a r s p u. let t = refused-with-14 (slip-refused (a .0 .now) u) (demand1-analyse-words κs a r s p) in (t .0, t .1 .0, t .1 .1),
+  λ κs a r s p u. refused-with-14 (conversion-refused (a .0 .now) (length (a .1 .0 .now)) 14 (slip-refused (a .0 .now) u)) (demand1-convert κs a r s p),
   λ κs a r s p u. refused-with-14 (refused-by-each (a .0 .now) (slip-refused (a .0 .now) u) .0 (analysis (a .1 .0 .now))) (demand1-headwords-analyse κs a r s p),
   λ κs a r s p u. refused-with-14 (refused-by-each (a .0 .now) (slip-refused (a .0 .now) u) .0 (generation (a .1 .0 .now))) (demand1-headwords-generate κs a r s p),
   λ κs a r s p u. refused-with-14 (slip-refused (a .0 .now) u) (demand1-headwords-check κs a r s p) .0,
@@ -329,6 +378,7 @@ unspelled-refused = (
   λ κs a r s p u. refused-with-14 (refused-by-each (a .0 .now) (slip-refused (a .0 .now) u) .2 (a .1 .0)) (demand1-headwords-form κs a r s p),
   λ κs a r s p u. refused-with-14 (refused-by-each (a .0 .now) (slip-refused (a .0 .now) u) .3 (a .1 .0 .now) (length (a .1 .1 .0 .now))) (demand1-headwords-spell κs a r s p),
   λ κs a r s p u. let t = refused-with-14 (slip-refused (a .0 .now) u) (demand1-headwords-analyse-words κs a r s p) in (t .0, t .1 .0, t .1 .1),
+  λ κs a r s p u. refused-with-14 (conversion-refused (a .0 .now) (length (a .1 .0 .now)) 14 (slip-refused (a .0 .now) u)) (demand1-headwords-convert κs a r s p),
 )
 
 -- Document 02, (m): the letters that the spelling call hands over pass 9 and 10, and analysis of them on the same image refuses nothing.
@@ -349,6 +399,28 @@ spelled-taken κs a r s p n e = taken (a .0 .now) (a .1 .0 .now) (a .1 .1 .0 .no
 pub headwords-spelled-taken : (κs : _) (a : _) (r : _) (s : _) → headwords-spell.Post κs a r s → (n : ℕ) → r ≡ 4 * n + 1 → Taken (a .0 .now) (take n (s .1 .1 .0 .now))
 headwords-spelled-taken κs a r s p n e =
     taken (a .0 .now) (a .1 .0 .now) (a .1 .1 .0 .now) (s .1 .1 .0 .now) n (numbers.spelling-coding .apart _ (Spelling.letters n) (sym (p .0) ∙ e)) (p .1)
+
+-- Document 02, (e): "From 1 to 2 and back gives the same bytes": of two calls, the second on what the first left, with a target as long as the image was.
+pub converted-back : (κs : _) (a : _) (r : _) (s : _) → convert.Post κs a r s → conversionOf r ≡ Conversion.converted → header (a .0 .now) .form ≡ 1 → AreBytes (a .0 .now)
+    → (κs′ : _) (a′ : _) (r′ : _) (s′ : _) → convert.Post κs′ a′ r′ s′ → a′ .0 .now ≡ s .1 .0 .now → length (a′ .1 .0 .now) ≡ length (a .0 .now)
+    → (conversionOf r′ ≡ Conversion.converted) × (s′ .1 .0 .now ≡ a .0 .now)
+converted-back κs a r s p e first bytes κs′ a′ r′ s′ p′ same long =
+    let b = there-and-back (a .0 .now) (a .1 .0 .now) (sym (p .0) ∙ e) first bytes (a′ .1 .0 .now) long in
+    let here = same ∙ p .1 in (
+      p′ .0 ∙ ap (λ (i : List ℕ). conversionReply i (length (a′ .1 .0 .now))) here ∙ b .0,
+      p′ .1 ∙ ap (λ (i : List ℕ). afterConversion i (a′ .1 .0 .now)) here ∙ b .1,
+    )
+
+pub headwords-converted-back : (κs : _) (a : _) (r : _) (s : _) → headwords-convert.Post κs a r s → r ≡ 1 → header (a .0 .now) .form ≡ 1 → AreBytes (a .0 .now)
+    → (κs′ : _) (a′ : _) (r′ : _) (s′ : _) → headwords-convert.Post κs′ a′ r′ s′ → a′ .0 .now ≡ s .1 .0 .now → length (a′ .1 .0 .now) ≡ length (a .0 .now)
+    → (r′ ≡ 1) × (s′ .1 .0 .now ≡ a .0 .now)
+headwords-converted-back κs a r s p e first bytes κs′ a′ r′ s′ p′ same long =
+    let replied = conversion-coding .apart _ Conversion.converted (sym (p .0) ∙ e) in
+    let b = there-and-back (a .0 .now) (a .1 .0 .now) replied first bytes (a′ .1 .0 .now) long in
+    let here = same ∙ p .1 in (
+      p′ .0 ∙ ap (λ (i : List ℕ). conversionNumber (conversionReply i (length (a′ .1 .0 .now)))) here ∙ ap conversionNumber (b .0),
+      p′ .1 ∙ ap (λ (i : List ℕ). afterConversion i (a′ .1 .0 .now)) here ∙ b .1,
+    )
 
 -- DEMAND 2
 
@@ -423,14 +495,14 @@ handed-on {image} l row m before′ after′ reply′ c = go c
 -- DEMAND 3
 
 -- "For every accepted grammar, admissible word, complete path and lent buffer, whatever it held: the rows handed back and the list of all readings (each
--- once, in step order) are equal exactly when the reply is not "more".": `equal-unless-more` of Demand3. `l` is the list, by IsListing: exactly the readings
--- that answer the request, strictly ascending by step list, so each once.
+-- once, in step order) are equal exactly when the reply is not "more".": `equal-unless-more` of Demand3. `l` is the list, by ListsBy: exactly the readings
+-- that answer the request, strictly ascending by the step list of the image's form, so each once.
 -- "Under "more" the rows fill the buffer and are a proper beginning of that list.": `more-fills`, `more-begins`.
 -- "No byte past them changes.": `same-length`, `past-unchanged`.
 -- "The reply is "none" exactly when the list is empty.": `none-when-empty`.
 pub demand3 : {image : List ℕ} {request : Request} {before after : List ℕ} {reply : Reply} → Listing image request before after reply
     → imageVerdict image ≡ accepted → firstFailing (ownTests image request) ≡ accepted
-    → (l : List Reading) → IsListing (grammarOf image) (queryOf request) l → Demand3 l reply before after
+    → (l : List Reading) → ListsBy (stepsOf image) (grammarOf image) (queryOf request) l → Demand3 l reply before after
 unfolding allReadings
 demand3 {image} {request} {before} {after} {reply} c a b l i =
     subst (λ (l : List Reading). Demand3 l reply before after) (sym (listing-iff (readings (grammarOf image) (queryOf request)) (image-listing image (queryOf request)) l .0 i)) (demand3-call image request before after a b reply .1 (promise c .replies, promise c .leaves))

@@ -19,6 +19,8 @@ use Rattle.spelling.proofs.spell.Statement as spell-statement
 use Rattle.spelling.proofs.spell.Met as spell-met
 use Rattle.many.proofs.analyse_words.Statement as analyse-words-statement
 use Rattle.many.proofs.analyse_words.Met as analyse-words-met
+use Rattle.converter.proofs.convert.Statement as convert-statement
+use Rattle.converter.proofs.convert.Met as convert-met
 use Rattle.headwords.proofs.headwords_analyse.Statement as headwords-analyse-statement
 use Rattle.headwords.proofs.headwords_analyse.Met as headwords-analyse-met
 use Rattle.headwords.proofs.headwords_analyse_words.Statement as headwords-analyse-words-statement
@@ -37,6 +39,8 @@ use Rattle.headwords.proofs.headwords_form.Statement as headwords-form-statemen
 use Rattle.headwords.proofs.headwords_form.Met as headwords-form-met
 use Rattle.headwords.proofs.headwords_spell.Statement as headwords-spell-statement
 use Rattle.headwords.proofs.headwords_spell.Met as headwords-spell-met
+use Rattle.headwords.proofs.headwords_convert.Statement as headwords-convert-statement
+use Rattle.headwords.proofs.headwords_convert.Met as headwords-convert-met
 
 -- at every model of the machine
 abbrev pub Ends : Type 1 → Type 2
@@ -51,6 +55,7 @@ Ends M =
     × judge-rules-statement.statement M
     × spell-statement.statement M
     × analyse-words-statement.statement M
+    × convert-statement.statement M
     × headwords-analyse-statement.statement M
     × headwords-generate-statement.statement M
     × headwords-seal-statement.statement M
@@ -60,6 +65,29 @@ Ends M =
     × headwords-form-statement.statement M
     × headwords-spell-statement.statement M
     × headwords-analyse-words-statement.statement M
+    × headwords-convert-statement.statement M
 
 pub each-ends : {M : Type 1} → Ends M
-each-ends = (analyse-met.met, generate-met.met, seal-met.met, check-met.met, form-reply-met.met, form-view-met.met, judge-met.met, judge-rules-met.met, spell-met.met, analyse-words-met.met, headwords-analyse-met.met, headwords-generate-met.met, headwords-seal-met.met, headwords-check-met.met, headwords-judge-met.met, headwords-judge-rules-met.met, headwords-form-met.met, headwords-spell-met.met, headwords-analyse-words-met.met)
+each-ends = (
+  analyse-met.met,
+  generate-met.met,
+  seal-met.met,
+  check-met.met,
+  form-reply-met.met,
+  form-view-met.met,
+  judge-met.met,
+  judge-rules-met.met,
+  spell-met.met,
+  analyse-words-met.met,
+  convert-met.met,
+  headwords-analyse-met.met,
+  headwords-generate-met.met,
+  headwords-seal-met.met,
+  headwords-check-met.met,
+  headwords-judge-met.met,
+  headwords-judge-rules-met.met,
+  headwords-form-met.met,
+  headwords-spell-met.met,
+  headwords-analyse-words-met.met,
+  headwords-convert-met.met,
+)

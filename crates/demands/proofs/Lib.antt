@@ -6,4 +6,5 @@ pub mod Given
 pub mod Spelled
 pub mod BothWays
 pub mod Many
+pub mod Conversions
 pub mod Demands

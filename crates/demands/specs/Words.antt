@@ -1,6 +1,6 @@
 -- What the statements of the demands are made of: the first test that fails, the work of each call beside the listings, replies as numbers, what a listing is
 -- asked for, a path as bytes.
-use Prim.Native.Nat.{ℕ, _+_, _*_, _^_, _<_, _≤_}
+use Prim.Native.Nat.{ℕ, _+_, _*_, _-_, _^_, _<_, _≤_}
 use mathlib.Core.Bool.{Bool, false, _||_}
 use mathlib.Core.Path.{_≡_}
 use mathlib.Core.Logic.{_↔_, _⊎_}
@@ -8,22 +8,25 @@ use mathlib.Core.List.{List, _∷_, _++_}
 use lib.ListN.{length, take, drop}
 use lib.Dec.{T}
 use Rattle.model.specs.Lists.{every, flatMap, part, within, byte, numberBytes}
+use Rattle.model.specs.Blocks.{header}
 use Rattle.model.specs.Lexicon.{entry, formLength}
 use Rattle.model.specs.Grammar.{Grammar}
 use Rattle.model.specs.GrammarOf.{grammarOf}
 use Rattle.model.specs.Readings.{Reading, spelled, isReading}
 use Rattle.model.specs.Query.{Request, analysis, generation, entryNumbers}
 use Rattle.model.specs.Spelling.{wordSpelled}
+use Rattle.model.specs.Refusals.{accepted, imageVerdict}
 use Rattle.model.specs.Rows.{Reply, replyNumber}
 use Rattle.model.specs.Calls.{listingReply, afterListing}
 use Rattle.model.specs.Beside.{Judgement, formStart}
 use Rattle.contexts.specs.Operators.{Rule, KeptThroughout}
 use Rattle.rule_texts.specs.Text.{RuleOf}
 use Rattle.shares.specs.Words.{wordOf, lowFirst, wordsAsked, shareRows}
+use Rattle.conversion.specs.Conversion.{convertedImage}
 
 -- "a number of document 01's table", which the answers of document 02 join
 abbrev pub inTable : ℕ → Bool
-inTable k = within 1 14 k || within 19 20 k || within 23 24 k
+inTable k = within 1 17 k || within 19 20 k || within 23 24 k
 
 -- in the order of the tests: test k fails, and every test before it passes
 pub record FirstFails (k : ℕ) (tests : List (ℕ × Bool)) : Type 0 where
@@ -67,6 +70,21 @@ module _ (image : List ℕ) (e : ℕ) where
 -- document 02, (m): "code points .. become letter numbers", at the front of a lent output; "output bytes past it keep their values"
 abbrev pub SpelledOut : List ℕ → List ℕ → List ℕ → List ℕ → Type 0
 SpelledOut image points before after = let w = wordSpelled image points in (length w ≤ length before) × (after ≡ w ++ drop (length w) before)
+
+-- document 02, (e): "A converter .. takes form 1 to form 2 and back": the image in the other form is accepted, and "the rows of every word are alike before and
+-- after": the reply and every byte of a buffer, for whatever is asked
+pub record InOtherForm (image other : List ℕ) : Type 0 where
+  pub accepted-too : imageVerdict other ≡ accepted
+  pub form-is : header other .form ≡ 3 - header image .form
+  pub replies-alike : (request : Request) (rows : ℕ) → listingReply image request rows ≡ listingReply other request rows
+  pub rows-alike : (request : Request) (buffer : List ℕ) → afterListing image request buffer ≡ afterListing other request buffer
+
+abbrev pub ConvertedTo : List ℕ → List ℕ → Type 0
+ConvertedTo image other = (other ≡ convertedImage image) × InOtherForm image other
+
+-- the numbers of a slice are bytes
+abbrev pub AreBytes : List ℕ → Type 0
+AreBytes l = (i : ℕ) → byte l i < 256
 
 -- many words in one call: word i, and share i of a buffer with the rows
 abbrev pub wordAt : List ℕ → ℕ → List ℕ

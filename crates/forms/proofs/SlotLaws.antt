@@ -52,7 +52,8 @@ slot-put image h laid old new at i e way f small inside c w = record {
       ∙ c .here k l ∙ ap (λ (j : ℕ). getD image (j + k) 0) f ∙ sym (entry-byte image h laid e k (omega arith));
   onward = subst (WayOf (entry image e) (header image .form)) (sym way-is) (subst (λ (g : Header). WayOf (entry image e) (g .form) way) (laid .header-is) w);
   numbered = stored-here mid (16 * i + 14) e (omega (arith, c .long, length-set new (16 * i + 13) way)) small;
-  elsewhere = λ j o. stored-other mid (16 * i + 14) e j (apart j o 14 (omega arith)) (λ z. apart j o 15 (omega arith) (omega arith)) ∙ getD-set-other new (16 * i + 13) j way 0 (apart j o 13 (omega arith)) ∙ c .elsewhere j (outside j o);
+  elsewhere = λ j o. stored-other mid (16 * i + 14) e j (apart j o 14 (omega arith)) (λ z. apart j o 15 (omega arith) (omega arith))
+      ∙ getD-set-other new (16 * i + 13) j way 0 (apart j o 13 (omega arith)) ∙ c .elsewhere j (outside j o);
 }
   where
     mid : List ℕ

@@ -6,7 +6,7 @@ ghost use Rattle.image.specs.Header.{headerOf};
 ghost use Rattle.image.specs.Laid.{Laid};
 ghost use Rattle.image.specs.Accepted.{Accepted};
 ghost use Rattle.forms.specs.Slots.{slotLength};
-ghost use Rattle.orders.specs.Orders.{keyEntry, ArrangedTo};
+ghost use Rattle.orders.specs.Orders.{ArrangedTo};
 ghost use Rattle.forms.specs.Filling.{Copied, SlotPut, SlotsOf, Shares, SharedOf, FirstsCleared, SkipAt, SkipsOf, Held, Sharing};
 use image::Header;
 

@@ -8,6 +8,7 @@ use Rattle.model.specs.Refusals.{Verdict}
 use Rattle.model.specs.Calls.{Sealing}
 use Rattle.model.specs.Beside.{Judgement, FormReply, Spelling}
 use Rattle.shares.specs.Words.{ManyReply}
+use Rattle.conversion.specs.Conversion.{Conversion}
 
 abbrev pub refusedNumber : ℕ → ℕ
 refusedNumber k = 4 * k + 3
@@ -37,6 +38,10 @@ afterForm form buffer = whereRoom form buffer
 abbrev pub spellingNumber : Spelling → ℕ
 spellingNumber (Spelling.letters n) = 4 * n + 1
 spellingNumber (Spelling.refused k) = refusedNumber k
+
+abbrev pub conversionNumber : Conversion → ℕ
+conversionNumber Conversion.converted = 1
+conversionNumber (Conversion.refused k) = refusedNumber k
 
 -- "otherwise the reply is 4n + 1"
 abbrev pub manyNumber : ManyReply → ℕ

@@ -7,9 +7,11 @@ ghost use Rattle.model.specs.Rows.{rowCount, replyNumber};
 ghost use Rattle.model.specs.Calls.{sealingReply, afterSealing, listingReply, afterListing};
 ghost use Rattle.model.specs.Beside.{judged, formReply, viewed, spellingReply, afterSpelling};
 ghost use Rattle.judge.specs.Answers.{judgementOf};
+ghost use Rattle.conversion.specs.Conversion.{conversionReply, afterConversion};
 ghost use Rattle.shares.specs.Words.{manyReply, afterReplies, afterRows};
 ghost use Rattle.written_rules.specs.Judged.{rulesJudged};
-ghost use Rattle.headwords.specs.Numbers.{refusedNumber, verdictNumber, sealingNumber, judgementNumber, formNumber, afterForm, spellingNumber, manyNumber};
+ghost use Rattle.headwords.specs.Numbers.{refusedNumber, verdictNumber, sealingNumber, judgementNumber, formNumber, afterForm, spellingNumber, conversionNumber, manyNumber};
+use converter::Conversion;
 use grammar::FormReply;
 use grammar::Verdict;
 use image::seal::Sealing;
@@ -110,6 +112,17 @@ pub extern "C" fn headwords_spell(image: &[u8], points: &[u8], letters: &mut [u8
     match spelling::spell(image, points, letters) {
         Spelling::Letters(n) => 4 * (n as u64) + 1,
         Spelling::Refused(k) => refusal(k),
+    }
+}
+
+#[no_mangle]
+pub extern "C" fn headwords_convert(image: &[u8], target: &mut [u8]) -> u64
+    ensures reply { λ r. ⌜ r ≡ conversionNumber (conversionReply (now (image .entry)) (length (now (target .entry)))) ⌝ }
+    ensures bytes { λ _. ⌜ now (target .exit) ≡ afterConversion (now (image .entry)) (now (target .entry)) ⌝ }
+{
+    match converter::convert(image, target) {
+        Conversion::Converted => 1,
+        Conversion::Refused(k) => refusal(k),
     }
 }
 

@@ -225,7 +225,8 @@ place-few form kind is = go (eqb form 2 && eqb kind 6)
 
 -- a table with a place more, for the entries of form 2
 pub by-form : (two : Bool) (none a b c d e f g other kind : ℕ) → IsKind kind
-    → getD (none ∷ a ∷ b ∷ c ∷ d ∷ e ∷ f ∷ g ∷ other ∷ []) (cond (two && eqb kind 6) 8 kind) 0 ≡ getD (none ∷ a ∷ b ∷ c ∷ d ∷ e ∷ cond two other f ∷ g ∷ []) kind 0
+    → getD (none ∷ a ∷ b ∷ c ∷ d ∷ e ∷ f ∷ g ∷ other ∷ []) (cond (two && eqb kind 6) 8 kind) 0
+    ≡ getD (none ∷ a ∷ b ∷ c ∷ d ∷ e ∷ cond two other f ∷ g ∷ []) kind 0
 by-form two none a b c d e f g other zero is = absurd (omega arith)
 by-form true none a b c d e f g other (suc zero) is = refl
 by-form true none a b c d e f g other (suc (suc zero)) is = refl

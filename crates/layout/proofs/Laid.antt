@@ -106,6 +106,12 @@ pub laid : (image : List ℕ) → rightLength image ≡ true → rightLayout ima
 unfolding rightLayout
 laid image a b =
     let h = header image in
-    let t = out4 (within 1 2 (h .form)) (withinLimits h) (eqb (blockCount image) (blockTotal h)) (every (λ k. laidOut h k (block image k)) (below (blockCount image))) (of-true (rightLayout image) b) in
+    let t = out4 (within 1 2 (h .form)) (withinLimits h) (eqb (blockCount image) (blockTotal h)) (every (λ k. laidOut h k (block image k)) (below (blockCount image)))
+    (of-true (rightLayout image) b) in
     let n = eqb→eq (blockCount image) (blockTotal h) (t .2) in
-    record { header-is = refl; whole = right-blocks image a ∙ ap (λ (m : ℕ). 512 * m) n; limits = limited h (counted-of h (true-of (withinLimits h) (t .1))) (true-of (within 1 2 (h .form)) (t .0)) (omega (arith, right-few image a)) }
+    record {
+      header-is = refl;
+      whole = right-blocks image a ∙ ap (λ (m : ℕ). 512 * m) n;
+      limits =
+          limited h (counted-of h (true-of (withinLimits h) (t .1))) (true-of (within 1 2 (h .form)) (t .0)) (omega (arith, right-few image a));
+    }

@@ -6,7 +6,6 @@ use native.Mathlib.Omega.{arith}
 use native.Mathlib.Decide.{decLt, decLe}
 use mathlib.Core.Bool.{Bool, true, false, _&&_, _||_, not, cond}
 use mathlib.Core.Path.{_≡_, refl, sym, ap, ap₂, _∙_, subst}
-use mathlib.Core.Logic.{_⊎_, inl, inr}
 use mathlib.Core.List.{List, [], _∷_, _++_, map, List·Memᴰ, List·Memᴰ·head, List·Memᴰ·tail}
 use lib.ListN.{length, take, drop, length-take, length-drop}
 use lib.Seq.{drop-drop, take-take, getD-take, getD-drop}
@@ -15,7 +14,7 @@ use borrow.Author.Tests.{le-leb, lt-leb}
 use Rattle.model.specs.Lists.{below, every, any, sum, within, isZero, byte, bit, number}
 use Rattle.model.specs.Blocks.{Header, kinds, entryWidth, recordWidth, firstBlock, recordStart}
 use Rattle.model.specs.RuleTables.{inSet}
-use Rattle.model.specs.Lexicon.{mayStop, goesTo, rightWays, entryCount, firstEntry, inLexicon, entry, formLength, formOf, continuation, isEntryOf, isEntry}
+use Rattle.model.specs.Lexicon.{mayStop, goesTo, rightWays, entryCount, firstEntry, inLexicon, entry, formLength, formOf, isEntryOf, isEntry}
 use Rattle.model.specs.Refusals.{rightEntries}
 use Rattle.model.specs.Beside.{formStart}
 use Rattle.model.proofs.Booleans.{and-out, and-in, out4, within-out}
@@ -72,15 +71,21 @@ module _ (l : List ℕ) (width : ℕ) where
   unfolding rightWays
   ways-cut form lexicons wide = go (eqb form 2) wide
     where
-      many : 24 ≤ width → (leb (byte (take width l) 13) 1 && every (λ x. ltb x lexicons || not (goesTo (take width l) 2 x)) (below 64) && (mayStop (take width l) 2 || any (goesTo (take width l) 2) (below 64))) ≡ (leb (byte l 13) 1 && every (λ x. ltb x lexicons || not (goesTo l 2 x)) (below 64) && (mayStop l 2 || any (goesTo l 2) (below 64)))
+      -- the ways of form 2, and of either
+      manyWays : List ℕ → Bool
+      manyWays e = leb (byte e 13) 1 && every (λ x. ltb x lexicons || not (goesTo e 2 x)) (below 64) && (mayStop e 2 || any (goesTo e 2) (below 64))
+
+      waysBy : Bool → List ℕ → Bool
+      waysBy two e = cond two (manyWays e) (ltb (byte e 13) lexicons || eqb (byte e 13) 255)
+
+      many : 24 ≤ width → manyWays (take width l) ≡ manyWays l
       many wide = λ i.
           leb (byte-cut (omega arith) i) 1
-          && every-same (λ x. ltb x lexicons || not (goesTo (take width l) 2 x)) (λ x. ltb x lexicons || not (goesTo l 2 x)) (below 64) (λ x m. ap (λ (b : Bool). ltb x lexicons || not b) (goes-cut x (below-from 64 x m) wide)) i
+          && every-same (λ x. ltb x lexicons || not (goesTo (take width l) 2 x)) (λ x. ltb x lexicons || not (goesTo l 2 x)) (below 64)
+          (λ x m. ap (λ (b : Bool). ltb x lexicons || not b) (goes-cut x (below-from 64 x m) wide)) i
           && (stop-cut 2 (omega arith) i || any-same (goesTo (take width l) 2) (goesTo l 2) (below 64) (λ x m. goes-cut x (below-from 64 x m) wide) i)
 
-      go : (b : Bool) → cond b 24 16 ≤ width
-          → cond b (leb (byte (take width l) 13) 1 && every (λ x. ltb x lexicons || not (goesTo (take width l) 2 x)) (below 64) && (mayStop (take width l) 2 || any (goesTo (take width l) 2) (below 64))) (ltb (byte (take width l) 13) lexicons || eqb (byte (take width l) 13) 255)
-          ≡ cond b (leb (byte l 13) 1 && every (λ x. ltb x lexicons || not (goesTo l 2 x)) (below 64) && (mayStop l 2 || any (goesTo l 2) (below 64))) (ltb (byte l 13) lexicons || eqb (byte l 13) 255)
+      go : (b : Bool) → cond b 24 16 ≤ width → waysBy b (take width l) ≡ waysBy b l
       go true wide = many wide
       go false wide = ap (λ (n : ℕ). ltb n lexicons || eqb n 255) (byte-cut (omega arith))
 
@@ -184,7 +189,8 @@ module _ (image : List ℕ) (h : Header) (laid : Laid image h) where
   -- test 8 by the header's counts
   pub right-is : rightEntries image ≡ (eqb (firstEntry image (h .lexicons)) (h .entries) && every (λ e. isEntry (entry image e) (h .form) (h .letters) (h .lexicons)) (below (h .entries)))
   unfolding rightEntries firstEntry
-  right-is = ap (λ (g : Header). eqb (firstEntry image (g .lexicons)) (g .entries) && every (λ e. isEntry (entry image e) (g .form) (g .letters) (g .lexicons)) (below (g .entries))) (sym (laid .header-is))
+  right-is = ap (λ (g : Header). eqb (firstEntry image (g .lexicons)) (g .entries) && every (λ e. isEntry (entry image e) (g .form) (g .letters) (g .lexicons)) (below (g .entries)))
+      (sym (laid .header-is))
 
 -- sums of counts
 sum-more : (xs : List ℕ) (x : ℕ) → sum (xs ++ (x ∷ [])) ≡ sum xs + x
@@ -254,10 +260,14 @@ module _ (image : List ℕ) (h : Header) (laid : Laid image h) (right : T (right
   entry-right e l = every-at (λ e. isEntry (entry image e) (h .form) (h .letters) (h .lexicons)) (below (h .entries)) (below-has (h .entries) e l) (right-parts .1)
 
   module _ (e : ℕ) (within-entries : e < h .entries) where
-    entry-parts : T (leb (formLength (entry image e)) 12) × T (every (within 2 (h .letters)) (formOf (entry image e))) × T (every isZero (drop (1 + formLength (entry image e)) (take 13 (entry image e)))) × T (rightWays (entry image e) (h .form) (h .lexicons))
+    abbrev own : List ℕ
+    own = entry image e
+
+    entry-parts : T (leb (formLength own) 12) × T (every (within 2 (h .letters)) (formOf own)) × T (every isZero (drop (1 + formLength own) (take 13 own)))
+        × T (rightWays own (h .form) (h .lexicons))
     unfolding isEntryOf isEntry
     entry-parts =
-        out4 (leb (formLength (entry image e)) 12) (every (within 2 (h .letters)) (formOf (entry image e))) (every isZero (drop (1 + formLength (entry image e)) (take 13 (entry image e)))) (rightWays (entry image e) (h .form) (h .lexicons))
+        out4 (leb (formLength own) 12) (every (within 2 (h .letters)) (formOf own)) (every isZero (drop (1 + formLength own) (take 13 own))) (rightWays own (h .form) (h .lexicons))
         (entry-right e within-entries)
 
     pub ways-right : T (rightWays (entry image e) (h .form) (h .lexicons))

@@ -1,12 +1,12 @@
 -- Entries by their marked letters: test 8 where the letters from 2 to L are marked, tests 8 and 14 where the lexical sides of the pairs are.
 use Prim.Native.Nat.{ℕ, _+_, _-_, _<_, _≤_}
 use native.Mathlib.Omega.{arith}
-use mathlib.Core.Bool.{Bool, true, false, _&&_, _||_, not}
+use mathlib.Core.Bool.{Bool, true, false, _&&_, not}
 use mathlib.Core.Path.{_≡_, refl, sym, ap, ap₂, _∙_, subst}
 use mathlib.Core.List.{List}
 use lib.ListN.{length, getD, take, drop, length-drop}
 use lib.Seq.{getD-drop}
-use lib.Dec.{T, leb, ltb, eqb}
+use lib.Dec.{T, leb, eqb}
 use Rattle.model.specs.Lists.{below, every, within, isZero}
 use Rattle.model.specs.Blocks.{Header}
 use Rattle.model.specs.Lexicon.{firstEntry, entry, formLength, formOf, rightWays, isEntryOf, isEntry}
@@ -64,7 +64,8 @@ module _ (image : List ℕ) (h : Header) (laid : Laid image h) where
   unfolding isEntry
   letters-lexicon =
       ap (λ (b : Bool). counts && b)
-      (every-same (λ e. isEntryOf (entry image e) (h .form) (isMarked (marksOf (within 2 (h .letters)))) (h .lexicons)) (λ e. isEntry (entry image e) (h .form) (h .letters) (h .lexicons)) (below (h .entries))
+      (every-same (λ e. isEntryOf (entry image e) (h .form) (isMarked (marksOf (within 2 (h .letters)))) (h .lexicons)) (λ e. isEntry (entry image e) (h .form) (h .letters) (h .lexicons))
+      (below (h .entries))
       (λ e m. entry-same (entry image e) (h .form) (h .lexicons) (isMarked (marksOf (within 2 (h .letters)))) (within 2 (h .letters)) (letter-marked (h .letters) (laid .limits .letters-most))))
       ∙ sym (right-is image h laid)
 
@@ -95,12 +96,14 @@ module _ (image : List ℕ) (h : Header) (laid : Laid image h) where
   unfolding isEntry
   spelled-lexicon right =
       ap (λ (b : Bool). counts && b)
-      (every-same (λ e. isEntryOf (entry image e) (h .form) (isMarked (marksOf (isFormLetter image))) (h .lexicons)) (λ e. isEntry (entry image e) (h .form) (h .letters) (h .lexicons) && every (isLexical image) (formOf (entry image e))) (below (h .entries)) (λ e m. looked e)
+      (every-same (λ e. isEntryOf (entry image e) (h .form) (isMarked (marksOf (isFormLetter image))) (h .lexicons))
+      (λ e. isEntry (entry image e) (h .form) (h .letters) (h .lexicons) && every (isLexical image) (formOf (entry image e))) (below (h .entries)) (λ e m. looked e)
       ∙ every-and (λ e. isEntry (entry image e) (h .form) (h .letters) (h .lexicons)) (λ e. every (isLexical image) (formOf (entry image e))) (below (h .entries)))
       ∙ and-assoc counts each (every (λ e. every (isLexical image) (formOf (entry image e))) (below (h .entries)))
       ∙ ap₂ (λ (a b : Bool). a && b) (sym (right-is image h laid)) (sym forms-is)
     where
-      looked : (e : ℕ) → isEntryOf (entry image e) (h .form) (isMarked (marksOf (isFormLetter image))) (h .lexicons) ≡ (isEntry (entry image e) (h .form) (h .letters) (h .lexicons) && every (isLexical image) (formOf (entry image e)))
+      looked : (e : ℕ) → isEntryOf (entry image e) (h .form) (isMarked (marksOf (isFormLetter image))) (h .lexicons)
+          ≡ (isEntry (entry image e) (h .form) (h .letters) (h .lexicons) && every (isLexical image) (formOf (entry image e)))
       looked e =
           entry-same (entry image e) (h .form) (h .lexicons) (isMarked (marksOf (isFormLetter image))) (λ a. within 2 (h .letters) a && isLexical image a) (lexical-is right)
           ∙ entry-both (entry image e) (h .form) (h .lexicons) (within 2 (h .letters)) (isLexical image)

@@ -1,12 +1,12 @@
 -- The ways on of an entry as a number of 64 bits, and what test 8 asks of it.
-use Prim.Native.Nat.{ℕ, zero, suc, _+_, _*_, _-_, _/_, _%_, _^_, _<_, _≤_}
+use Prim.Native.Nat.{ℕ, zero, suc, _+_, _-_, _/_, _%_, _^_, _<_, _≤_}
 use native.Mathlib.Nat.{zero-add, suc-add, pow-succ'}
 use native.Mathlib.Omega.{arith}
 use native.Mathlib.Decide.{decLt, ℕ-discrete}
 use mathlib.Core.Bool.{Bool, true, false, _&&_, _||_, not, cond}
-use mathlib.Core.Path.{_≡_, refl, sym, ap, ap₂, _∙_, subst}
+use mathlib.Core.Path.{_≡_, refl, sym, ap, _∙_, subst}
 use mathlib.Core.List.{List, [], _∷_}
-use lib.ListN.{length, getD, take, drop}
+use lib.ListN.{drop}
 use lib.Dec.{T, leb, ltb, eqb, ltb→lt, lt→ltb, eqb→eq, T-not, not-T}
 use borrow.Author.Tests.{le-ltb, lt-leb, eq-eqb, ne-eqb}
 use Rattle.model.specs.Lists.{below, every, any, byte, bit}
@@ -65,7 +65,8 @@ module _ (l : List ℕ) (bits : ℕ) (names : Names (inSet (drop 16 l)) bits) (s
   named-is lexicons few =
       both-ways (ltb bits (2 ^ lexicons)) (every (λ x. ltb x lexicons || not (goesTo l 2 x)) (below 64))
       (λ t. every-in (λ x. ltb x lexicons || not (goesTo l 2 x)) (below 64) (λ x m. to x (below-from 64 x m) (ltb→lt bits (2 ^ lexicons) t) (decLt x lexicons)))
-      (λ t. lt→ltb bits (2 ^ lexicons) (digits-low lexicons (64 - lexicons) bits (subst (λ (i : ℕ). bits < 2 ^ i) all small) (λ x a b. from x a (omega arith) (every-at (λ x. ltb x lexicons || not (goesTo l 2 x)) (below 64) (below-has 64 x (omega arith)) t))))
+      (λ t. lt→ltb bits (2 ^ lexicons) (digits-low lexicons (64 - lexicons) bits (subst (λ (i : ℕ). bits < 2 ^ i) all small)
+      (λ x a b. from x a (omega arith) (every-at (λ x. ltb x lexicons || not (goesTo l 2 x)) (below 64) (below-has 64 x (omega arith)) t))))
     where
       all : 64 ≡ lexicons + (64 - lexicons)
       all = omega arith

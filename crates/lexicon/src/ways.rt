@@ -1,17 +1,17 @@
 // The ways on of an entry: the lexicons that it names, as binary digits of a number, and whether a path may stop at it.
 ghost use mathlib.Core.Path.{_≡_};
 ghost use mathlib.Core.Bool.{_||_};
-ghost use mathlib.Core.List.{[], _∷_};
-ghost use Prim.Native.Nat.{ℕ, _+_, _<_, _≤_, _^_};
+ghost use mathlib.Core.List.{[]};
+ghost use Prim.Native.Nat.{_+_, _<_, _≤_, _^_};
 ghost use lib.ListN.{length, drop};
 ghost use lib.Dec.{ltb, eqb};
-ghost use Rattle.model.specs.Lists.{byte, bit};
+ghost use Rattle.model.specs.Lists.{byte};
 ghost use Rattle.model.specs.Blocks.{entryWidth};
 ghost use Rattle.model.specs.RuleTables.{inSet};
 ghost use Rattle.model.specs.Lexicon.{entry, mayStop, goesTo, rightWays};
 ghost use Rattle.image.specs.Header.{headerOf};
-ghost use Rattle.image.specs.Laid.{Limited, Laid};
-ghost use Rattle.digits.specs.Ways.{numberOf, Names};
+ghost use Rattle.image.specs.Laid.{Laid};
+ghost use Rattle.digits.specs.Ways.{Names};
 ghost use Rattle.lexicon.specs.Sole.{Sole, WayOf};
 use image::Header;
 

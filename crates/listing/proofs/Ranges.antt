@@ -15,8 +15,8 @@ use Rattle.model.specs.Lexicon.{firstEntry, entryCount, inLexicon, entry, goesT
 use Rattle.model.specs.GrammarOf.{grammarOf}
 use Rattle.model.specs.Query.{Pattern, anything, exactly, entryNumbers}
 use Rattle.model.specs.Refusals.{rightEntries}
-use Rattle.model.proofs.Booleans.{and-out, left-false, right-true, right-false, of-true, true-of, false-of, eq→eqb}
-use Rattle.model.proofs.Lists.{length-map-below, getD-map-below, below-has, below-from, any-has, any-from, bit-none}
+use Rattle.model.proofs.Booleans.{and-out, left-false, right-true, right-false, of-true, true-of, false-of}
+use Rattle.model.proofs.Lists.{length-map-below, getD-map-below, below-from, any-from, bit-none}
 use Rattle.image.specs.Accepted.{Accepted}
 use Rattle.image.specs.Index.{indexOf}
 use Rattle.index.proofs.Laws.{length-indexOf, lexicon-number}
@@ -28,7 +28,7 @@ use Rattle.rules.proofs.PathLaws.{any-same, some-here}
 use Rattle.listing.specs.declared.opening.Ways.{Ways}
 use Rattle.listing.specs.declared.opening.Next.{Next}
 use Rattle.listing.specs.Places.{root, ended, waysAfter}
-use Rattle.listing.specs.Opening.{mayEnter, mayEnterSome, Known, SetOf, WaysOf, NextOf, NextWays}
+use Rattle.listing.specs.Opening.{mayEnterSome, Known, SetOf, WaysOf, NextWays}
 
 module _ (image : List ℕ) (x : ℕ) where
   in-range : (e : ℕ) → firstEntry image x ≤ e → e < firstEntry image x + entryCount image x → inLexicon image x e ≡ true
@@ -97,7 +97,8 @@ module _ (image : List ℕ) (lexicons : ℕ) where
           omega (arith, ap (firstEntry image) same)
 
 -- lexicon x is passed over from a number on: that is not before its end, or it has no entry
-pub passed-over : (image : List ℕ) (x from low high first : ℕ) → low ≡ firstEntry image x → high ≡ firstEntry image x + entryCount image x → high ≤ first → (first ≡ from) ⊎ (first ≡ low) → (e : ℕ) → from ≤ e → inLexicon image x e ≡ false
+pub passed-over : (image : List ℕ) (x from low high first : ℕ) → low ≡ firstEntry image x → high ≡ firstEntry image x + entryCount image x → high ≤ first
+    → (first ≡ from) ⊎ (first ≡ low) → (e : ℕ) → from ≤ e → inLexicon image x e ≡ false
 passed-over image x from low high first e1 e2 h is e k = go (decLt e (firstEntry image x))
   where
     go : Dec (e < firstEntry image x) → inLexicon image x e ≡ false
@@ -142,7 +143,8 @@ module _ (image : List ℕ) (may : ℕ → Bool) (ways : Ways) (w : WaysOf image
   next-past h n = next-as (λ e k. w .past e (omega arith)) n
 
 -- the next of a set, where `rest` is left of it
-module _ (image : List ℕ) (h : Header) (a : Accepted image h) (bits rest from : ℕ) (few : from ≤ h .entries) (same : (e : ℕ) → from ≤ e → inSome image (header image .lexicons) bits e ≡ inSome image (header image .lexicons) rest e) where
+module _ (image : List ℕ) (h : Header) (a : Accepted image h) (bits rest from : ℕ) (few : from ≤ h .entries)
+    (same : (e : ℕ) → from ≤ e → inSome image (header image .lexicons) bits e ≡ inSome image (header image .lexicons) rest e) where
   abbrev lexicons : ℕ
   lexicons = header image .lexicons
 
@@ -152,7 +154,13 @@ module _ (image : List ℕ) (h : Header) (a : Accepted image h) (bits rest from 
   pub set-done : rest ≡ 0 → NextWays image (inSome image lexicons bits) from (record { entry = h .entries; ways = record { low = h .entries; high = h .entries; rest = 0 } })
   set-done none = next-as same (record {
     next = record { onward = few; in-bound = omega (arith, many); passed = λ k i j. nothing k; passes = λ i. absurd (omega (arith, many)) };
-    ways = record { low-in = omega (arith, many); in-bound = omega (arith, many); known = λ x t. absurd (subst T (bit-none x) t); inside = λ e k l. absurd (omega arith); past = λ e k. ap (λ (n : ℕ). inSome image lexicons n e) none };
+    ways = record {
+      low-in = omega (arith, many);
+      in-bound = omega (arith, many);
+      known = λ x t. absurd (subst T (bit-none x) t);
+      inside = λ e k l. absurd (omega arith);
+      past = λ e k. ap (λ (n : ℕ). inSome image lexicons n e) none;
+    };
     low-is = refl;
     high-in = omega arith;
   })
@@ -160,7 +168,8 @@ module _ (image : List ℕ) (h : Header) (a : Accepted image h) (bits rest from 
       nothing : (k : ℕ) → inSome image lexicons rest k ≡ false
       nothing k = ap (λ (n : ℕ). inSome image lexicons n k) none ∙ some-none image lexicons k
 
-  pub set-found : Known rest lexicons → (x : ℕ) → Lowest rest x → (low high first : ℕ) → low ≡ firstEntry image x → high ≡ firstEntry image x + entryCount image x → from ≤ first → low ≤ first → (first ≡ from) ⊎ (first ≡ low) → first < high
+  pub set-found : Known rest lexicons → (x : ℕ) → Lowest rest x → (low high first : ℕ) → low ≡ firstEntry image x → high ≡ firstEntry image x + entryCount image x
+      → from ≤ first → low ≤ first → (first ≡ from) ⊎ (first ≡ low) → first < high
       → NextWays image (inSome image lexicons bits) from (record { entry = first; ways = record { low = first; high = high; rest = rest - 2 ^ x } })
   set-found known x lowest low high first e1 e2 k l is m = next-as same (record {
     next = record { onward = k; in-bound = omega (arith, within); passed = λ i p q. before i p q is; passes = λ i. here first (omega arith) m };
@@ -179,7 +188,12 @@ module _ (image : List ℕ) (h : Header) (a : Accepted image h) (bits rest from 
       inside = known x (lowest .there)
 
       within : high ≤ header image .entries
-      within = omega (arith, entries.lexicon-within image h (a .laid) (of-true (rightEntries image) (a .entries-right)) x (omega (arith, inside, ap (λ (g : Header). g .lexicons) (a .laid .header-is))), many)
+      within = omega (
+        arith,
+        entries.lexicon-within image h (a .laid) (of-true (rightEntries image) (a .entries-right)) x
+            (omega (arith, inside, ap (λ (g : Header). g .lexicons) (a .laid .header-is))),
+        many,
+      )
 
       here : (e : ℕ) → low ≤ e → e < high → inSome image lexicons rest e ≡ true
       here e i j = some-here image lexicons rest e x inside (rw (true-of (bit rest x) (lowest .there), in-range image x e (omega arith) (omega arith)) refl)
@@ -191,7 +205,13 @@ module _ (image : List ℕ) (h : Header) (a : Accepted image h) (bits rest from 
 module _ (image : List ℕ) (bits : ℕ) (known : Known bits (header image .lexicons)) where
   -- any path: all of the set
   pub anything-ways : (n : ℕ) → WaysOf image (mayEnterSome image anything bits n) (record { low = 0; high = 0; rest = bits })
-  anything-ways n = record { low-in = omega arith; in-bound = omega arith; known = known; inside = λ e k l. absurd (omega arith); past = λ e k. right-true (inSome image (header image .lexicons) bits e) true refl }
+  anything-ways n = record {
+    low-in = omega arith;
+    in-bound = omega arith;
+    known = known;
+    inside = λ e k l. absurd (omega arith);
+    past = λ e k. right-true (inSome image (header image .lexicons) bits e) true refl;
+  }
 
   module _ (path : List ℕ) (n : ℕ) where
     abbrev t : Pattern
@@ -222,7 +242,13 @@ module _ (image : List ℕ) (bits : ℕ) (known : Known bits (header image .lexi
     asked-one k e g = rw (lt-ltb n (length (entryNumbers path)) (omega (arith, numbers)), eq-eqb (getD (entryNumbers path) n 0) e (numbered k ∙ g)) refl
 
     none : ((e : ℕ) → (some e && asked e) ≡ false) → WaysOf image (mayEnterSome image t bits n) (record { low = 0; high = 0; rest = 0 })
-    none f = record { low-in = omega arith; in-bound = omega arith; known = λ x s. absurd (subst T (bit-none x) s); inside = λ e k l. absurd (omega arith); past = λ e k. f e ∙ sym (some-none image (header image .lexicons) e) }
+    none f = record {
+      low-in = omega arith;
+      in-bound = omega arith;
+      known = λ x s. absurd (subst T (bit-none x) s);
+      inside = λ e k l. absurd (omega arith);
+      past = λ e k. f e ∙ sym (some-none image (header image .lexicons) e);
+    }
 
     pub exactly-past : length path / 2 ≤ n → WaysOf image (mayEnterSome image t bits n) (record { low = 0; high = 0; rest = 0 })
     exactly-past k = none (λ e. right-false (some e) (asked e) (not-past k e))
@@ -269,11 +295,13 @@ root-set image last h some = record {
   some = λ e. rw (eq-eqb last root h) (sym (some-one image (header image .lexicons) 0 some e));
 }
 
-pub entry-ways : (image : List ℕ) (last bits : ℕ) → last < ended → header image .lexicons ≤ 64 → Names (goesTo (entry image last) (header image .form)) bits → (e : ℕ) → waysAfter image last e ≡ inSome image (header image .lexicons) bits e
+pub entry-ways : (image : List ℕ) (last bits : ℕ) → last < ended → header image .lexicons ≤ 64 → Names (goesTo (entry image last) (header image .form)) bits → (e : ℕ)
+    → waysAfter image last e ≡ inSome image (header image .lexicons) bits e
 unfolding waysAfter grammarOf
 entry-ways image last bits h few names e =
     rw (ne-eqb last root (λ f. omega arith), ne-eqb last ended (λ f. omega arith))
-    (any-same (λ x. goesTo (entry image last) (header image .form) x && inLexicon image x e) (λ x. bit bits x && inLexicon image x e) (below (header image .lexicons)) (λ x m. ap (λ (b : Bool). b && inLexicon image x e) (names x (omega (arith, below-from (header image .lexicons) x m)))))
+    (any-same (λ x. goesTo (entry image last) (header image .form) x && inLexicon image x e) (λ x. bit bits x && inLexicon image x e) (below (header image .lexicons))
+    (λ x m. ap (λ (b : Bool). b && inLexicon image x e) (names x (omega (arith, below-from (header image .lexicons) x m)))))
 
 -- the index's row of lexicons
 module _ (image index : List ℕ) (h : Header) (a : Accepted image h) (is : index ≡ indexOf image) (x : ℕ) (inside : x < h .lexicons) where

@@ -1,5 +1,5 @@
 -- Where no entry both ends a path and goes on, the order of the step lists with endings is that of document 01's step lists. So it is for every image of form 1.
-use Prim.Native.Nat.{ℕ, zero, suc, _+_}
+use Prim.Native.Nat.{ℕ, zero, suc, _+_, _<_}
 use mathlib.Core.Bool.{Bool, true, false, _&&_, not}
 use mathlib.Core.Path.{_≡_, refl, sym, ap, _∙_, subst}
 use mathlib.Core.Logic.{inl, inr}
@@ -12,14 +12,15 @@ use Rattle.model.specs.Lists.{below, every, any, joined, sameList, byte}
 use Rattle.model.specs.Blocks.{header}
 use Rattle.model.specs.Grammar.{Grammar, OneWay}
 use Rattle.model.specs.GrammarOf.{grammarOf}
-use Rattle.model.specs.Readings.{Reading, stepsBy, withoutNulls, spelled, afterLetter, upTo, beyond, endingList, stepList, endingSteps, steps, Before, Ascending, isReading, isPath, isLinked, pairingLength, fewNulls, isLine, passes}
+use Rattle.model.specs.Readings.{Reading, stepsBy, withoutNulls, spelled, afterLetter, upTo, beyond, endingList, stepList, endingSteps}
+use Rattle.model.specs.Readings.{steps, Before, Ascending, isReading, isPath, isLinked, pairingLength, fewNulls, isLine, passes}
 use Rattle.model.specs.Lexicon.{inLexicon, entry, mayStop, goesTo, linked, pathLength}
 use Rattle.model.specs.Query.{Query}
 use Rattle.model.specs.Tree.{readings}
 use Rattle.model.specs.Calls.{stepsOf}
 use Rattle.model.proofs.Listing.{ListsBy, IsListing, listing}
-use Rattle.model.proofs.Booleans.{and-out, not-both, out3, out8, same-out}
-use Rattle.model.proofs.Lists.{map-from, any-from}
+use Rattle.model.proofs.Booleans.{and-in, and-out, not-both, out3, out8, same-out}
+use Rattle.model.proofs.Lists.{map-from, any-from, any-has, below-has}
 
 letters-left : (a k t : ℕ) (xs : List ℕ) → length (withoutNulls (a ∷ xs)) ≡ suc k + t → length (withoutNulls xs) ≡ afterLetter a (suc k) + t
 letters-left zero k t xs e = e
@@ -116,6 +117,13 @@ module _ (g : Grammar) where
   ends-last w may stop (x ∷ es) e f fs t s =
       let u = out3 (may x) (ltb x (g .entries)) (onward x (es ++ (e ∷ f ∷ fs))) t in
       ends-last w (g .follows x) (g .ends x) es e f fs (u .2) s
+
+-- an entry may follow where it is in a lexicon that is named, whichever of them it is
+pub image-follows : (image : List ℕ) (e f x : ℕ) → x < header image .lexicons → T (goesTo (entry image e) (header image .form) x) → T (inLexicon image x f) → T (grammarOf image .follows e f)
+unfolding grammarOf
+image-follows image e f x l named there =
+    any-has (λ x. goesTo (entry image e) (header image .form) x && inLexicon image x f) (below (header image .lexicons)) (below-has (header image .lexicons) x l)
+    (and-in (goesTo (entry image e) (header image .form) x) (inLexicon image x f) named there)
 
 -- an entry of an image of form 1 has one way on
 no-way : (r : List ℕ) (form x : ℕ) → form ≡ 1 → T (mayStop r form) → T (goesTo r form x) → ⊥

@@ -1,7 +1,7 @@
 // The lexicons whose reach is worth finding, in the order in which it is best found: those that some entry goes on to, of at most 256 entries, their own
 // continuations first where that can be. The order is one of speed alone.
 ghost use mathlib.Core.Path.{_≡_};
-ghost use Prim.Native.Nat.{ℕ, _<_, _≤_};
+ghost use Prim.Native.Nat.{_<_, _≤_};
 ghost use lib.ListN.{length};
 ghost use Rattle.image.specs.Header.{headerOf};
 ghost use Rattle.image.specs.Accepted.{Accepted};

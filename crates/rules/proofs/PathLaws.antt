@@ -75,15 +75,23 @@ abbrev pub linkedFrom : List ℕ → ℕ → Bool → List ℕ → Bool
 linkedFrom image bits stop es = linked (grammarOf image .entries) (grammarOf image .follows) (grammarOf image .ends) (inSome image (header image .lexicons) bits) stop es
 
 module _ (image : List ℕ) where
-  linked-may : (es : List ℕ) (may other : ℕ → Bool) (stop : Bool) → ((e : ℕ) → may e ≡ other e) → linked (grammarOf image .entries) (grammarOf image .follows) (grammarOf image .ends) may stop es ≡ linked (grammarOf image .entries) (grammarOf image .follows) (grammarOf image .ends) other stop es
+  -- linked, by what may come first
+  abbrev linkedBy : (ℕ → Bool) → Bool → List ℕ → Bool
+  linkedBy may stop es = linked (grammarOf image .entries) (grammarOf image .follows) (grammarOf image .ends) may stop es
+
+  linked-may : (es : List ℕ) (may other : ℕ → Bool) (stop : Bool) → ((e : ℕ) → may e ≡ other e)
+      → linkedBy may stop es ≡ linkedBy other stop es
   unfolding linked
   linked-may [] may other stop same = refl
   linked-may (e ∷ es) may other stop same =
-      ap (λ (b : Bool). b && ltb e (grammarOf image .entries) && linked (grammarOf image .entries) (grammarOf image .follows) (grammarOf image .ends) (grammarOf image .follows e) (grammarOf image .ends e) es) (same e)
+      ap (λ (b : Bool). b && ltb e (grammarOf image .entries) && linkedBy (grammarOf image .follows e) (grammarOf image .ends e) es) (same e)
 
   pub linked-start : 1 ≤ header image .lexicons → (es : List ℕ) → linkedFrom image 1 false es ≡ isLinked (grammarOf image) es
   unfolding grammarOf
-  linked-start some es = linked-may es (inSome image (header image .lexicons) 1) (inLexicon image 0) false (λ e. any-same (λ x. bit 1 x && inLexicon image x e) (λ x. eqb 0 x && inLexicon image x e) (below (header image .lexicons)) (λ x m. ap (λ (b : Bool). b && inLexicon image x e) (power-bit 0 x)) ∙ any-one (λ x. inLexicon image x e) 0 (header image .lexicons) some)
+  linked-start some es =
+      linked-may es (inSome image (header image .lexicons) 1) (inLexicon image 0) false
+      (λ e. any-same (λ x. bit 1 x && inLexicon image x e) (λ x. eqb 0 x && inLexicon image x e) (below (header image .lexicons))
+      (λ x m. ap (λ (b : Bool). b && inLexicon image x e) (power-bit 0 x)) ∙ any-one (λ x. inLexicon image x e) 0 (header image .lexicons) some)
 
   pub linked-end : (bits : ℕ) (stop : Bool) (i : ℕ) (es : List ℕ) → length es ≤ i → linkedFrom image bits stop (drop i es) ≡ stop
   unfolding linked
@@ -92,17 +100,20 @@ module _ (image : List ℕ) where
   abbrev pub mayOpen : ℕ → ℕ → ℕ → Bool
   mayOpen bits e entries = inSome image (header image .lexicons) bits e && ltb e entries
 
-  linked-cons : (bits : ℕ) (stop : Bool) (e : ℕ) (es : List ℕ) → linkedFrom image bits stop (e ∷ es) ≡ (mayOpen bits e (header image .entries) && linked (grammarOf image .entries) (grammarOf image .follows) (grammarOf image .ends) (grammarOf image .follows e) (grammarOf image .ends e) es)
+  linked-cons : (bits : ℕ) (stop : Bool) (e : ℕ) (es : List ℕ)
+      → linkedFrom image bits stop (e ∷ es) ≡ (mayOpen bits e (header image .entries) && linkedBy (grammarOf image .follows e) (grammarOf image .ends e) es)
   unfolding linked grammarOf
   linked-cons bits stop e es = refl
 
   -- after entry e, by its ways on
-  pub linked-ways : (e bits : ℕ) (stop : Bool) → header image .lexicons ≤ 64 → stop ≡ mayStop (entry image e) (header image .form) → Names (goesTo (entry image e) (header image .form)) bits → (es : List ℕ)
+  pub linked-ways : (e bits : ℕ) (stop : Bool) → header image .lexicons ≤ 64 → stop ≡ mayStop (entry image e) (header image .form)
+      → Names (goesTo (entry image e) (header image .form)) bits → (es : List ℕ)
       → linked (grammarOf image .entries) (grammarOf image .follows) (grammarOf image .ends) (grammarOf image .follows e) (grammarOf image .ends e) es ≡ linkedFrom image bits stop es
   unfolding grammarOf
   linked-ways e bits stop few s names es =
       linked-may es (grammarOf image .follows e) (inSome image (header image .lexicons) bits) (grammarOf image .ends e)
-      (λ f. any-same (λ x. goesTo (entry image e) (header image .form) x && inLexicon image x f) (λ x. bit bits x && inLexicon image x f) (below (header image .lexicons)) (λ x m. ap (λ (b : Bool). b && inLexicon image x f) (names x (omega (arith, below-from (header image .lexicons) x m)))))
+      (λ f. any-same (λ x. goesTo (entry image e) (header image .form) x && inLexicon image x f) (λ x. bit bits x && inLexicon image x f) (below (header image .lexicons))
+      (λ x m. ap (λ (b : Bool). b && inLexicon image x f) (names x (omega (arith, below-from (header image .lexicons) x m)))))
       ∙ ap (λ (b : Bool). linkedFrom image bits b es) (sym s)
 
   module _ (es : List ℕ) (i bits : ℕ) (stop : Bool) (e : ℕ) (inside : i < length es) (this : getD es i 0 ≡ e) where

@@ -32,7 +32,8 @@ unfolding computed
 refusal-2 = refl
 
 -- form, by either byte; L = 1; P; R; X; E; sets where there is no block of them; a kind; a record count; unused bytes; a block too many; a block of sets where the count is 0
-refusal-3 : (changed 4 3 ∷ changed 5 1 ∷ changed 6 1 ∷ changed 8 9 ∷ changed 10 2 ∷ changed 12 1 ∷ changed 14 5 ∷ changed 16 1 ∷ changed 514 3 ∷ changed 1027 9 ∷ changed 18 1 ∷ changed 3069 1 ∷ imageVerdict (sealedImage (luzImage ++ replicate 512 0)) ∷ imageVerdict (sealedImage (set setsImage 16 0)) ∷ []) ≡ replicate 14 (Verdict.refused 3)
+refusal-3 : (changed 4 3 ∷ changed 5 1 ∷ changed 6 1 ∷ changed 8 9 ∷ changed 10 2 ∷ changed 12 1 ∷ changed 14 5 ∷ changed 16 1 ∷ changed 514 3 ∷ changed 1027 9 ∷ changed 18 1
+    ∷ changed 3069 1 ∷ imageVerdict (sealedImage (luzImage ++ replicate 512 0)) ∷ imageVerdict (sealedImage (set setsImage 16 0)) ∷ []) ≡ replicate 14 (Verdict.refused 3)
 unfolding computed
 refusal-3 = refl
 

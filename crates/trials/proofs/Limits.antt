@@ -226,7 +226,8 @@ next-block : (map (λ e. formOf (entry two-blocks e)) (30 ∷ 31 ∷ 32 ∷ []) 
 unfolding computed
 next-block = (refl, refl)
 
-entry-forms : map (λ e. isEntry e 1 9 2) (entryBytes [] 0 0 ∷ entryBytes (replicate 12 2) 1 65535 ∷ entryBytes (replicate 12 9) 255 0 ∷ entryBytes (replicate 13 2) 1 0 ∷ entryBytes (1 ∷ []) 1 0 ∷ entryBytes (2 ∷ 10 ∷ []) 1 0 ∷ [])
+entry-forms : map (λ e. isEntry e 1 9 2) (entryBytes [] 0 0 ∷ entryBytes (replicate 12 2) 1 65535 ∷ entryBytes (replicate 12 9) 255 0 ∷ entryBytes (replicate 13 2) 1 0
+    ∷ entryBytes (1 ∷ []) 1 0 ∷ entryBytes (2 ∷ 10 ∷ []) 1 0 ∷ [])
     ≡ true ∷ true ∷ true ∷ false ∷ false ∷ false ∷ []
 unfolding computed
 entry-forms = refl

@@ -2,7 +2,7 @@
 -- that has some was refused, with 3 where 1 and 2 let it pass.
 use Prim.Native.Nat.{ℕ, zero, suc, _+_, _*_, _/_, _%_, _<_, _≤_}
 use native.Mathlib.Omega.{arith}
-use mathlib.Core.Bool.{Bool, true, false, _&&_, not}
+use mathlib.Core.Bool.{Bool, true, false, _&&_}
 use mathlib.Core.Path.{_≡_, refl, sym, ap, ap₂, _∙_, subst}
 use mathlib.Core.List.{List, [], _∷_, map}
 use lib.ListN.{getD, take, drop}
@@ -41,7 +41,8 @@ module _ (image : List ℕ) where
   unfolding header
   plain-layout-none e =
       let h = header image in
-      let u = out4 (within 1 2 (h .form)) (plainLimits h) (eqb (blockCount image) (sum (map (λ r. r .blocks) (plainKinds h)))) (every (λ k. plainLaidOut h k (block image k)) (below (blockCount image))) (of-true (plainLayout image) e) in
+      let u = out4 (within 1 2 (h .form)) (plainLimits h) (eqb (blockCount image) (sum (map (λ r. r .blocks) (plainKinds h))))
+      (every (λ k. plainLaidOut h k (block image k)) (below (blockCount image))) (of-true (plainLayout image) e) in
       let n = eqb→eq (blockCount image) (sum (map (λ r. r .blocks) (plainKinds h))) (u .2) in
       first-none h (block image 0) (every-at (λ k. plainLaidOut h k (block image k)) (below (blockCount image)) (below-has (blockCount image) 0 (omega arith)) (u .3))
 

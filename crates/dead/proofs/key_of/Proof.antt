@@ -20,7 +20,8 @@ abbrev eight : Left → Place → ℕ → ℕ → List ℕ
 eight left place entries pairs = (pairs + 1) ∷ entries ∷ left .from ∷ left .to ∷ left .last ∷ place .nulls ∷ place .surface .letters ∷ place .surface .nulls ∷ []
 
 abbrev Inv-loop : tie.InvT-loop
-Inv-loop image entries pairs place rules key₀ i₀ key i = (i ≤ rules) × ((length key ≡ 40) × ((left : Left) × Tells image place left × Agree key (keyBy image left place entries pairs) (i + 8)))
+Inv-loop image entries pairs place rules key₀ i₀ key i =
+    (i ≤ rules) × ((length key ≡ 40) × ((left : Left) × Tells image place left × Agree key (keyBy image left place entries pairs) (i + 8)))
 
 abbrev μ-loop : tie.MeasureT-loop
 μ-loop image entries pairs place rules key₀ i₀ key i = rules - i
@@ -119,7 +120,8 @@ returns c =
     record {
       left = left;
       tells = at .loop .inv .1 .1 .1;
-      is = sym (agree-all (keyBy (a .image .now) left (a .t3) (a .entries) (a .pairs)) (at .loop .key) w (omega arith) (omega arith) (λ k h. sym (at .loop .inv .1 .1 .2 k (omega (arith, c .loop-test .left)))));
+      is = sym (agree-all (keyBy (a .image .now) left (a .t3) (a .entries) (a .pairs)) (at .loop .key) w (omega arith) (omega arith)
+          (λ k h. sym (at .loop .inv .1 .1 .2 k (omega (arith, c .loop-test .left)))));
     }
 
 pub key-of-spec : {M : Type 1} → statement M

@@ -41,7 +41,8 @@ returns-3 c =
     let a = start .args in
     let same = start .pre .0 .laid .header-is in
     let way = c .before .way-of in
-    way-tells (a .image .now) (a .place) (opened .before .if1 .left) (opened .if2 .taken) (omega (arith, start .pre .0 .laid .limits .lexicons-most, ap (λ (g : Header). g .lexicons) same)) (way .result) (subst (λ (g : Header). WayOf (entry (a .image .now) (a .place .last)) (g .form) (way .result)) same (way .ensures)) (c .if3 .left)
+    way-tells (a .image .now) (a .place) (opened .before .if1 .left) (opened .if2 .taken) (omega (arith, start .pre .0 .laid .limits .lexicons-most, ap (λ (g : Header). g .lexicons) same))
+    (way .result) (subst (λ (g : Header). WayOf (entry (a .image .now) (a .place .last)) (g .form) (way .result)) same (way .ensures)) (c .if3 .left)
 
 returns-4 : tie.Need-returns-4
 returns-4 c = let a = c .before .before .before .before .args in unopened-tells (a .image .now) (a .place) (c .before .if1 .left)

@@ -1,12 +1,8 @@
 -- `right_form` meets its contract.
 use native.Mathlib.Omega.{arith}
-use native.Mathlib.Decide.{decLe}
-use mathlib.Core.Bool.{Bool}
-use mathlib.Core.Path.{_≡_, sym, _∙_}
-use Prim.Native.Nat.{ℕ, _≤_}
+use mathlib.Core.Path.{sym}
 use lib.Dec.{leb}
 use borrow.Author.Tests.{le-leb}
-use Rattle.model.specs.Lists.{within}
 use Rattle.model.proofs.Booleans.{within-below, left-true}
 use Rattle.layout.proofs.right_form.Statement.{statement}
 use Rattle.layout.proofs.right_form.Tie as tie

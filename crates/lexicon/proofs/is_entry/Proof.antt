@@ -9,7 +9,6 @@ use mathlib.Core.Path.{_≡_, refl, sym, ap, _∙_}
 use Prim.Native.Nat.{ℕ, _+_, _*_, _<_, _≤_}
 use lib.ListN.{length, take, drop}
 use lib.Seq.{getD-drop}
-use lib.Dec.{ltb, eqb}
 use Rattle.model.specs.Lists.{below, every, within, isZero, byte}
 use Rattle.model.specs.Lexicon.{rightWays, isEntryOf}
 use Rattle.letters.specs.Marks.{isMarked}
@@ -76,7 +75,8 @@ byte-at-requires c κs = let s = c .before in omega (arith, width-by (s .args .h
 returns : tie.Need-returns
 returns c =
     let a = c .before .before .before .args in
-    sym (entry-long (a .h .form) (isMarked (a .marked .now)) (a .h .lexicons) (drop (a .at) (a .image .now)) (omega (arith, c .before .byte-at .ensures .0, getD-drop (a .at) (a .image .now) 0 0 ∙ ap (byte (a .image .now)) (add-zero (a .at)))))
+    sym (entry-long (a .h .form) (isMarked (a .marked .now)) (a .h .lexicons) (drop (a .at) (a .image .now))
+    (omega (arith, c .before .byte-at .ensures .0, getD-drop (a .at) (a .image .now) 0 0 ∙ ap (byte (a .image .now)) (add-zero (a .at)))))
 
 add-in-bounds : tie.Need-add-in-bounds
 add-in-bounds c = search needs
@@ -118,15 +118,17 @@ returns-3 c =
     rw (e, in-all, out) refl
 
 are-right-requires : tie.Need-are-right-requires
-are-right-requires c κs = let b = c .before .before .before .before .before in start b .pre .0
+are-right-requires c κs = let f = c .before .before in start (f .before .before .before) .pre .0
 
 returns-4 : tie.Need-returns-4
 returns-4 c =
-    let b = c .before .before .before .before .before .before in
-    let i = c .before .before .before .before .in-bounds in
-    let f = c .before .before .is-form in
+    let formed = c .before .before in
+    let bounded = formed .before .before in
+    let b = bounded .before .before in
+    let i = bounded .in-bounds in
+    let f = formed .is-form in
     let e = entry-is b (omega arith) in
-    let in-all = sym (i .ensures) ∙ not-false (i .result) (c .before .before .before .if2 .left) in
+    let in-all = sym (i .ensures) ∙ not-false (i .result) (formed .before .if2 .left) in
     let told = sym (f .ensures) ∙ not-false (f .result) (c .before .if3 .left) in
     rw (e, in-all, told) (c .are-right .ensures)
 

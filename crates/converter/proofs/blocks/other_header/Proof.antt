@@ -1,6 +1,6 @@
 -- `other_header` meets its contract.
 use borrow.Author.Needs.{needs}
-use mathlib.Core.Path.{_≡_, refl}
+use mathlib.Core.Path.{refl}
 use Rattle.conversion.specs.Conversion.{otherHeader}
 use Rattle.converter.proofs.blocks.other_header.Statement.{statement}
 use Rattle.converter.proofs.blocks.other_header.Tie as tie

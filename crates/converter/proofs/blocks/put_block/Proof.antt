@@ -1,8 +1,7 @@
--- `put_block` meets its contract: by where the entries begin.
+-- `put_block` meets its contract: before the entries a block is as it was put and then sealed; from the entries on it is made anew and sealed.
 use borrow.Author.Needs.{needs}
-use Prim.Native.Nat.{ℕ, _<_, _≤_}
 use native.Mathlib.Omega.{arith}
-use mathlib.Core.Path.{_≡_, refl, sym, ap, _∙_}
+use mathlib.Core.Path.{ap, _∙_}
 use Rattle.model.specs.Blocks.{sealedBlock}
 use Rattle.image.proofs.Records.{counted}
 use Rattle.converter.proofs.BlockLaws.{o-limits}
@@ -46,7 +45,9 @@ returns-2 : tie.Need-returns-2
 returns-2 c =
     let sealed = c .before .before in
     let put = sealed .before .before .before .before in
-    sealed .seal-block2 .ensures ∙ ap (sealedBlock (put .before .before .before .before .before .before .args .k)) (put .put-entries .ensures)
+    let first = put .before .before .before in
+    let s = first .before .before .before in
+    sealed .seal-block2 .ensures ∙ ap (sealedBlock (s .args .k)) (put .put-entries .ensures)
 
 pub put-block-spec : {M : Type 1} → statement M
 put-block-spec =

@@ -1,10 +1,10 @@
--- `put_blocks` meets its contract: block after block.
+-- `put_blocks` meets its contract: block after block, the first k of the target are the first k as built and sealed.
 use borrow.Author.Needs.{needs}
-use Prim.Native.Nat.{ℕ, _+_, _*_, _-_, _/_, _<_, _≤_}
+use Prim.Native.Nat.{ℕ, _+_, _*_, _-_, _≤_}
 use native.Mathlib.Omega.{arith}
-use mathlib.Core.Path.{_≡_, refl, sym, ap, ap₂, _∙_}
+use mathlib.Core.Path.{_≡_, refl, ap, _∙_}
 use mathlib.Core.List.{List, [], _++_, append-nil}
-use lib.ListN.{length, take, drop, length-take, length-drop, drop-of-length-le}
+use lib.ListN.{length, drop, length-take, length-drop, drop-of-length-le}
 use borrow.Rule.Slice.PartMut.{same-len-mid}
 use Rattle.model.specs.Lists.{below, flatMap}
 use Rattle.model.specs.Blocks.{Header, blockTotal, sealedBlock}
@@ -43,7 +43,9 @@ put-block-requires c κs =
     let k = t .before .loop .k in
     let from = 512 * k in
     let target = t .before .loop .target in
-    (s .pre .0, (omega (arith, length-take (from + 512 - from) (drop from target), length-drop from target, t .before .loop .inv .1 .0, s .pre .1, t .loop-test .taken), omega (arith, s .pre .1, t .loop-test .taken)))
+    let part = length-take (from + 512 - from) (drop from target) in
+    let rest = length-drop from target in
+    (s .pre .0, (omega (arith, part, rest, t .before .loop .inv .1 .0, s .pre .1, t .loop-test .taken), omega (arith, s .pre .1, t .loop-test .taken)))
 
 loop-again : tie.Need-loop-again Inv-loop μ-loop
 loop-again c =
@@ -55,13 +57,12 @@ loop-again c =
     let size : from + 512 - from ≡ 512 = omega arith in
     let begins : from ≡ 0 + 512 * k = omega arith in
     let target = t .before .loop .target in
-    let part = put .put-block .last .1 .1 .1 .1 .0 in (
-      omega (arith, t .loop-test .taken),
-      (
-        same-len-mid from (from + 512 - from) target part (put .put-block .kept .1 .1 .1 .1 .0) ∙ t .before .loop .inv .1 .0,
-        parts-more [] (blockOf (s .args .image .now) (headerOf (s .args .o))) 512 (s .args .target .now) k from (from + 512 - from) target part begins size (blocks-wide (s .pre .0) k) (t .before .loop .inv .1 .1) (put .put-block .ensures),
-      ),
-    )
+    let part = put .put-block .last .1 .1 .1 .1 .0 in
+    let long = same-len-mid from (from + 512 - from) target part (put .put-block .kept .1 .1 .1 .1 .0) ∙ t .before .loop .inv .1 .0 in
+    let f = blockOf (s .args .image .now) (headerOf (s .args .o)) in
+    let wides = blocks-wide (s .pre .0) k in
+    let more = parts-more [] f 512 (s .args .target .now) k from (from + 512 - from) target part begins size wides (t .before .loop .inv .1 .1) (put .put-block .ensures) in
+    (omega (arith, t .loop-test .taken), (long, more))
 
 returns : tie.Need-returns Inv-loop μ-loop
 returns c =

@@ -1,20 +1,20 @@
--- `put_entries` meets its contract: a block is opened, and its records are put one after the other.
+-- `put_entries` meets its contract: a block is opened, and its records are put one after the other, so that after n of them it is the block as built.
 use borrow.Author.Needs.{needs}
-use Prim.Native.Nat.{ℕ, suc, _+_, _*_, _-_, _/_, _<_, _≤_}
+use Prim.Native.Nat.{ℕ, suc, _+_, _*_, _-_, _<_, _≤_}
 use native.Mathlib.Nat.{le-refl, mul-le-mul, mul-suc, div-le-self}
 use native.Mathlib.Omega.{arith}
 use mathlib.Core.Path.{_≡_, refl, sym, ap, ap₂, _∙_, subst}
-use mathlib.Core.List.{List, [], _∷_, _++_}
-use lib.ListN.{length, take, drop, length-take, length-drop}
+use mathlib.Core.List.{List, [], _∷_}
+use lib.ListN.{length, drop, length-take, length-drop}
 use borrow.Rule.Slice.PartMut.{same-len-mid}
 use Rattle.model.specs.Lists.{below}
-use Rattle.model.specs.Blocks.{Header, header, kinds, entryWidth, recordWidth, perBlock, firstBlock, blockTotal, recordsAt}
+use Rattle.model.specs.Blocks.{Header, header, entryWidth, recordWidth, perBlock, firstBlock, recordsAt}
 use Rattle.model.specs.Lexicon.{entry}
 use Rattle.image.specs.Header.{headerOf}
 use Rattle.image.specs.Laid.{Laid}
 use Rattle.image.proofs.Records.{counted, entry-wide}
 use Rattle.lexicon.proofs.Laws.{width-is}
-use Rattle.built.specs.Built.{recordIn, builtBlock}
+use Rattle.built.specs.Built.{recordIn}
 use Rattle.conversion.specs.Conversion.{otherHeader, otherRecords, otherEntry}
 use Rattle.converter.specs.Answers.{Converting}
 use Rattle.converter.proofs.Stores.{zeros, partsTo, parts-more}
@@ -42,13 +42,20 @@ other-wide : (h o : Header) → o ≡ otherHeader h → recordWidth o 6 ≡ entr
 unfolding otherHeader
 other-wide h o e = width-is o ∙ ap (λ (g : Header). entryWidth (g .form)) e
 
+-- the start, from where the width is known, and from where the first block of entries is
+abbrev from-width : tie.After-width Inv-loop μ-loop → tie.Start Inv-loop μ-loop
+from-width c = c .before .before .before
+
+abbrev from-first : tie.After-first-block Inv-loop μ-loop → tie.Start Inv-loop μ-loop
+from-first c = from-width (c .before .before)
+
 -- what is known before the loop
 module _ (c : tie.After-records-at Inv-loop μ-loop) where
   abbrev first : tie.After-first-block Inv-loop μ-loop
   first = c .before
 
   abbrev start : tie.Start Inv-loop μ-loop
-  start = first .before .before .before .before .before
+  start = from-first first
 
   abbrev image : List ℕ
   image = start .args .image .now
@@ -95,13 +102,37 @@ module _ (c : tie.After-records-at Inv-loop μ-loop) where
   h-laid : Laid image h
   h-laid = subst (Laid image) (sym (v .header-is)) (read-laid v)
 
+  -- record i of the block
+  abbrev recordOf : ℕ → List ℕ
+  recordOf = recordIn (otherHeader (header image)) (otherRecords image) k
+
+  -- those before record i are of the one width
+  sized : (i : ℕ) → i < n → Wide wide recordOf (below i)
+  sized i l =
+      let all = records-wide v k (start .pre .1 .1 .0) (start .pre .1 .1 .1) i (omega (arith, n-is, l)) in
+      let here = subst (λ (w : ℕ). Wide w (recordIn o (otherRecords image) k) (below i)) (sym wide-is) all in
+      subst (λ (g : Header). Wide wide (recordIn g (otherRecords image) k) (below i)) (o-is v) here
+
+-- before the loop, from its head
+abbrev known-at : tie.At-loop Inv-loop μ-loop → tie.After-records-at Inv-loop μ-loop
+known-at at = let opened = at .before .before .before in opened .before .before
+
 -- a turn of the loop
 module _ (t : tie.In-loop Inv-loop μ-loop) where
   abbrev known : tie.After-records-at Inv-loop μ-loop
-  known = t .before .before .before .before .before .before
+  known = known-at (t .before)
 
   abbrev i : ℕ
   i = t .before .loop .i
+
+  abbrev from : ℕ
+  from = 4 + wide known * i
+
+  abbrev block : List ℕ
+  block = t .before .loop .block
+
+  block-long : length block ≡ 512
+  block-long = t .before .loop .inv .1 .0
 
   here : wide known * i + wide known ≤ 506
   here = fits-one known i (t .loop-test .taken)
@@ -111,7 +142,7 @@ first-block-requires c κs = let s = c .before .before .before .before in (count
 
 mul-before : tie.Need-mul-before Inv-loop μ-loop
 mul-before c =
-    let s = c .before .before .before .before .before in
+    let s = from-first c in
     let per = c .before .per-block .result in
     let few : per ≤ 506 = omega (arith, c .before .per-block .ensures, div-le-self 506 (recordWidth (headerOf (s .args .o)) 6)) in
     let all = mul-le-mul {n₁ = per} {m₁ = s .args .k - c .first-block .result} {n₂ = 506} {m₂ = 128} few (omega (arith, s .pre .0 .few, s .pre .1 .1 .1)) in
@@ -119,7 +150,7 @@ mul-before c =
 
 records-at-requires : tie.Need-records-at-requires Inv-loop μ-loop
 records-at-requires c κs =
-    let s = c .before .before .before .before .before in
+    let s = from-first c in
     (counted _ (o-limits (s .pre .0)), (entries-placed _ (s .args .k) (s .pre .1 .1 .0) (s .pre .1 .1 .1), omega (arith, s .pre .0 .few, s .pre .1 .1 .1)))
 
 open-block-requires : tie.Need-open-block-requires Inv-loop μ-loop
@@ -150,35 +181,34 @@ put-entry-requires : tie.Need-put-entry-requires Inv-loop μ-loop
 put-entry-requires c κs =
     let t = c .before in
     let r = known t in
-    let from = 4 + wide r * i t in
     let e = number-is r (i t) (t .loop-test .taken) in
-    let block = t .before .loop .block in
-    (h-laid r, ((e, omega (arith, here t, length-take (from + wide r - from) (drop from block), length-drop from block, t .before .loop .inv .1 .0, wide-is r, other-wide (h r) (o r) (v r .other-is))), entry-asked (v r) _ e))
+    let part = length-take (from t + wide r - from t) (drop (from t) (block t)) in
+    let rest = length-drop (from t) (block t) in
+    let width = other-wide (h r) (o r) (v r .other-is) in
+    (h-laid r, ((e, omega (arith, here t, part, rest, block-long t, wide-is r, width)), entry-asked (v r) _ e))
 
 loop-again : tie.Need-loop-again Inv-loop μ-loop
 loop-again c =
     let put = c .before .before in
     let t = put .before .before in
     let r = known t in
-    let g = otherHeader (header (image r)) in
-    let from = 4 + wide r * i t in
-    let size : from + wide r - from ≡ wide r = omega arith in
-    let block = t .before .loop .block in
-    let made : put .put-entry .last .1 .1 .1 .0 ≡ recordIn g (otherRecords (image r)) (k r) (i t) =
-    put .put-entry .ensures ∙ ap (λ (b : ℕ). otherEntry (h r .form) (entry (image r) (b + i t))) (before-is r) ∙ sym (record-put (v r) (k r) (start r .pre .1 .1 .0) (start r .pre .1 .1 .1) (i t)) ∙ ap (λ (g : Header). recordIn g (otherRecords (image r)) (k r) (i t)) (o-is (v r)) in
-    let sized : Wide (wide r) (recordIn g (otherRecords (image r)) (k r)) (below (i t)) =
-    subst (λ (g : Header). Wide (wide r) (recordIn g (otherRecords (image r)) (k r)) (below (i t))) (o-is (v r)) (subst (λ (w : ℕ). Wide w (recordIn (o r) (otherRecords (image r)) (k r)) (below (i t))) (sym (wide-is r)) (records-wide (v r) (k r) (start r .pre .1 .1 .0) (start r .pre .1 .1 .1) (i t) (omega (arith, n-is r, t .loop-test .taken)))) in (
-      omega (arith, t .loop-test .taken),
-      (
-        same-len-mid from (from + wide r - from) block (put .put-entry .last .1 .1 .1 .0) (put .put-entry .kept .1 .1 .1 .0) ∙ t .before .loop .inv .1 .0,
-        parts-more (0 ∷ 0 ∷ 6 ∷ n r ∷ []) (recordIn g (otherRecords (image r)) (k r)) (wide r) (0 ∷ 0 ∷ 6 ∷ n r ∷ zeros 508) (i t) from (from + wide r - from) block (put .put-entry .last .1 .1 .1 .0) refl size sized (t .before .loop .inv .1 .1) made,
-      ),
-    )
+    let s = start r in
+    let size : from t + wide r - from t ≡ wide r = omega arith in
+    let part = put .put-entry .last .1 .1 .1 .0 in
+    let entry-put = put .put-entry .ensures ∙ ap (λ (b : ℕ). otherEntry (h r .form) (entry (image r) (b + i t))) (before-is r) in
+    let record-is = record-put (v r) (k r) (s .pre .1 .1 .0) (s .pre .1 .1 .1) (i t) in
+    let made : part ≡ recordOf r (i t) = entry-put ∙ sym record-is ∙ ap (λ (g : Header). recordIn g (otherRecords (image r)) (k r) (i t)) (o-is (v r)) in
+    let long = same-len-mid (from t) (from t + wide r - from t) (block t) part (put .put-entry .kept .1 .1 .1 .0) ∙ block-long t in
+    let wides = sized r (i t) (t .loop-test .taken) in
+    let more =
+    parts-more (0 ∷ 0 ∷ 6 ∷ n r ∷ []) (recordOf r) (wide r) (0 ∷ 0 ∷ 6 ∷ n r ∷ zeros 508) (i t) (from t) (from t + wide r - from t) (block t) part refl size wides
+    (t .before .loop .inv .1 .1) made in
+    (omega (arith, t .loop-test .taken), (long, more))
 
 returns : tie.Need-returns Inv-loop μ-loop
 returns c =
     let at = c .before in
-    let r = at .before .before .before .before .before in
+    let r = known-at at in
     let all : at .loop .i ≡ n r = omega (arith, at .loop .inv .0, c .loop-test .left) in
     at .loop .inv .1 .1
     ∙ (λ j. madeTo (image r) (sym (o-is (v r)) j) (k r) (wide-is r j) (n-is r j) ((all ∙ n-is r) j))

@@ -1,8 +1,8 @@
 -- `one_ways` meets its contract: entry after entry.
 use borrow.Author.Needs.{needs}
-use Prim.Native.Nat.{ℕ, _+_, _-_, _<_, _≤_}
+use Prim.Native.Nat.{ℕ, _+_, _-_, _≤_}
 use native.Mathlib.Omega.{arith}
-use mathlib.Core.Bool.{Bool, true, false, _||_, not, cond}
+use mathlib.Core.Bool.{Bool, true, _||_, not, cond}
 use mathlib.Core.Path.{_≡_, refl, sym, ap, ap₂, _∙_}
 use mathlib.Core.List.{List}
 use lib.Dec.{leb, eqb}
@@ -10,7 +10,7 @@ use borrow.Author.Tests.{not-true, not-false, eq-eqb, ne-eqb}
 use Rattle.model.specs.Lists.{below, every, count, bit}
 use Rattle.model.specs.Blocks.{Header, header}
 use Rattle.model.specs.Lexicon.{entry, mayStop, goesTo, wayCount}
-use Rattle.model.proofs.Lists.{every-none, every-more, every-fails}
+use Rattle.model.proofs.Lists.{every-more, every-fails}
 use Rattle.image.specs.Header.{headerOf}
 use Rattle.image.specs.Laid.{Laid}
 use Rattle.digits.specs.Ways.{Names}
@@ -32,7 +32,8 @@ abbrev μ-loop : tie.MeasureT-loop
 module _ (image : List ℕ) (h : Header) (laid : Laid image h) where
   other-form : (h .form ≡ 2 → ⊥) → true ≡ oneWays image
   unfolding oneWays
-  other-form n = sym (ap (λ (f : ℕ). not (eqb f 2) || every (fewAt image) (below (header image .entries))) (sym (ap (λ (g : Header). g .form) (laid .header-is))) ∙ rw (ne-eqb (h .form) 2 n) refl)
+  other-form n = sym (ap (λ (f : ℕ). not (eqb f 2) || every (fewAt image) (below (header image .entries))) (sym (ap (λ (g : Header). g .form) (laid .header-is)))
+      ∙ rw (ne-eqb (h .form) 2 n) refl)
 
   by-entries : h .form ≡ 2 → every (fewAt image) (below (h .entries)) ≡ oneWays image
   unfolding oneWays
@@ -41,7 +42,8 @@ module _ (image : List ℕ) (h : Header) (laid : Laid image h) where
       (ap (λ (g : Header). not (eqb (g .form) 2) || every (fewAt image) (below (g .entries))) (sym (laid .header-is)) ∙ rw (eq-eqb (h .form) 2 two) refl)
 
 -- an entry's ways as a set
-ways-are : (e : List ℕ) (form bits : ℕ) (stop : Bool) → form ≡ 2 → stop ≡ mayStop e form → Names (goesTo e form) bits → leb (count (bit bits) (below 64) + cond stop 1 0) 1 ≡ leb (wayCount e 2) 1
+ways-are : (e : List ℕ) (form bits : ℕ) (stop : Bool) → form ≡ 2 → stop ≡ mayStop e form → Names (goesTo e form) bits
+    → leb (count (bit bits) (below 64) + cond stop 1 0) 1 ≡ leb (wayCount e 2) 1
 unfolding wayCount
 ways-are e form bits stop two s names =
     ap₂ (λ (n : ℕ) (b : Bool). leb (n + cond b 1 0) 1) (sym (count-alike (goesTo e form) (bit bits) 64 names)) s
@@ -73,7 +75,8 @@ returns-2 : tie.Need-returns-2 Inv-loop μ-loop
 returns-2 c =
     let f = c .before in
     let image = start f .args .image .now in
-    sym (every-fails (fewAt image) (start f .args .h .entries) (at f .loop .e) (omega arith) (sym (looked f) ∙ not-true (f .few-ways .result) (c .if2 .taken))) ∙ by-entries image (headerOf (start f .args .h)) (start f .pre) (two f)
+    sym (every-fails (fewAt image) (start f .args .h .entries) (at f .loop .e) (omega arith) (sym (looked f) ∙ not-true (f .few-ways .result) (c .if2 .taken)))
+    ∙ by-entries image (headerOf (start f .args .h)) (start f .pre) (two f)
 
 loop-again : tie.Need-loop-again Inv-loop μ-loop
 loop-again c =

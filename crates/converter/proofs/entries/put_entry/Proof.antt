@@ -2,11 +2,11 @@
 use borrow.Author.Needs.{needs}
 use Prim.Native.Nat.{ℕ, _+_, _-_, _<_, _≤_}
 use native.Mathlib.Omega.{arith}
-use mathlib.Core.Path.{_≡_, refl, sym, ap, ap₂, _∙_}
+use mathlib.Core.Path.{_≡_, sym, ap, ap₂, _∙_}
 use mathlib.Core.List.{List, _++_}
 use lib.ListN.{length, take, drop, set, length-drop, length-set}
 use Rattle.model.specs.Lists.{bit}
-use Rattle.model.specs.Blocks.{Header, entryWidth, recordStart}
+use Rattle.model.specs.Blocks.{Header, entryWidth}
 use Rattle.model.specs.Lexicon.{entry}
 use Rattle.image.specs.Header.{headerOf}
 use Rattle.image.proofs.Records.{record-part, entry-wide}
@@ -50,7 +50,7 @@ copied-long : (c : tie.After-copy) → length (c .copy .last .1 .1 .0) ≡ lengt
 copied-long c = c .copy .kept .1 .1 .0
 
 copy-requires : tie.Need-copy-requires
-copy-requires c κs = (omega (arith, room (c .before), entry-wide (h (c .before) .form)), out-wide (c .before))
+copy-requires c κs = (omega (arith, room (c .before), entry-wide (h (c .before) .form)), omega (arith, out-wide (c .before)))
 
 mark-of-requires : tie.Need-mark-of-requires
 mark-of-requires c κs =
@@ -83,7 +83,8 @@ returns c =
     let one = branch .if1 .taken in
     put .put-ways .ensures
     ∙ ap (λ (l : List ℕ). take 16 (set l 13 m) ++ wayBytes (bit bits)) (cp .copy .ensures)
-    ∙ many-stored (e w) (drop (at w) (image w)) (start w .args .out .now) (h w .form) bits (w .ways-of .result .stop) m (w .ways-of .ensures .0) (w .ways-of .ensures .1) (mark .mark-of .ensures) (there w) one
+    ∙ many-stored (e w) (drop (at w) (image w)) (start w .args .out .now) (h w .form) bits (w .ways-of .result .stop) m (w .ways-of .ensures .0) (w .ways-of .ensures .1)
+    (mark .mark-of .ensures) (there w) one
     (e-is w ∙ ap (λ (f : ℕ). take (entryWidth f) (drop (at w) (image w))) one)
 
 -- form 2 becomes form 1
@@ -96,7 +97,8 @@ returns-2 c =
     let two : h w .form ≡ 2 = omega (arith, start w .pre .1 .1 .is-form, c .if1 .left) in
     let narrow : entryWidth (3 - h w .form) ≡ 16 = ap (λ (f : ℕ). entryWidth (3 - f)) two in
     ap (λ (l : List ℕ). set l 13 m) (cp .copy .ensures)
-    ∙ one-stored (e w) (drop (at w) (image w)) (start w .args .out .now) (h w .form) (w .ways-of .result .bits) (w .ways-of .result .stop) m (w .ways-of .ensures .0) (w .ways-of .ensures .1) (mark .mark-of .ensures) (there w) two
+    ∙ one-stored (e w) (drop (at w) (image w)) (start w .args .out .now) (h w .form) (w .ways-of .result .bits) (w .ways-of .result .stop) m (w .ways-of .ensures .0) (w .ways-of .ensures .1)
+    (mark .mark-of .ensures) (there w) two
     (e-is w ∙ ap (λ (f : ℕ). take (entryWidth f) (drop (at w) (image w))) two) (omega (arith, start w .pre .1 .0 .1, narrow))
 
 entry-start-requires : tie.Need-entry-start-requires

@@ -2,11 +2,11 @@
 use borrow.Author.Needs.{needs}
 use Prim.Native.Nat.{ℕ, _+_, _*_, _-_, _/_, _%_, _^_, _<_, _≤_}
 use native.Mathlib.Omega.{arith}
-use mathlib.Core.Path.{_≡_, refl, sym, ap, _∙_}
+use mathlib.Core.Path.{_≡_, sym, ap, _∙_}
 use mathlib.Core.List.{List, [], _++_, append-nil}
-use lib.ListN.{length, getD, take, drop, length-append, drop-of-length-le, take-append-drop}
+use lib.ListN.{length, take, drop, length-append, drop-of-length-le, take-append-drop}
 use lib.Seq.{length-take-le, take-at, getD-append-add}
-use Rattle.model.specs.Lists.{below, bit, byte}
+use Rattle.model.specs.Lists.{bit, byte}
 use Rattle.model.proofs.Lists.{getD-map-below, length-map-below}
 use Rattle.conversion.specs.Conversion.{digitsFrom, wayBytes}
 use Rattle.converter.proofs.EntryLaws.{way-byte}
@@ -41,7 +41,8 @@ module _ (bits : ℕ) (out : List ℕ) (long : length out ≡ 24) where
 
   byte-is : (j : ℕ) → j < 8 → bits / 2 ^ (8 * j) % 256 ≡ byte (newOf bits out) (16 + j)
   unfolding wayBytes
-  byte-is j l = sym (ap (λ (n : ℕ). byte (newOf bits out) (n + j)) (sym front-long) ∙ getD-append-add (take 16 out) (wayBytes (bit bits)) j 0 ∙ getD-map-below (λ j. digitsFrom (bit bits) 8 (8 * j)) 8 j 0 l ∙ way-byte bits j)
+  byte-is j l = sym (ap (λ (n : ℕ). byte (newOf bits out) (n + j)) (sym front-long) ∙ getD-append-add (take 16 out) (wayBytes (bit bits)) j 0
+      ∙ getD-map-below (λ j. digitsFrom (bit bits) 8 (8 * j)) 8 j 0 l ∙ way-byte bits j)
 
 loop-holds : tie.Need-loop-holds Inv-loop μ-loop
 loop-holds c = let a = c .args in (search needs, (c .pre, starts (a .bits) (a .out .now) (c .pre)))
@@ -55,7 +56,8 @@ loop-again c =
     let a = turn .before .args in
     let j = turn .loop .j in
     let long = turn .before .pre in
-    let more = written-more (newOf (a .bits) (a .out .now)) (a .out .now) (16 + j) _ (turn .loop .out) (omega (arith, new-long (a .bits) (a .out .now) long)) (omega arith) (turn .loop .inv .1 .1) (byte-is (a .bits) (a .out .now) long j (omega arith)) in
+    let more = written-more (newOf (a .bits) (a .out .now)) (a .out .now) (16 + j) _ (turn .loop .out) (omega (arith, new-long (a .bits) (a .out .now) long)) (omega arith) (turn .loop .inv .1 .1)
+    (byte-is (a .bits) (a .out .now) long j (omega arith)) in
     let e : 16 + j + 1 ≡ 16 + (j + 1) = omega arith in
     (search needs, (search needs, more ∙ ap (writtenTo (newOf (a .bits) (a .out .now)) (a .out .now)) e))
 

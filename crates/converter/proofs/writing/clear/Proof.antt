@@ -4,7 +4,7 @@ use Prim.Native.Nat.{ℕ, _-_, _≤_}
 use native.Mathlib.Omega.{arith}
 use mathlib.Core.Path.{_≡_, refl, sym, ap, _∙_}
 use mathlib.Core.List.{List, [], _++_, append-nil}
-use lib.ListN.{length, drop, length-replicate, getD-replicate, drop-of-length-le}
+use lib.ListN.{length, length-replicate, getD-replicate, drop-of-length-le}
 use Rattle.converter.proofs.Stores.{zeros, writtenTo, written-none, written-more, written-all}
 use Rattle.converter.proofs.writing.clear.Statement.{statement}
 use Rattle.converter.proofs.writing.clear.Tie as tie
@@ -23,8 +23,14 @@ loop-again c =
     let turn = c .before in
     let old = turn .before .args .bytes .now in
     let k = turn .loop .k in
-    let long = length-replicate {A = ℕ} (length old) 0 in
-    (search needs, (search needs, written-more (zeros (length old)) old k 0 (turn .loop .bytes) (omega (arith, long)) (omega arith) (turn .loop .inv .1 .1) (sym (getD-replicate {A = ℕ} (length old) k 0 0 (omega arith)))))
+    let long = length-replicate {A = ℕ} (length old) 0 in (
+      search needs,
+      (
+        search needs,
+        written-more (zeros (length old)) old k 0 (turn .loop .bytes) (omega (arith, long)) (omega arith) (turn .loop .inv .1 .1)
+            (sym (getD-replicate {A = ℕ} (length old) k 0 0 (omega arith))),
+      ),
+    )
 
 returns : tie.Need-returns Inv-loop μ-loop
 returns c =

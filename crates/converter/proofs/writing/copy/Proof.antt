@@ -34,8 +34,14 @@ loop-again c =
     let k = turn .loop .k in
     let there = turn .before .pre .0 in
     let new = take (a .n) (drop (a .at) (a .source .now)) in
-    let long = part-long (a .source .now) (a .at) (a .n) there in
-    (search needs, (search needs, written-more new (a .target .now) k _ (turn .loop .target) (omega (arith, long)) (omega (arith, turn .before .pre .1)) (turn .loop .inv .1 .1) (part-byte (a .source .now) (a .at) (a .n) there k (omega arith))))
+    let long = part-long (a .source .now) (a .at) (a .n) there in (
+      search needs,
+      (
+        search needs,
+        written-more new (a .target .now) k _ (turn .loop .target) (omega (arith, long)) (omega (arith, turn .before .pre .1)) (turn .loop .inv .1 .1)
+            (part-byte (a .source .now) (a .at) (a .n) there k (omega arith)),
+      ),
+    )
 
 returns : tie.Need-returns Inv-loop μ-loop
 returns c =

@@ -1,8 +1,8 @@
--- `forms::slots::put_slot` meets its contract.
-use Prim.Native.Nat.{ℕ, _+_, _*_, _-_, _<_}
+-- `forms::slots::put_slot` meets its contract: thirteen bytes of the entry, its way on over the next, and its number after them are the slot, and no other byte moves.
+use Prim.Native.Nat.{ℕ, _+_, _*_, _<_}
 use lib.ListN.{length, set, length-set}
 use native.Mathlib.Omega.{arith}
-use mathlib.Core.Path.{sym, ap, subst}
+use mathlib.Core.Path.{_≡_, sym, ap, subst}
 use mathlib.Core.List.{List}
 use mathlib.Core.Logic.{⊎-elim}
 use borrow.Author.Needs.{needs}
@@ -13,6 +13,31 @@ use Rattle.forms.proofs.SlotLaws.{slot-put}
 use Rattle.forms.specs.Filling.{SlotPut}
 use Rattle.forms.proofs.slots.put_slot.Statement.{statement}
 use Rattle.forms.proofs.slots.put_slot.Tie as tie
+
+-- where the entry's bytes are copied, and what is lent
+module _ (copied : tie.After-copy) where
+  abbrev begun : tie.After-entry-start
+  begun = copied .before .before
+
+  abbrev start : tie.Start
+  start = begun .before .before .before
+
+  abbrev at : ℕ
+  at = 16 * start .args .i
+
+  abbrev new : List ℕ
+  new = copied .copy .last .1 .1 .0
+
+-- where its way on is known
+module _ (way : tie.After-way-of) where
+  abbrev copied : tie.After-copy
+  copied = way .before .before .before
+
+  abbrev mid : List ℕ
+  mid = set (new copied) (at copied + 13) (way .way-of .result)
+
+  mid-long : length mid ≡ length (start copied .args .slots .now)
+  mid-long = omega (arith, length-set (new copied) (at copied + 13) (way .way-of .result), copied .copy .ensures .long)
 
 entry-start-requires : tie.Need-entry-start-requires
 entry-start-requires c κs = search needs
@@ -53,29 +78,28 @@ add-put-number c = search needs
 put-number-requires : tie.Need-put-number-requires
 put-number-requires c κs =
     let way = c .before in
-    let copied = way .before .before .before in
-    let s = copied .before .before .before .before .before in
-    omega (arith, length-set (copied .copy .last .1 .1 .0) (16 * s .args .i + 13) (way .way-of .result), copied .copy .ensures .long, s .pre .1)
+    omega (arith, mid-long way, start (copied way) .pre .1)
 
 same-length : tie.Need-same-length
 same-length c =
     let put = c .before .before in
     let way = put .before .before in
-    let copied = way .before .before .before in
-    let s = copied .before .before .before .before .before in
-    let mid = set (copied .copy .last .1 .1 .0) (16 * s .args .i + 13) (way .way-of .result) in
-    omega (arith, ap length (put .put-number .ensures), stored-long mid (16 * s .args .i + 14) (s .args .e), length-set (copied .copy .last .1 .1 .0) (16 * s .args .i + 13) (way .way-of .result), copied .copy .ensures .long)
+    let d = copied way in
+    omega (arith, ap length (put .put-number .ensures), stored-long (mid way) (at d + 14) (start d .args .e), mid-long way)
 
 returns : tie.Need-returns
 returns c =
     let put = c .before .before in
     let way = put .before .before in
-    let copied = way .before .before .before in
-    let s = copied .before .before .before .before .before in
+    let d = copied way in
+    let b = begun d .entry-start in
+    let s = start d in
     let a = s .args in
-    let new = copied .copy .last .1 .1 .0 in
-    subst (λ (x : List ℕ). SlotPut (a .image .now) (a .slots .now) x (a .i) (a .e)) (sym (put .put-number .ensures))
-    (slot-put (a .image .now) (headerOf (a .h)) (s .pre .0) (a .slots .now) new (copied .before .before .entry-start .result) (a .i) (a .e) (way .way-of .result) (copied .before .before .entry-start .ensures .0) (omega (arith, s .pre .0 .limits .entries-most, s .pre .1 .0)) (omega (arith, s .pre .1 .1)) (copied .copy .ensures) (way .way-of .ensures))
+    let few : a .e < 65536 = omega (arith, s .pre .0 .limits .entries-most, s .pre .1 .0) in
+    let here =
+    slot-put (a .image .now) (headerOf (a .h)) (s .pre .0) (a .slots .now) (new d) (b .result) (a .i) (a .e) (way .way-of .result) (b .ensures .0) few
+    (omega (arith, s .pre .1 .1)) (d .copy .ensures) (way .way-of .ensures) in
+    subst (λ (x : List ℕ). SlotPut (a .image .now) (a .slots .now) x (a .i) (a .e)) (sym (put .put-number .ensures)) here
 
 pub put-slot-spec : {M : Type 1} → statement M
 put-slot-spec =

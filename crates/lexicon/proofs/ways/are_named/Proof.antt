@@ -2,9 +2,9 @@
 use borrow.Author.Needs.{needs}
 use native.Mathlib.Omega.{arith}
 use mathlib.Core.Path.{_≡_, sym, ap, _∙_}
-use Prim.Native.Nat.{ℕ, _*_, _%_, _^_, _<_, _≤_}
+use Prim.Native.Nat.{ℕ, _*_, _%_, _^_, _<_}
 use lib.Dec.{lit<, ltb}
-use lib.Pow.{shl-exact, pow-mono}
+use lib.Pow.{shl-exact}
 use borrow.Author.Tests.{lt-ltb}
 use Rattle.lexicon.proofs.ways.are_named.Statement.{statement}
 use Rattle.lexicon.proofs.ways.are_named.Tie as tie

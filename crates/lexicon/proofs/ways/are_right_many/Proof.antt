@@ -2,10 +2,10 @@
 use borrow.Author.Needs.{needs}
 use borrow.Author.Tests.{not-true, not-false, le-leb, eq-eqb, ne-eqb}
 use native.Mathlib.Omega.{arith}
-use mathlib.Core.Bool.{Bool, true, false, _&&_, _||_, not}
+use mathlib.Core.Bool.{true, _&&_, _||_, not}
 use mathlib.Core.List.{List}
-use mathlib.Core.Path.{_≡_, refl, sym, ap, _∙_, subst}
-use Prim.Native.Nat.{ℕ, _+_, _^_, _<_, _≤_}
+use mathlib.Core.Path.{_≡_, sym, ap, _∙_, subst}
+use Prim.Native.Nat.{ℕ, _^_, _≤_}
 use lib.ListN.{drop}
 use lib.Seq.{getD-drop, drop-drop}
 use lib.Dec.{leb, ltb, eqb}
@@ -40,7 +40,8 @@ module _ (c : tie.After-bits-at) where
   right-is : (leb m 1 && ltb bits (2 ^ start read .args .lexicons) && (eqb m 1 || not (eqb bits 0))) ≡ rightWays (bytes read) 2 (start read .args .lexicons)
   right-is =
       ap (λ (n : ℕ). leb n 1 && ltb bits (2 ^ start read .args .lexicons) && (eqb n 1 || not (eqb bits 0))) (mark-is read)
-      ∙ many-is (bytes read) bits (subst (λ (l : List ℕ). Names (inSet l) bits) (sym (drop-drop 16 (start read .args .at) (start read .args .image .now))) (c .bits-at .ensures)) (omega arith) (start read .args .lexicons) (start read .pre .1)
+      ∙ many-is (bytes read) bits (subst (λ (l : List ℕ). Names (inSet l) bits) (sym (drop-drop 16 (start read .args .at) (start read .args .image .now))) (c .bits-at .ensures))
+      (omega arith) (start read .args .lexicons) (start read .pre .1)
 
 add-byte-at : tie.Need-add-byte-at
 add-byte-at c = search needs

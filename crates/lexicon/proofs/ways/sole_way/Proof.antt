@@ -1,10 +1,9 @@
 -- `sole_way` meets its contract.
-use borrow.Author.Needs.{needs}
 use native.Mathlib.Omega.{arith}
-use mathlib.Core.Bool.{Bool, true, false}
+use mathlib.Core.Bool.{Bool}
 use mathlib.Core.Logic.{inl, inr}
-use mathlib.Core.Path.{_≡_, refl}
-use Prim.Native.Nat.{ℕ, _^_}
+use mathlib.Core.Path.{refl}
+use Prim.Native.Nat.{ℕ}
 use Rattle.digits.proofs.Bits.{digit-most}
 use Rattle.lexicon.specs.Sole.{Sole}
 use Rattle.lexicon.proofs.ways.sole_way.Statement.{statement}

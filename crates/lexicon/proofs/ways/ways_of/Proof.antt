@@ -4,7 +4,7 @@ use native.Mathlib.Omega.{arith}
 use mathlib.Core.Path.{_≡_, sym, ap, _∙_}
 use mathlib.Core.List.{List}
 use Prim.Native.Nat.{ℕ, _+_, _*_, _%_, _^_, _<_}
-use lib.ListN.{take, drop}
+use lib.ListN.{drop}
 use lib.Seq.{drop-drop}
 use lib.Pow.{shl-exact}
 use lib.Dec.{lit<, eqb}
@@ -71,8 +71,11 @@ bits-at-requires c κs =
 returns : tie.Need-returns
 returns c =
     let b = c .before .before .before in
-    let two = c .before .if1 .taken in
-    (ap (λ (n : ℕ). eqb n 1) (byte-is b) ∙ sym (many-stops (entry (image b) (e b)) (form b) two), λ x few. many-names (entry (image b) (e b)) (form b) two x ∙ set-there b two x few ∙ c .bits-at .ensures x few)
+    let two = c .before .if1 .taken in (
+      ap (λ (n : ℕ). eqb n 1) (byte-is b) ∙ sym (many-stops (entry (image b) (e b)) (form b) two),
+      λ x few. many-names (entry (image b) (e b)) (form b) two x ∙ set-there b two x few
+          ∙ c .bits-at .ensures x few,
+    )
 
 returns-2 : tie.Need-returns-2
 returns-2 c =
@@ -88,7 +91,8 @@ returns-3 c =
     let b = c .before .before .before .before in
     let on : byte (entry (image b) (e b)) 13 ≡ 255 → ⊥ = λ q. c .before .if2 .left (byte-is b ∙ q) in (
       sym (on-stops (entry (image b) (e b)) (form b) (c .before .before .if1 .left) on),
-      λ x few. on-names (entry (image b) (e b)) (form b) (c .before .before .if1 .left) on x few ∙ ap (λ (n : ℕ). bit n x) (ap (λ (n : ℕ). 2 ^ n) (sym (byte-is b)) ∙ sym (one-at (b .byte-at .result) (omega arith))),
+      λ x few. on-names (entry (image b) (e b)) (form b) (c .before .before .if1 .left) on x few
+          ∙ ap (λ (n : ℕ). bit n x) (ap (λ (n : ℕ). 2 ^ n) (sym (byte-is b)) ∙ sym (one-at (b .byte-at .result) (omega arith))),
     )
 
 returns-4 : tie.Need-returns-4

@@ -6,8 +6,6 @@ use mathlib.Core.Path.{_≡_, refl, sym, ap, _∙_, subst}
 use Prim.Native.Nat.{ℕ, _-_, _^_, _<_, _≤_}
 use lib.Pow.{pow-pos}
 use Rattle.model.specs.Blocks.{Header, header}
-use Rattle.model.specs.Lexicon.{inLexicon}
-use Rattle.model.proofs.Booleans.{true-of}
 use Rattle.image.specs.Header.{headerOf}
 use Rattle.digits.proofs.Bits.{digit-most}
 use Rattle.rules.specs.Paths.{inSome}
@@ -17,7 +15,8 @@ use Rattle.listing.proofs.opening.next_of_set.Statement.{statement}
 use Rattle.listing.proofs.opening.next_of_set.Tie as tie
 
 abbrev Inv-loop : tie.InvT-loop
-Inv-loop image index h bits from entries rest₀ rest = Known rest (header image .lexicons) × ((e : ℕ) → from ≤ e → inSome image (header image .lexicons) bits e ≡ inSome image (header image .lexicons) rest e)
+Inv-loop image index h bits from entries rest₀ rest =
+    Known rest (header image .lexicons) × ((e : ℕ) → from ≤ e → inSome image (header image .lexicons) bits e ≡ inSome image (header image .lexicons) rest e)
 
 abbrev μ-loop : tie.MeasureT-loop
 μ-loop image index h bits from entries rest₀ rest = rest
@@ -78,8 +77,11 @@ returns c =
     let l = c .before .before in
     let r = ranged l .lexicon-range in
     let s = start l in
-    subst (λ (n : ℕ). NextWays (image l) (inSome (image l) (lexicons l) (s .args .bits)) (s .args .from) (record { entry = l .later .result; ways = record { low = l .later .result; high = r .result .high; rest = n } })) (sym (without-is l))
-    (set-found (image l) (headerOf (s .args .h)) (s .pre .0) (s .args .bits) (rest l) (s .args .from) (s .pre .1 .1 .1) (at l .loop .inv .1) (at l .loop .inv .0) (x l) (found l .lowest .ensures .0) (r .result .low) (r .result .high) (l .later .result) (r .ensures .0) (r .ensures .1) (l .later .ensures .0 .0) (l .later .ensures .0 .1) (l .later .ensures .1) (c .if1 .taken))
+    subst (λ (n : ℕ). NextWays (image l) (inSome (image l) (lexicons l) (s .args .bits)) (s .args .from)
+    (record { entry = l .later .result; ways = record { low = l .later .result; high = r .result .high; rest = n } })) (sym (without-is l))
+    (set-found (image l) (headerOf (s .args .h)) (s .pre .0) (s .args .bits) (rest l) (s .args .from) (s .pre .1 .1 .1) (at l .loop .inv .1) (at l .loop .inv .0) (x l)
+    (found l .lowest .ensures .0) (r .result .low) (r .result .high) (l .later .result) (r .ensures .0) (r .ensures .1) (l .later .ensures .0 .0) (l .later .ensures .0 .1)
+    (l .later .ensures .1) (c .if1 .taken))
 
 loop-less : tie.Need-loop-less Inv-loop μ-loop
 loop-less c = omega (arith, without-is (c .before .before), less (c .before .before))

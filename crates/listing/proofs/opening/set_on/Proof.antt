@@ -1,9 +1,8 @@
 -- `set_on` meets its contract: the first lexicon, or those that the last entry names.
 use native.Mathlib.Omega.{arith}
 use mathlib.Core.Logic.{⊎-elim}
-use mathlib.Core.Path.{_≡_, ap, subst}
-use mathlib.Core.List.{List}
-use Prim.Native.Nat.{ℕ, _<_, _≤_}
+use mathlib.Core.Path.{ap, subst}
+use Prim.Native.Nat.{_<_, _≤_}
 use Rattle.model.specs.Blocks.{Header, header}
 use Rattle.model.specs.Lexicon.{entry, goesTo, rightWays}
 use Rattle.model.specs.Refusals.{rightEntries}
@@ -13,7 +12,6 @@ use lib.Dec.{T}
 use Rattle.digits.specs.Ways.{Names}
 use Rattle.lexicon.proofs.Laws.{ways-right}
 use Rattle.lexicon.proofs.WayLaws.{bits-known}
-use Rattle.listing.specs.Places.{ended}
 use Rattle.listing.proofs.Ranges.{root-set, entry-ways}
 use Rattle.listing.proofs.opening.set_on.Statement.{statement}
 use Rattle.listing.proofs.opening.set_on.Tie as tie
@@ -39,7 +37,8 @@ returns-2 c =
     let laid = s .pre .0 .laid in
     let same = laid .header-is in
     let names = subst (λ (g : Header). Names (goesTo (entry image last) (g .form)) bits) same (c .ways-of .ensures .1) in
-    let right = subst (λ (g : Header). T (rightWays (entry image last) (g .form) (g .lexicons))) same (ways-right image (headerOf (s .args .h)) laid (of-true (rightEntries image) (s .pre .0 .entries-right)) last (last-in (c .before))) in
+    let right = subst (λ (g : Header). T (rightWays (entry image last) (g .form) (g .lexicons))) same
+    (ways-right image (headerOf (s .args .h)) laid (of-true (rightEntries image) (s .pre .0 .entries-right)) last (last-in (c .before))) in
     let few : header image .lexicons ≤ 64 = omega (arith, laid .limits .lexicons-most, ap (λ (g : Header). g .lexicons) same) in
     record {
       known = bits-known (entry image last) (header image .form) (header image .lexicons) right bits (omega arith) names;

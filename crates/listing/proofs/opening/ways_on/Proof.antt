@@ -20,7 +20,8 @@ returns c =
     let set = c .before .set-on in
     let a = c .before .before .before .before .before .args in
     let t = pathPattern (a .asked) (a .path .now) in
-    let same : (e : ℕ) → mayEnter (a .image .now) t (a .last) (a .n) e ≡ mayEnterSome (a .image .now) t (set .result) (a .n) e = λ e. ap (λ (b : Bool). b && t .allows (a .n) e) (set .ensures .some e) in
+    let same : (e : ℕ) → mayEnter (a .image .now) t (a .last) (a .n) e ≡ mayEnterSome (a .image .now) t (set .result) (a .n) e =
+    λ e. ap (λ (b : Bool). b && t .allows (a .n) e) (set .ensures .some e) in
     (ways-as same (c .open-ways .ensures .0), λ e k. same e ∙ c .open-ways .ensures .1 e k)
 
 pub ways-on-spec : {M : Type 1} → statement M

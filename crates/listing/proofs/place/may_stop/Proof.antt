@@ -28,7 +28,8 @@ returns-2 c =
     let start = c .before .before .before in
     let image = start .args .image .now in
     let last = start .args .place .last in
-    stops-entry image last (c .before .if1 .left) (c .ways-of .result .stop) (subst (λ (g : Header). c .ways-of .result .stop ≡ mayStop (entry image last) (g .form)) (start .pre .0 .laid .header-is) (c .ways-of .ensures .0))
+    stops-entry image last (c .before .if1 .left) (c .ways-of .result .stop)
+    (subst (λ (g : Header). c .ways-of .result .stop ≡ mayStop (entry image last) (g .form)) (start .pre .0 .laid .header-is) (c .ways-of .ensures .0))
 
 pub may-stop-spec : {M : Type 1} → statement M
 may-stop-spec = tie.close (tie.spec returns ways-of-requires returns-2)

@@ -36,7 +36,8 @@ returns-3 c =
     let last = start .args .place .last in
     let short = w .before .if1 .left in
     let same = start .pre .0 .laid .header-is in
-    let names = subst (λ (n : ℕ). Names (goesTo (entry image last) (header image .form)) n) (c .if2 .left) (subst (λ (g : Header). Names (goesTo (entry image last) (g .form)) (w .ways-of .result .bits)) same (w .ways-of .ensures .1)) in
+    let names = subst (λ (n : ℕ). Names (goesTo (entry image last) (header image .form)) n) (c .if2 .left)
+    (subst (λ (g : Header). Names (goesTo (entry image last) (g .form)) (w .ways-of .result .bits)) same (w .ways-of .ensures .1)) in
     let stops = stops-entry image last short (w .ways-of .result .stop) (subst (λ (g : Header). w .ways-of .result .stop ≡ mayStop (entry image last) (g .form)) same (w .ways-of .ensures .0)) in
     λ t. only-stops image last short (omega (arith, start .pre .0 .laid .limits .lexicons-most, ap (λ (g : Header). g .lexicons) same)) names (sym stops ∙ t)
 

@@ -1,5 +1,4 @@
 -- `orders::lexicons::is_due` meets its contract.
-use Prim.Native.Nat.{_-_}
 use native.Mathlib.Omega.{arith}
 use borrow.Author.Needs.{needs}
 use Rattle.image.specs.Header.{headerOf}

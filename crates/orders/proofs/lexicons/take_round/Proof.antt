@@ -1,5 +1,5 @@
 -- `orders::lexicons::take_round` meets its contract.
-use Prim.Native.Nat.{_-_, _≤_}
+use Prim.Native.Nat.{_≤_}
 use borrow.Author.Needs.{needs}
 use Rattle.orders.specs.Orders.{Ordered}
 use Rattle.orders.proofs.lexicons.take_round.Statement.{statement}

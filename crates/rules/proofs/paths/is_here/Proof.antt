@@ -20,7 +20,8 @@ returns-2 c =
 returns-3 : tie.Need-returns-3
 returns-3 c =
     let a = c .before .before .args in
-    sym (left-true (eqb (a .rest % 2) 1) (leb (a .first) (a .e) && ltb (a .e) (a .next)) (eq-eqb (a .rest % 2) 1 (c .before .if1 .left)) ∙ left-true (leb (a .first) (a .e)) (ltb (a .e) (a .next)) (le-leb (a .first) (a .e) (omega arith)))
+    sym (left-true (eqb (a .rest % 2) 1) (leb (a .first) (a .e) && ltb (a .e) (a .next)) (eq-eqb (a .rest % 2) 1 (c .before .if1 .left))
+    ∙ left-true (leb (a .first) (a .e)) (ltb (a .e) (a .next)) (le-leb (a .first) (a .e) (omega arith)))
 
 pub is-here-spec : {M : Type 1} → statement M
 is-here-spec = tie.close (tie.spec returns returns-2 returns-3)

@@ -1,12 +1,11 @@
 -- `may_open` meets its contract: lexicon after lexicon, with the set moved on by one digit each.
 use borrow.Author.Needs.{needs}
-use borrow.Author.Tests.{not-true, not-false}
 use native.Mathlib.Omega.{arith}
 use native.Mathlib.Nat.{zero-add}
-use mathlib.Core.Bool.{Bool, true, false, _&&_}
+use mathlib.Core.Bool.{false, _&&_}
 use mathlib.Core.List.{List}
-use mathlib.Core.Path.{_≡_, refl, sym, ap, ap₂, _∙_, subst}
-use Prim.Native.Nat.{ℕ, suc, _+_, _*_, _-_, _%_, _/_, _<_, _≤_}
+use mathlib.Core.Path.{_≡_, refl, sym, ap, ap₂, _∙_}
+use Prim.Native.Nat.{ℕ, suc, _+_, _*_, _-_, _%_, _≤_}
 use lib.Dec.{leb, ltb, eqb}
 use Rattle.model.specs.Lists.{below, any, bit}
 use Rattle.model.specs.Lexicon.{entryCount, firstEntry, inLexicon}
@@ -60,7 +59,8 @@ module _ (c : tie.After-is-here Inv-loop μ-loop) where
   seen : c .is-here .result ≡ named image lexicons bits e x
   seen =
       c .is-here .ensures
-      ∙ here-is image lexicons bits e x (at .loop .first) (at .loop .first + c .before .entry-count .result) (at .loop .rest) (at .loop .inv .1 .0) (ap (λ (n : ℕ). at .loop .first + n) (c .before .entry-count .ensures .0)) (at .loop .inv .1 .1 .1 .0)
+      ∙ here-is image lexicons bits e x (at .loop .first) (at .loop .first + c .before .entry-count .result) (at .loop .rest) (at .loop .inv .1 .0)
+      (ap (λ (n : ℕ). at .loop .first + n) (c .before .entry-count .ensures .0)) (at .loop .inv .1 .1 .1 .0)
 
 loop-holds : tie.Need-loop-holds Inv-loop μ-loop
 loop-holds c = let s = c .before in (omega arith, (sym (first-none (s .args .image .now)), (omega arith, (λ i. ap (bit (s .args .bits)) (sym (zero-add i)), refl))))
@@ -77,7 +77,8 @@ is-here-requires c κs = search needs
 returns : tie.Need-returns Inv-loop μ-loop
 returns c =
     let h = c .before .before in
-    sym (left-true (inSome (image h) (lexicons h) (bits h) (e h)) (ltb (e h) (start h .args .h .entries)) (some-here (image h) (lexicons h) (bits h) (e h) (x h) (omega arith) (sym (seen h) ∙ c .before .if1 .taken)))
+    sym (left-true (inSome (image h) (lexicons h) (bits h) (e h)) (ltb (e h) (start h .args .h .entries))
+    (some-here (image h) (lexicons h) (bits h) (e h) (x h) (omega arith) (sym (seen h) ∙ c .before .if1 .taken)))
 
 add-x : tie.Need-add-x Inv-loop μ-loop
 add-x c = search needs

@@ -59,7 +59,10 @@ module _ (c : tie.After-may-open Inv-loop μ-loop) where
   is-entry t = omega (arith, may-open-entry image (before-may-open .loop .bits) e (header image .entries) t, laid-entries (start .pre .laid))
 
 loop-holds : tie.Need-loop-holds Inv-loop μ-loop
-loop-holds c = let s = c .before .before in (omega arith, linked-start (s .args .image .now) (omega (arith, s .pre .laid .limits .lexicons-least, ap (λ (g : Header). g .lexicons) (s .pre .laid .header-is))) (entryNumbers (s .args .path .now)))
+loop-holds c =
+    let s = c .before .before in
+    let some : 1 ≤ header (s .args .image .now) .lexicons = omega (arith, s .pre .laid .limits .lexicons-least, ap (λ (g : Header). g .lexicons) (s .pre .laid .header-is)) in
+    (omega arith, linked-start (s .args .image .now) some (entryNumbers (s .args .path .now)))
 
 mul-number-at : tie.Need-mul-number-at Inv-loop μ-loop
 mul-number-at c = search needs
@@ -68,7 +71,7 @@ number-at-requires : tie.Need-number-at-requires Inv-loop μ-loop
 number-at-requires c κs = search needs
 
 may-open-requires : tie.Need-may-open-requires Inv-loop μ-loop
-may-open-requires c κs = c .before .before .before .before .before .pre .laid
+may-open-requires c κs = let a = c .before .before in a .before .before .before .pre .laid
 
 returns : tie.Need-returns Inv-loop μ-loop
 returns c =
@@ -103,7 +106,8 @@ returns-2 : tie.Need-returns-2 Inv-loop μ-loop
 returns-2 c =
     let a = c .before in
     let s = a .before .before .before in
-    sym (linked-end (s .args .image .now) (a .loop .bits) (a .loop .stop) (a .loop .i) (entryNumbers (s .args .path .now)) (omega (arith, length-entryNumbers (s .args .path .now)))) ∙ a .loop .inv .1
+    sym (linked-end (s .args .image .now) (a .loop .bits) (a .loop .stop) (a .loop .i) (entryNumbers (s .args .path .now)) (omega (arith, length-entryNumbers (s .args .path .now))))
+    ∙ a .loop .inv .1
 
 pub path-linked-spec : {M : Type 1} → statement M
 path-linked-spec =

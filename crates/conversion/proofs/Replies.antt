@@ -1,15 +1,14 @@
 -- The converter's reply and its target, by the first test that fails.
 use Prim.Native.Nat.{ℕ, _*_, _<_, _≤_}
-use mathlib.Core.Bool.{Bool, true, false}
-use mathlib.Core.Path.{_≡_, refl, sym, ap, ap₂, _∙_}
-use mathlib.Core.List.{List, [], _∷_, _++_}
+use mathlib.Core.Bool.{true, false}
+use mathlib.Core.Path.{_≡_, refl, sym, ap, _∙_}
+use mathlib.Core.List.{List, []}
 use lib.ListN.{length}
 use lib.Dec.{leb, eqb}
 use borrow.Author.Tests.{lt-leb, le-leb, ne-eqb, eq-eqb}
 use Rattle.model.specs.Refusals.{Verdict, accepted, refused, unless, firstFailing, imageTests, imageVerdict}
 use Rattle.model.proofs.Tests.{tests-refused, tests-accepted}
-use Rattle.conversion.specs.Conversion as model
 use Rattle.conversion.specs.Conversion.{conversionAfter, targetAfter, conversionTests, conversionReply, afterConversion, convertedImage, convertedBlocks, oneWays}
 
 module _ (image target : List ℕ) where
   abbrev Answered : Verdict → List ℕ → Type 0
@@ -21,12 +20,13 @@ module _ (image target : List ℕ) where
 
   pub refused-image : (k : ℕ) → imageVerdict image ≡ refused k → Answered (refused k) target
   unfolding conversionTests imageVerdict
-  refused-image k e = by-verdict (refused k) (tests-refused (imageTests image) ((15, oneWays image) ∷ (16, leb (convertedBlocks image) 128) ∷ (17, eqb (length target) (512 * convertedBlocks image)) ∷ []) k e)
+  refused-image k e = by-verdict (refused k) (tests-refused (imageTests image) _ k e)
 
   module _ (ok : imageVerdict image ≡ accepted) where
-    late : firstFailing (conversionTests image (length target)) ≡ unless (oneWays image) 15 (unless (leb (convertedBlocks image) 128) 16 (unless (eqb (length target) (512 * convertedBlocks image)) 17 accepted))
+    late : firstFailing (conversionTests image (length target)) ≡ unless (oneWays image) 15
+        (unless (leb (convertedBlocks image) 128) 16 (unless (eqb (length target) (512 * convertedBlocks image)) 17 accepted))
     unfolding conversionTests imageVerdict
-    late = tests-accepted (imageTests image) ((15, oneWays image) ∷ (16, leb (convertedBlocks image) 128) ∷ (17, eqb (length target) (512 * convertedBlocks image)) ∷ []) ok
+    late = tests-accepted (imageTests image) _ ok
 
     pub refused-15 : oneWays image ≡ false → Answered (refused 15) target
     refused-15 a = by-verdict (refused 15) (late ∙ rw a refl)
