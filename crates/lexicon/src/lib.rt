@@ -12,7 +12,7 @@ ghost use lib.ListN.{length, take, drop};
 ghost use lib.Dec.{T};
 ghost use Rattle.model.specs.Lists.{every};
 ghost use Rattle.model.specs.Blocks.{entryWidth, recordStart};
-ghost use Rattle.model.specs.Lexicon.{entryCount, firstEntry, entry, formLength, continuation, isEntryOf};
+ghost use Rattle.model.specs.Lexicon.{entryCount, firstEntry, entry, formLength, isEntryOf};
 ghost use Rattle.model.specs.Refusals.{rightPairs, rightEntries, rightForms};
 ghost use Rattle.image.specs.Header.{headerOf};
 ghost use Rattle.image.specs.Laid.{Limited, Laid};
@@ -63,15 +63,6 @@ pub fn form_length(image: &[u8], h: Header, e: usize) -> usize
     ensures { λ r. ⌜ (r ≡ formLength (entry (now (image .entry)) e)) × (r < 256) ⌝ }
 {
     image::byte_at(image, entry_start(h, e))
-}
-
-// The lexicon that goes on after entry e, or 255 where a path ends.
-pub fn continuation_of(image: &[u8], h: Header, e: usize) -> usize
-    requires { ⌜ Laid (now image) (headerOf h) ⌝ }
-    requires { ⌜ e < h .entries ⌝ }
-    ensures { λ r. ⌜ (r ≡ continuation (entry (now (image .entry)) e)) × (r < 256) ⌝ }
-{
-    image::byte_at(image, entry_start(h, e) + 13)
 }
 
 // Whether the letters of a form are all marked, or whether it is known that they are: `look` says that it is not.
