@@ -119,7 +119,8 @@ module _ (g : Grammar) where
       ends-last w (g .follows x) (g .ends x) es e f fs (u .2) s
 
 -- an entry may follow where it is in a lexicon that is named, whichever of them it is
-pub image-follows : (image : List ℕ) (e f x : ℕ) → x < header image .lexicons → T (goesTo (entry image e) (header image .form) x) → T (inLexicon image x f) → T (grammarOf image .follows e f)
+pub image-follows : (image : List ℕ) (e f x : ℕ) → x < header image .lexicons → T (goesTo (entry image e) (header image .form) x) → T (inLexicon image x f)
+    → T (grammarOf image .follows e f)
 unfolding grammarOf
 image-follows image e f x l named there =
     any-has (λ x. goesTo (entry image e) (header image .form) x && inLexicon image x f) (below (header image .lexicons)) (below-has (header image .lexicons) x l)

@@ -1,4 +1,4 @@
--- `without` meets its contract.
+-- `without` meets its contract: a power of two whose digit is there is at most the number, so that nothing wraps.
 use native.Mathlib.Omega.{arith}
 use mathlib.Core.Path.{_≡_, ap, _∙_}
 use Prim.Native.Nat.{ℕ, _*_, _-_, _%_, _^_, _<_}

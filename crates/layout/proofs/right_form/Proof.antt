@@ -1,4 +1,4 @@
--- `right_form` meets its contract.
+-- `right_form` meets its contract: a form below 1 fails, and from 1 on the upper bound decides.
 use native.Mathlib.Omega.{arith}
 use mathlib.Core.Path.{sym}
 use lib.Dec.{leb}

@@ -1,4 +1,4 @@
--- `other_header` meets its contract.
+-- `other_header` meets its contract: there are two forms, so that 3 less the one is the other, and no count moves.
 use borrow.Author.Needs.{needs}
 use mathlib.Core.Path.{refl}
 use Rattle.conversion.specs.Conversion.{otherHeader}

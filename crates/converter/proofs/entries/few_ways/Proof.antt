@@ -1,4 +1,4 @@
--- `few_ways` meets its contract, by whether a path may stop.
+-- `few_ways` meets its contract: where a path may stop, no lexicon may be named, and else at most one; the machine counts them.
 use Prim.Native.Nat.{ℕ, _+_}
 use native.Mathlib.Omega.{arith}
 use native.Mathlib.Nat.{add-zero}

@@ -1,4 +1,4 @@
--- `mark_of` meets its contract, by the form and by whether a path may stop.
+-- `mark_of` meets its contract: to form 1 the end is 255 and the one lexicon its number; to form 2 the end is 1 and a lexicon 0.
 use Prim.Native.Nat.{ℕ, _<_}
 use native.Mathlib.Omega.{arith}
 use mathlib.Core.Bool.{Bool, true, false, cond}

@@ -1,4 +1,4 @@
--- `one_ways` meets its contract: entry after entry.
+-- `one_ways` meets its contract: in form 1 nothing is asked; in form 2 the entries passed have one way on, and the first that has more decides.
 use borrow.Author.Needs.{needs}
 use Prim.Native.Nat.{ℕ, _+_, _-_, _≤_}
 use native.Mathlib.Omega.{arith}

@@ -1,4 +1,4 @@
--- `put_ways` meets its contract: byte after byte of the set.
+-- `put_ways` meets its contract: byte j holds digits 8j to 8j + 7 of the set, and the bytes before the sixteenth stay.
 use borrow.Author.Needs.{needs}
 use Prim.Native.Nat.{ℕ, _+_, _*_, _-_, _/_, _%_, _^_, _<_, _≤_}
 use native.Mathlib.Omega.{arith}

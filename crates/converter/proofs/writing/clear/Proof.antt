@@ -1,4 +1,4 @@
--- `writing::clear` meets its contract: byte after byte.
+-- `writing::clear` meets its contract: the bytes passed are 0, and those after them as they were.
 use borrow.Author.Needs.{needs}
 use Prim.Native.Nat.{ℕ, _-_, _≤_}
 use native.Mathlib.Omega.{arith}

@@ -1,4 +1,4 @@
--- `writing::copy` meets its contract: byte after byte.
+-- `writing::copy` meets its contract: the bytes passed are the source's, and those after them as they were.
 use borrow.Author.Needs.{needs}
 use Prim.Native.Nat.{ℕ, _+_, _-_, _<_, _≤_}
 use native.Mathlib.Omega.{arith}

@@ -1,4 +1,4 @@
--- `place_of` meets its contract.
+-- `place_of` meets its contract: only the entries of form 2 have a place other than their kind.
 use native.Mathlib.Omega.{arith}
 use mathlib.Core.Bool.{Bool, cond}
 use mathlib.Core.Path.{refl, sym, ap}

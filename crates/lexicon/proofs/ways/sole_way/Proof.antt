@@ -1,4 +1,4 @@
--- `sole_way` meets its contract.
+-- `sole_way` meets its contract: an end and no lexicon is 255, one lexicon and no end is that lexicon, and of 254 nothing is asked.
 use native.Mathlib.Omega.{arith}
 use mathlib.Core.Bool.{Bool}
 use mathlib.Core.Logic.{inl, inr}

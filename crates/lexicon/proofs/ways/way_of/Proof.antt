@@ -1,4 +1,4 @@
--- `way_of` meets its contract.
+-- `way_of` meets its contract: the ways on of the entry's bytes, by the number that names them.
 use borrow.Author.Needs.{needs}
 use Rattle.model.specs.Lexicon.{entry}
 use Rattle.lexicon.proofs.WayLaws.{way-sole}

@@ -1,4 +1,4 @@
--- `later` meets its contract.
+-- `later` meets its contract: the greater of two numbers is one of them and at least both.
 use native.Mathlib.Omega.{arith}
 use mathlib.Core.Logic.{inl, inr}
 use mathlib.Core.Path.{refl}
