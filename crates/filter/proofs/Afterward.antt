@@ -1,8 +1,8 @@
 -- What may come after an entry, by what is kept of its end and of each lexicon: of one way on, and of several.
-use Prim.Native.Nat.{ℕ, _-_, _^_, _<_, _≤_}
+use Prim.Native.Nat.{ℕ, _-_, _^_, _<_}
 use native.Mathlib.Omega.{arith}
 use native.Mathlib.Decide.{ℕ-discrete}
-use mathlib.Core.Bool.{Bool, true, false, _&&_, _||_, not}
+use mathlib.Core.Bool.{Bool, true, false, _&&_, not}
 use mathlib.Core.Logic.{_⊎_, inl, inr, ⊎-elim}
 use mathlib.Core.Path.{_≡_, refl, sym, ap, _∙_, subst}
 use mathlib.Core.List.{List}
@@ -14,7 +14,7 @@ use Rattle.model.specs.Lists.{below, any, bit}
 use Rattle.model.specs.Blocks.{Header, header}
 use Rattle.model.specs.Lexicon.{entry, mayStop, goesTo}
 use Rattle.model.specs.Refusals.{rightEntries}
-use Rattle.model.proofs.Booleans.{and-out, and-in, left-or, right-or, of-true, not-both}
+use Rattle.model.proofs.Booleans.{and-out, and-in, left-or, right-or, of-true}
 use Rattle.model.proofs.Lists.{below-has, below-from, any-from, any-has, bit-none}
 use Rattle.image.specs.Accepted.{Accepted}
 use Rattle.digits.specs.Ways.{Names}
@@ -53,7 +53,9 @@ module _ (image : List ℕ) where
     after-from t = ⊎-elim (λ s. inl (and-out (stops e) (reach 255 i) s)) (λ s. inr (way s)) (or-out ends ons t)
       where
         way : T ons → (x : ℕ) × ((x < header image .lexicons) × (T (goes e x) × T (reach x i)))
-        way s = let w = any-from (λ x. goes e x && reach x i) (below (header image .lexicons)) s in (w .0, (below-from (header image .lexicons) (w .0) (w .1), and-out (goes e (w .0)) (reach (w .0) i) (w .2)))
+        way s =
+            let w = any-from (λ x. goes e x && reach x i) (below (header image .lexicons))
+            s in (w .0, (below-from (header image .lexicons) (w .0) (w .1), and-out (goes e (w .0)) (reach (w .0) i) (w .2)))
 
   -- by two families of sets of which one has what the other has
   pub after-map : (r s : ℕ → ℕ → Bool) → ((x i : ℕ) → T (r x i) → T (s x i)) → (e i : ℕ) → T (afterIn image r e i) → T (afterIn image s e i)
@@ -152,15 +154,19 @@ module _ (image : List ℕ) (h : Header) (a : Accepted image h) (reach : List �
   pub taken-more : (rest m x : ℕ) → Taken image reach e rest m → T (bit rest x) → Taken image reach e (rest - 2 ^ x) (bitOr m (getD reach x 0))
   taken-more rest m x t there = record {
     named = λ y s. t .named y (left y s .0);
-    only = λ i s. ⊎-elim (t .only i) (λ u. let n = t .named x there in after-way image (reachOf reach) e i x (n .0) (n .1) (subst (λ (k : ℕ). T (bit k i)) (sym (place x (n .0))) u)) (or-out (bit m i) (bit (getD reach x 0) i) (subst T (bit-or m (getD reach x 0) i) s));
-    all = λ i s. ⊎-elim (λ u. inl (subst T (sym (bit-or m (getD reach x 0) i)) (or-left (bit m i) (bit (getD reach x 0) i) u))) (λ u. go i (u .0) (u .1 .0) (u .1 .1) (ℕ-discrete x (u .0))) (t .all i s);
+    only = λ i s. ⊎-elim (t .only i) (λ u. let n = t .named x there in after-way image (reachOf reach) e i x (n .0) (n .1) (subst (λ (k : ℕ). T (bit k i)) (sym (place x (n .0))) u))
+        (or-out (bit m i) (bit (getD reach x 0) i) (subst T (bit-or m (getD reach x 0) i) s));
+    all = λ i s. ⊎-elim (λ u. inl (subst T (sym (bit-or m (getD reach x 0) i)) (or-left (bit m i) (bit (getD reach x 0) i) u))) (λ u. go i (u .0) (u .1 .0) (u .1 .1) (ℕ-discrete x (u .0)))
+        (t .all i s);
   }
     where
       left : (y : ℕ) → T (bit (rest - 2 ^ x) y) → T (bit rest y) × T (not (eqb x y))
       left y s = and-out (bit rest y) (not (eqb x y)) (subst T (digit-taken rest x there y) s)
 
       go : (i y : ℕ) → T (bit rest y) → T (reachOf reach y i) → Dec (x ≡ y) → T (bit (bitOr m (getD reach x 0)) i) ⊎ ((y : ℕ) × (T (bit (rest - 2 ^ x) y) × T (reachOf reach y i)))
-      go i y s u (yes z) = inl (subst T (sym (bit-or m (getD reach x 0) i)) (or-right (bit m i) (bit (getD reach x 0) i) (subst (λ (k : ℕ). T (bit k i)) (ap (reachSet reach) (sym z) ∙ place x (t .named x there .0)) u)))
+      go i y s u (yes z) =
+          let here = subst (λ (k : ℕ). T (bit k i)) (ap (reachSet reach) (sym z) ∙ place x (t .named x there .0)) u in
+          inl (subst T (sym (bit-or m (getD reach x 0) i)) (or-right (bit m i) (bit (getD reach x 0) i) here))
       go i y s u (no z) = inr (y, (subst T (sym (digit-taken rest x there y)) (and-in (bit rest y) (not (eqb x y)) s (subst (λ (b : Bool). T (not b)) (sym (ne-eqb x y z)) tt)), u))
 
   pub taken-all : (rest m : ℕ) → Taken image reach e rest m → rest ≡ 0 → Means m Afterward

@@ -2,7 +2,7 @@
 use Prim.Native.Nat.{ℕ, zero, suc, _+_, _-_, _^_, _<_, _≤_}
 use native.Mathlib.Omega.{arith}
 use native.Mathlib.Decide.{decLt}
-use mathlib.Core.Bool.{Bool, true, false, _&&_, not}
+use mathlib.Core.Bool.{Bool, true, false, not}
 use mathlib.Core.Path.{_≡_, refl, sym, ap, _∙_, subst}
 use mathlib.Core.List.{List, [], _∷_, _++_, List·Memᴰ, List·Memᴰ·head, List·Memᴰ·tail}
 use lib.ListN.{length, getD, take, drop, length-drop}
@@ -23,7 +23,7 @@ use Rattle.digits.proofs.Bits.{digit-taken}
 use Rattle.rules.specs.Paths.{inSome}
 use Rattle.rules.proofs.PathLaws.{some-here}
 use Rattle.listing.specs.Places.{waysAfter}
-use Rattle.listing.specs.Opening.{mayEnter, Known, SetOf}
+use Rattle.listing.specs.Opening.{Known, SetOf}
 use Rattle.listing.proofs.Ranges.{some-none, some-one, some-taken}
 use Rattle.forms.specs.Forms.{flagsIn}
 use Rattle.filter.specs.Listed.{Rising}
@@ -46,7 +46,8 @@ mem-right [] ys m = m
 mem-right (x ∷ xs) ys m = List·Memᴰ·tail (mem-right xs ys m)
 
 -- what holds of each of two lists holds of both together
-each-append : (P : ℕ → Type 0) (xs ys : List ℕ) → ((k : ℕ) → k < length xs → P (getD xs k 0)) → ((k : ℕ) → k < length ys → P (getD ys k 0)) → (k : ℕ) → k < length (xs ++ ys) → P (getD (xs ++ ys) k 0)
+each-append : (P : ℕ → Type 0) (xs ys : List ℕ) → ((k : ℕ) → k < length xs → P (getD xs k 0)) → ((k : ℕ) → k < length ys → P (getD ys k 0)) → (k : ℕ)
+    → k < length (xs ++ ys) → P (getD (xs ++ ys) k 0)
 each-append P [] ys a b k h = b k h
 each-append P (x ∷ xs) ys a b zero h = a 0 (omega arith)
 each-append P (x ∷ xs) ys a b (suc k) h = each-append P xs ys (λ j l. a (suc j) (omega arith)) b k (omega arith)
@@ -86,7 +87,8 @@ module _ (image masks flags reach : List ℕ) (first : ℕ) where
       go (no l) = let same : x ≡ y = omega arith in omega (arith, ap (firstEntry image) same)
 
   -- one lexicon more
-  module _ (bits rest : ℕ) (xs : List ℕ) (c : Choosing bits rest xs) (known : Known bits lexicons) (x : ℕ) (lowest : Lowest rest x) (low high : ℕ) (low-is : low ≡ firstEntry image x) (high-is : high ≡ firstEntry image x + entryCount image x)
+  module _ (bits rest : ℕ) (xs : List ℕ) (c : Choosing bits rest xs) (known : Known bits lexicons) (x : ℕ) (lowest : Lowest rest x) (low high : ℕ) (low-is : low ≡ firstEntry image x)
+      (high-is : high ≡ firstEntry image x + entryCount image x)
       (ys : List ℕ) (s : Surviving image masks flags reach first low high ys) where
     inside : T (bit bits x)
     inside = c .above x (lowest .there) .1
@@ -123,9 +125,12 @@ module _ (image masks flags reach : List ℕ) (first : ℕ) where
       next = suc x;
       next-in = known x inside;
       above = left-above;
-      rising = rising-append 0 (firstEntry image (c .next)) low (firstEntry image (suc x)) xs ys (omega arith) (omega (arith, first-upward (c .next) x (c .above x (lowest .there) .0))) (omega (arith, first-suc image x)) (c .rising)
+      rising =
+          rising-append 0 (firstEntry image (c .next)) low (firstEntry image (suc x)) xs ys (omega arith) (omega (arith, first-upward (c .next) x (c .above x (lowest .there) .0)))
+          (omega (arith, first-suc image x)) (c .rising)
           (subst (λ (n : ℕ). Rising low n ys) (high-is ∙ sym (first-suc image x)) (s .rising));
-      opens = each-append (λ e. T (inSome image lexicons bits e)) xs ys (c .opens) (λ k h. let r = rising-in low high ys (s .rising) k h in named (getD ys k 0) (in-range (getD ys k 0) (r .0) (r .1)));
+      opens = each-append (λ e. T (inSome image lexicons bits e)) xs ys (c .opens)
+          (λ k h. let r = rising-in low high ys (s .rising) k h in named (getD ys k 0) (in-range (getD ys k 0) (r .0) (r .1)));
       others = others;
     }
 
@@ -140,15 +145,18 @@ module _ (image masks flags reach : List ℕ) (first : ℕ) where
       last = subst (λ (g : Header). firstEntry image (g .lexicons) ≡ g .entries) (a .laid .header-is) (first-last image h (a .laid) (of-true (rightEntries image) (a .entries-right)))
 
   -- of one lexicon
-  pub one-survives : (x low high : ℕ) → x < lexicons → low ≡ firstEntry image x → high ≡ firstEntry image x + entryCount image x → high ≤ header image .entries → (xs : List ℕ) → Surviving image masks flags reach first low high xs → SurvivingSet image masks flags reach first (2 ^ x) xs
+  pub one-survives : (x low high : ℕ) → x < lexicons → low ≡ firstEntry image x → high ≡ firstEntry image x + entryCount image x → high ≤ header image .entries → (xs : List ℕ)
+      → Surviving image masks flags reach first low high xs → SurvivingSet image masks flags reach first (2 ^ x) xs
   one-survives x low high few e1 e2 within xs s = record {
     rising = rising-within low high xs (s .rising) (header image .entries) within;
-    opens = λ k h. let r = rising-in low high xs (s .rising) k h in subst T (sym (some-one image lexicons x few (getD xs k 0))) (lexicon-in image x (getD xs k 0) (omega (arith, r .0)) (omega (arith, r .1)));
+    opens = λ k h. let r = rising-in low high xs (s .rising) k h in subst T (sym (some-one image lexicons x few (getD xs k 0)))
+        (lexicon-in image x (getD xs k 0) (omega (arith, r .0)) (omega (arith, r .1)));
     others = λ e t none l. let r = lexicon-out image x e (subst T (some-one image lexicons x few e) t) in s .others e (omega (arith, r .0)) (omega (arith, r .1)) none l;
   }
 
 -- the survivors of the lexicons that come next, where any path will do
-pub set-chosen : (image forms masks reach : List ℕ) (last first bits : ℕ) → (length forms ≡ 0 → ⊥) → SetOf image (waysAfter image last) bits → (xs : List ℕ) → SurvivingSet image masks (flagsIn forms) reach first bits xs → Chosen image anything forms masks reach last first xs
+pub set-chosen : (image forms masks reach : List ℕ) (last first bits : ℕ) → (length forms ≡ 0 → ⊥) → SetOf image (waysAfter image last) bits → (xs : List ℕ)
+    → SurvivingSet image masks (flagsIn forms) reach first bits xs → Chosen image anything forms masks reach last first xs
 set-chosen image forms masks reach last first bits some set xs s = record {
   some = some;
   rising = s .rising;

@@ -44,7 +44,8 @@ module _ (g : Grammar) (q : Query) (f : Feasible) (after : ℕ → ℕ → Bool)
   unfolding goAt
   entered-hope n e inside s = hope-entry g q f after covers sound e inside (8 - n .nulls) (omega arith) (n .surface .letters) s
 
-  pub entry-lost : (n : Node) (e : ℕ) → e < g .entries → (Leads f (g .form e) (λ k. T (after e k)) (n .surface .letters) → ⊥) → (k : ℕ) (r : Reading) → gather g q k (goAt g q true n (suc e)) r ≡ []
+  pub entry-lost : (n : Node) (e : ℕ) → e < g .entries → (Leads f (g .form e) (λ k. T (after e k)) (n .surface .letters) → ⊥) → (k : ℕ) (r : Reading)
+      → gather g q k (goAt g q true n (suc e)) r ≡ []
   entry-lost n e inside none k r = lost g q f after covers sound k (goAt g q true n (suc e)) r (λ s. none (entered-hope n e inside s))
 
 -- and at a place of the search: by sets of the word's letters, and a first set that has the position where it stands
@@ -53,7 +54,8 @@ module _ (image masks flags reach : List ℕ) (q : Query) (covers : Covers (gram
   abbrev f : Feasible
   f = feasibleOf masks flags
 
-  leading-is : (e : ℕ) → Leads f (grammarOf image .form e) (λ k. T (afterIn image (reachOf reach) e k)) (nodeAt image place trail .surface .letters) → Leads f (formOf (entry image e)) (λ k. T (afterIn image (reachOf reach) e k)) (place .surface .letters)
+  leading-is : (e : ℕ) → Leads f (grammarOf image .form e) (λ k. T (afterIn image (reachOf reach) e k)) (nodeAt image place trail .surface .letters)
+      → Leads f (formOf (entry image e)) (λ k. T (afterIn image (reachOf reach) e k)) (place .surface .letters)
   unfolding grammarOf nodeOf
   leading-is e s = s
 
@@ -61,7 +63,8 @@ module _ (image masks flags reach : List ℕ) (q : Query) (covers : Covers (gram
   unfolding grammarOf
   inside-is e h = h
 
-  entry-barren : (e : ℕ) → e < header image .entries → (Leads f (formOf (entry image e)) (λ k. T (afterIn image (reachOf reach) e k)) (place .surface .letters) → ⊥) → entryOne image q place trail e ≡ []
+  entry-barren : (e : ℕ) → e < header image .entries → (Leads f (formOf (entry image e)) (λ k. T (afterIn image (reachOf reach) e k)) (place .surface .letters) → ⊥)
+      → entryOne image q place trail e ≡ []
   entry-barren e inside none =
       given-nil (mayAt (grammarOf image) q true (nodeAt image place trail) (suc e)) _
       (entry-lost (grammarOf image) q f (afterIn image (reachOf reach)) covers (reaches-sound image q f (reachOf reach) reaches) (nodeAt image place trail) e (inside-is e inside)

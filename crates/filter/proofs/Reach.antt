@@ -70,10 +70,20 @@ module _ (image : List ℕ) (q : Query) (f : Feasible) where
       pub replaced-reach : Reaches image q f (replaced reach y m)
       replaced-reach = record {
         at-end = λ i s. subst (λ (b : Bool). T b) (sym (replaced-other 255 i (λ e. omega arith))) (r .at-end i s);
-        onward = λ x other e inside has i s. go x other e inside has i (leads-map f (formOf (entry image e)) (λ k. T (afterIn image (replaced reach y m) e k)) (λ k. T (afterIn image reach e k)) (λ k. after-map image (replaced reach y m) reach less e k) i s) (ℕ-discrete x y);
+        onward = λ x other e inside has i s. go x other e inside has i (leads-map f (formOf (entry image e)) (Kept e) (Leading e) (kept e) i s) (ℕ-discrete x y);
       }
         where
-          go : (x : ℕ) → x < header image .lexicons → (e : ℕ) → e < header image .entries → T (inLexicon image x e) → (i : ℕ) → Leads f (formOf (entry image e)) (λ k. T (afterIn image reach e k)) i → Dec (x ≡ y) → T (replaced reach y m x i)
+          Kept : ℕ → ℕ → Type 0
+          Kept e k = T (afterIn image (replaced reach y m) e k)
+
+          Leading : ℕ → ℕ → Type 0
+          Leading e k = T (afterIn image reach e k)
+
+          kept : (e k : ℕ) → Kept e k → Leading e k
+          kept e k = after-map image (replaced reach y m) reach less e k
+
+          go : (x : ℕ) → x < header image .lexicons → (e : ℕ) → e < header image .entries → T (inLexicon image x e) → (i : ℕ)
+              → Leads f (formOf (entry image e)) (λ k. T (afterIn image reach e k)) i → Dec (x ≡ y) → T (replaced reach y m x i)
           go x other e inside has i s (yes h) =
               subst (λ (z : ℕ). T (replaced reach y m z i)) (sym h)
               (subst (λ (b : Bool). T b) (sym (replaced-same i)) (holds e inside (subst (λ (z : ℕ). T (inLexicon image z e)) h has) i s))

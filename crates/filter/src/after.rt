@@ -1,12 +1,10 @@
 // What may come after an entry, by what is kept of its end and of each lexicon.
-ghost use mathlib.Core.Path.{_≡_};
 ghost use Prim.Native.Nat.{_<_};
 ghost use lib.Dec.{T};
 ghost use Rattle.model.specs.Lexicon.{entry};
 ghost use Rattle.image.specs.Header.{headerOf};
 ghost use Rattle.image.specs.Accepted.{Accepted};
 ghost use Rattle.positions.specs.Stack.{reachOf, Reached};
-ghost use Rattle.forms.specs.Slots.{slotEntry};
 ghost use Rattle.filter.specs.Sets.{Means};
 ghost use Rattle.filter.specs.Lexicons.{afterIn};
 ghost use Rattle.filter.specs.Unions.{SlotAt, After};

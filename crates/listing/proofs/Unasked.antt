@@ -1,14 +1,14 @@
 -- Once the path has ended where what is asked of it lets it end nowhere, nothing is found. So the search need not end it there.
 use Prim.Native.Nat.{ℕ, zero, suc}
 use mathlib.Core.Bool.{Bool, true, false, not, true≢false}
-use mathlib.Core.Path.{_≡_, refl, sym, ap, ap₂, _∙_, subst}
-use mathlib.Core.List.{List, [], _∷_, _++_, List·Memᴰ, List·Memᴰ·head, List·Memᴰ·tail}
+use mathlib.Core.Path.{_≡_, refl, ap, ap₂, subst}
+use mathlib.Core.List.{List, [], _∷_, _++_}
 use lib.Dec.{T}
 use Rattle.model.specs.Lists.{below, given, flatMap}
 use Rattle.model.specs.Grammar.{Grammar}
 use Rattle.model.specs.Readings.{Reading}
 use Rattle.model.specs.Query.{Query}
-use Rattle.model.specs.Tree.{Node, isNil, opens, levelEnds, finish, countAt, mayAt, goAt, complete}
+use Rattle.model.specs.Tree.{Node, isNil, opens, countAt, mayAt, goAt, complete}
 use Rattle.model.proofs.Booleans.{out5, false-of, right-false}
 use Rattle.listing.specs.Gather.{grow, gather}
 
@@ -36,6 +36,7 @@ module _ (g : Grammar) (q : Query) where
       (none-of (λ x. given (mayAt g q (opens n) n x) (gather g q k (goAt g q (opens n) n x) (grow (opens n) r x))) (below (countAt g q (opens n) n))
       (λ x. none-given (mayAt g q (opens n) n x) (later (opens n) (ended-opens n d) x (λ n r. unasked k n r))))
     where
-      later : (b : Bool) → b ≡ false → (x : ℕ) → ((n : Node) (r : Reading) → n .ended ≡ true → q .entries .mayEnd (n .entries) ≡ false → gather g q k n r ≡ []) → gather g q k (goAt g q b n x) (grow b r x) ≡ []
+      later : (b : Bool) → b ≡ false → (x : ℕ) → ((n : Node) (r : Reading) → n .ended ≡ true → q .entries .mayEnd (n .entries) ≡ false → gather g q k n r ≡ [])
+          → gather g q k (goAt g q b n x) (grow b r x) ≡ []
       later false z x f = f (goAt g q false n x) (grow false r x) d e
       later true z x f = absurd (true≢false z)

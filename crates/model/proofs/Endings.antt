@@ -8,18 +8,19 @@ use lib.ListN.{length, length-append}
 use lib.Dec.{T, ltb, eqb}
 use borrow.Author.Tests.{eqb-true}
 use native.Mathlib.Omega.{arith}
-use Rattle.model.specs.Lists.{below, every, any, joined, sameList, byte}
+use Rattle.model.specs.Lists.{below, every, any, joined, byte}
 use Rattle.model.specs.Blocks.{header}
 use Rattle.model.specs.Grammar.{Grammar, OneWay}
 use Rattle.model.specs.GrammarOf.{grammarOf}
 use Rattle.model.specs.Readings.{Reading, stepsBy, withoutNulls, spelled, afterLetter, upTo, beyond, endingList, stepList, endingSteps}
-use Rattle.model.specs.Readings.{steps, Before, Ascending, isReading, isPath, isLinked, pairingLength, fewNulls, isLine, passes}
+use Rattle.model.specs.Readings.{steps, Before, Ascending, isReading, isPath, isLinked}
 use Rattle.model.specs.Lexicon.{inLexicon, entry, mayStop, goesTo, linked, pathLength}
 use Rattle.model.specs.Query.{Query}
 use Rattle.model.specs.Tree.{readings}
 use Rattle.model.specs.Calls.{stepsOf}
 use Rattle.model.proofs.Listing.{ListsBy, IsListing, listing}
-use Rattle.model.proofs.Booleans.{and-in, and-out, not-both, out3, out8, same-out}
+use Rattle.model.proofs.Booleans.{and-in, and-out, not-both, out3}
+use Rattle.model.proofs.Readings.{parts-of}
 use Rattle.model.proofs.Lists.{map-from, any-from, any-has, below-has}
 
 letters-left : (a k t : ℕ) (xs : List ℕ) → length (withoutNulls (a ∷ xs)) ≡ suc k + t → length (withoutNulls xs) ≡ afterLetter a (suc k) + t
@@ -82,12 +83,10 @@ module _ (g : Grammar) where
       )
 
   parts : (r : Reading) → T (isReading g r) → T (isLinked g (r .path)) × (letters (r .pairing) ≡ total (r .path))
-  unfolding isReading isPath
+  unfolding isPath
   parts r t =
-      let ps = r .pairing in
-      let forms = sameList (spelled (g .lexical) ps) (joined (map (g .form) (r .path))) in
-      let m = out8 (isPath g (r .path)) (pairingLength ps) (every (λ p. ltb p (g .pairs)) ps) forms (fewNulls (g .lexical) ps) (isLine (g .surface) ps) (isLine (g .spoken) ps) (passes g ps) t in
-      (and-out (pathLength (r .path)) (isLinked g (r .path)) (m .0) .1, ap length (same-out (spelled (g .lexical) ps) (joined (map (g .form) (r .path))) (m .3)))
+      let p = parts-of g r t in
+      (and-out (pathLength (r .path)) (isLinked g (r .path)) (p .path-right) .1, ap length (p .forms-spelled))
 
   plain-ascending : OneWay g → (l : List Reading) → ((r : Reading) → List·Memᴰ r l → T (isReading g r)) → Ascending (map (endingSteps g) l) → Ascending (map (steps g) l)
   plain-ascending w [] f a = tt

@@ -1,14 +1,13 @@
 -- `filter::choose` meets its contract: where any path will do, the lexicons that come next are a set, and the survivors of its lexicons are all that lead on.
-use Prim.Native.Nat.{ℕ, _-_, _^_, _<_, _≤_}
+use Prim.Native.Nat.{ℕ, _-_, _^_, _≤_}
 use native.Mathlib.Omega.{arith}
 use borrow.Author.Needs.{needs}
 use mathlib.Core.Logic.{_⊎_, inl, inr, ⊎-elim}
-use mathlib.Core.Path.{_≡_, refl, sym, ap, _∙_, subst}
+use mathlib.Core.Path.{_≡_, refl, sym, subst}
 use mathlib.Core.List.{List}
 use lib.ListN.{length, take}
 use Rattle.model.specs.Blocks.{Header, header}
-use Rattle.model.specs.Query.{anything}
-use Rattle.image.specs.Header.{headerOf}
+use Rattle.model.specs.Query.{Pattern, anything}
 use Rattle.digits.proofs.Bits.{digit-most}
 use Rattle.listing.specs.declared.asked.PathAsked.{PathAsked}
 use Rattle.listing.specs.Asked.{pathPattern}
@@ -49,21 +48,25 @@ module _ (c : tie.After-set-on) where
   known : Known bits (s .args .h .lexicons)
   known = subst (λ (g : Header). Known bits (g .lexicons)) (sym (s .pre .0 .laid .header-is)) (c .set-on .ensures .known)
 
-  abbrev Told : ℕ → List ℕ → Type 0
-  Told r list =
-      (r ≡ 65)
-      ⊎ ((r ≤ 64) × Chosen (s .args .image .now) (pathPattern (s .args .asked) (s .args .path .now)) (s .args .forms .now) (s .args .masks .now) (s .args .reach .now) (s .args .last) (2 ^ s .args .letters) (take r list))
+  abbrev ChosenBy : Pattern → List ℕ → Type 0
+  ChosenBy path xs = Chosen (s .args .image .now) path (s .args .forms .now) (s .args .masks .now) (s .args .reach .now) (s .args .last) (2 ^ s .args .letters) xs
 
-  chosen : (set r : ℕ) (list : List ℕ) → set ≡ bits → (r ≡ 65) ⊎ ((r ≤ length (s .args .list .now)) × SurvivingSet (s .args .image .now) (s .args .masks .now) (flagsIn (s .args .forms .now)) (s .args .reach .now) (2 ^ s .args .letters) set (take r list))
-      → Told r list
+  abbrev Told : ℕ → List ℕ → Type 0
+  Told r list = (r ≡ 65) ⊎ ((r ≤ 64) × ChosenBy (pathPattern (s .args .asked) (s .args .path .now)) (take r list))
+
+  abbrev Survive : ℕ → List ℕ → Type 0
+  Survive set xs = SurvivingSet (s .args .image .now) (s .args .masks .now) (flagsIn (s .args .forms .now)) (s .args .reach .now) (2 ^ s .args .letters) set xs
+
+  all-chosen : (xs : List ℕ) → Survive bits xs → ChosenBy anything xs
+  all-chosen =
+      set-chosen (s .args .image .now) (s .args .forms .now) (s .args .masks .now) (s .args .reach .now) (s .args .last) (2 ^ s .args .letters) bits (there .if1 .left) (c .set-on .ensures)
+
+  chosen : (set r : ℕ) (list : List ℕ) → set ≡ bits → (r ≡ 65) ⊎ ((r ≤ length (s .args .list .now)) × Survive set (take r list)) → Told r list
   chosen set r list e =
       ⊎-elim {C = Told r list} inl
-      (λ u. inr (
-        omega (arith, u .0, s .pre .1 .1 .1 .0 .1),
-        subst (λ path. Chosen (s .args .image .now) path (s .args .forms .now) (s .args .masks .now) (s .args .reach .now) (s .args .last) (2 ^ s .args .letters) (take r list)) (sym told)
-            (set-chosen (s .args .image .now) (s .args .forms .now) (s .args .masks .now) (s .args .reach .now) (s .args .last) (2 ^ s .args .letters) bits (there .if1 .left) (c .set-on .ensures) (take r list)
-            (subst (λ (n : ℕ). SurvivingSet (s .args .image .now) (s .args .masks .now) (flagsIn (s .args .forms .now)) (s .args .reach .now) (2 ^ s .args .letters) n (take r list)) e (u .1))),
-      ))
+      (λ u.
+      let own = all-chosen (take r list) (subst (λ (n : ℕ). Survive n (take r list)) e (u .1)) in
+      inr (omega (arith, u .0, s .pre .1 .1 .1 .0 .1), subst (λ path. ChosenBy path (take r list)) (sym told) own))
 
 returns : tie.Need-returns
 returns c = inl refl
@@ -90,7 +93,8 @@ choose-one-requires : tie.Need-choose-one-requires
 choose-one-requires c κs =
     let low = c .before .before .before in
     let t = low .before .before in
-    (s t .pre .0, (s t .pre .1 .0, (sieved t .forms-of, ((sieved t .filled, sieved t .reached), (known t (low .lowest .result) (low .lowest .ensures .0 .there), (s t .pre .1 .1 .1 .0 .0, omega (arith, s t .pre .1 .1 .1 .0 .1)))))))
+    let few = known t (low .lowest .result) (low .lowest .ensures .0 .there) in
+    (s t .pre .0, (s t .pre .1 .0, (sieved t .forms-of, ((sieved t .filled, sieved t .reached), (few, (s t .pre .1 .1 .1 .0 .0, omega (arith, s t .pre .1 .1 .1 .0 .1)))))))
 
 same-length : tie.Need-same-length
 same-length c = search needs
@@ -107,7 +111,8 @@ returns-3 c =
 
 choose-each-requires : tie.Need-choose-each-requires
 choose-each-requires c κs =
-    let t = c .before .before .before .before .before in
+    let less = c .before .before in
+    let t = less .before .before .before in
     (s t .pre .0, (s t .pre .1 .0, (sieved t .forms-of, ((sieved t .filled, sieved t .reached), (known t, (s t .pre .1 .1 .1 .0 .0, omega (arith, s t .pre .1 .1 .1 .0 .1)))))))
 
 returns-4 : tie.Need-returns-4
@@ -119,7 +124,8 @@ same-length-2 c = search needs
 returns-5 : tie.Need-returns-5
 returns-5 c =
     let called = c .before .before in
-    let t = called .before .before .before .before .before .before in
+    let less = called .before .before .before in
+    let t = less .before .before .before in
     chosen t (bits t) (called .choose-each .result) _ refl (called .choose-each .ensures)
 
 pub choose-spec : {M : Type 1} → statement M

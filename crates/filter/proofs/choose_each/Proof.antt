@@ -82,7 +82,8 @@ among-requires : tie.Need-among-requires Inv-loop μ-loop
 among-requires c κs =
     let range = c .before in
     let t = range .before .before in
-    (s t .pre .0, (s t .pre .1 .1 .0, (s t .pre .1 .1 .1 .0, ((x t, (omega (arith, inside t, ap (λ (g : Header). g .lexicons) (s t .pre .0 .laid .header-is)), range .lexicon-range .ensures)), (s t .pre .1 .1 .1 .1 .1 .0, room-few t)))))
+    let there : x t < header (s t .args .image .now) .lexicons = omega (arith, inside t, ap (λ (g : Header). g .lexicons) (s t .pre .0 .laid .header-is)) in
+    (s t .pre .0, (s t .pre .1 .1 .0, (s t .pre .1 .1 .1 .0, ((x t, (there, range .lexicon-range .ensures)), (s t .pre .1 .1 .1 .1 .1 .0, room-few t)))))
 
 -- the part that is lent keeps its length, and so does the list
 module _ (c : tie.After-slice-known2 Inv-loop μ-loop) where
@@ -124,8 +125,13 @@ module _ (c : tie.Else1 Inv-loop μ-loop) where
   within : l after .loop .n + many ≤ length (s (t after) .args .list .now)
   within = omega (arith, fits, l after .loop .inv .1 .0)
 
-  both : take (l after .loop .n + many) (putMid (l after .loop .n) (length (l after .loop .list) - l after .loop .n) (l after .loop .list) (part after)) ≡ take (l after .loop .n) (l after .loop .list) ++ take many (part after)
-  both = take-put (l after .loop .n) (length (l after .loop .list) - l after .loop .n) many (l after .loop .list) (part after) (omega (arith, l after .loop .inv .0, l after .loop .inv .1 .0)) (omega (arith, fits, part-long))
+  abbrev whole : List ℕ
+  whole = putMid (l after .loop .n) (length (l after .loop .list) - l after .loop .n) (l after .loop .list) (part after)
+
+  both : take (l after .loop .n + many) whole ≡ take (l after .loop .n) (l after .loop .list) ++ take many (part after)
+  both =
+      take-put (l after .loop .n) (length (l after .loop .list) - l after .loop .n) many (l after .loop .list) (part after) (omega (arith, l after .loop .inv .0, l after .loop .inv .1 .0))
+      (omega (arith, fits, part-long))
 
   abbrev Chosen : ℕ → List ℕ → Type 0
   Chosen rest xs = let a = s (t after) .args in Choosing (a .image .now) (a .masks .now) (flagsIn (a .forms .now)) (a .reach .now) (2 ^ a .letters) (a .bits) rest xs
@@ -134,8 +140,10 @@ module _ (c : tie.Else1 Inv-loop μ-loop) where
   grown =
       let a = s (t after) .args in
       let range = called after .before .before .lexicon-range in
-      choosing-more (a .image .now) (a .masks .now) (flagsIn (a .forms .now)) (a .reach .now) (2 ^ a .letters) (a .bits) (l after .loop .rest) (take (l after .loop .n) (l after .loop .list)) (l after .loop .inv .1 .1) (known (t after)) (x (t after))
-      (t after .lowest .ensures .0) (range .result .low) (range .result .high) (range .ensures .0) (range .ensures .1) (take many (part after)) (⊎-elim (λ e. absurd (c .if1 .left e)) (λ r. r .1) (called after .among .ensures))
+      choosing-more (a .image .now) (a .masks .now) (flagsIn (a .forms .now)) (a .reach .now) (2 ^ a .letters) (a .bits) (l after .loop .rest) (take (l after .loop .n) (l after .loop .list))
+      (l after .loop .inv .1 .1) (known (t after)) (x (t after))
+      (t after .lowest .ensures .0) (range .result .low) (range .result .high) (range .ensures .0) (range .ensures .1) (take many (part after))
+      (⊎-elim (λ e. absurd (c .if1 .left e)) (λ r. r .1) (called after .among .ensures))
 
 add-n : tie.Need-add-n Inv-loop μ-loop
 add-n c = record { fits = omega (arith, within c, s (t (c .before)) .pre .1 .1 .1 .1 .1 .1) }
@@ -149,7 +157,9 @@ loop-less c =
 loop-again : tie.Need-loop-again Inv-loop μ-loop
 loop-again c =
     let range = called (c .before) .before .before in
-    (long (c .before), (within c, subst (Chosen c (range .before .without .result)) (sym (both c)) (subst (λ (rest : ℕ). Chosen c rest (take (l (c .before) .loop .n) (l (c .before) .loop .list) ++ take (many c) (part (c .before)))) (sym (range .before .without .ensures)) (grown c))))
+    let parts : List ℕ = take (l (c .before) .loop .n) (l (c .before) .loop .list) ++ take (many c) (part (c .before)) in
+    let less : Chosen c (range .before .without .result) parts = subst (λ (rest : ℕ). Chosen c rest parts) (sym (range .before .without .ensures)) (grown c) in
+    (long (c .before), (within c, subst (Chosen c (range .before .without .result)) (sym (both c)) less))
 
 same-length-2 : tie.Need-same-length-2 Inv-loop μ-loop
 same-length-2 c = c .before .loop .inv .0
@@ -159,7 +169,8 @@ returns-2 c =
     let at = c .before in
     let s = lent-from (at .before) in
     let a = s .args in
-    inr (at .loop .inv .1 .0, choosing-all (a .image .now) (a .masks .now) (flagsIn (a .forms .now)) (a .reach .now) (2 ^ a .letters) (headerOf (a .h)) (s .pre .0) (a .bits) (at .loop .rest) (take (at .loop .n) (at .loop .list)) (at .loop .inv .1 .1) (c .loop-test .left))
+    let all = choosing-all (a .image .now) (a .masks .now) (flagsIn (a .forms .now)) (a .reach .now) (2 ^ a .letters) (headerOf (a .h)) (s .pre .0) (a .bits) (at .loop .rest) in
+    inr (at .loop .inv .1 .0, all (take (at .loop .n) (at .loop .list)) (at .loop .inv .1 .1) (c .loop-test .left))
 
 pub choose-each-spec : {M : Type 1} → statement M
 choose-each-spec =

@@ -1,15 +1,16 @@
 -- `filter::choose_one` meets its contract: the survivors of the lexicon are those of the set that has it alone.
-use Prim.Native.Nat.{ℕ, _+_, _<_, _≤_}
+use Prim.Native.Nat.{_+_, _<_, _≤_, _^_}
 use native.Mathlib.Omega.{arith}
 use borrow.Author.Needs.{needs}
 use mathlib.Core.Logic.{inl, inr, ⊎-elim}
-use mathlib.Core.Path.{_≡_, refl, ap}
+use mathlib.Core.Path.{refl, ap}
 use Rattle.model.specs.Blocks.{Header, header}
 use Rattle.model.specs.Lexicon.{firstEntry, entryCount}
 use Rattle.model.specs.Refusals.{rightEntries}
 use Rattle.model.proofs.Booleans.{of-true}
 use Rattle.image.specs.Header.{headerOf}
 use Rattle.lexicon.proofs.Laws.{lexicon-within}
+use Rattle.forms.specs.Forms.{flagsIn}
 use Rattle.filter.proofs.Choosing.{one-survives}
 use Rattle.filter.proofs.choose_one.Statement.{statement}
 use Rattle.filter.proofs.choose_one.Tie as tie
@@ -17,7 +18,7 @@ use Rattle.filter.proofs.choose_one.Tie as tie
 -- the lexicon's range is read
 module _ (c : tie.After-lexicon-range) where
   abbrev s : tie.Start
-  s = let lent = c .before .before in lent .before .before .before .before .before
+  s = let masks = c .before .before .before in masks .before .before .before .before
 
   inside : s .args .x < header (s .args .image .now) .lexicons
   inside = omega (arith, s .pre .1 .1 .1 .1 .0, ap (λ (g : Header). g .lexicons) (s .pre .0 .laid .header-is))
@@ -51,7 +52,8 @@ returns-2 c =
     let t = called .before .before .before in
     let range = t .lexicon-range in
     let bound : range .result .high ≤ header (s t .args .image .now) .entries = omega (arith, range .ensures .1, within t, ap (λ (g : Header). g .entries) (s t .pre .0 .laid .header-is)) in
-    ⊎-elim inl (λ r. inr (r .0, one-survives (s t .args .image .now) (s t .args .masks .now) _ (s t .args .reach .now) _ (s t .args .x) (range .result .low) (range .result .high) (inside t) (range .ensures .0) (range .ensures .1) bound _ (r .1))) (called .among .ensures)
+    let one = one-survives (s t .args .image .now) (s t .args .masks .now) (flagsIn (s t .args .forms .now)) (s t .args .reach .now) (2 ^ s t .args .letters) (s t .args .x) in
+    ⊎-elim inl (λ r. inr (r .0, one (range .result .low) (range .result .high) (inside t) (range .ensures .0) (range .ensures .1) bound _ (r .1))) (called .among .ensures)
 
 pub choose-one-spec : {M : Type 1} → statement M
 choose-one-spec =

@@ -38,13 +38,12 @@ loop-holds c =
     let s = told-from (c .before) in
     let a = s .args in
     let ways = c .before .ways-of in
+    let first : ℕ → Type 0 = Taken (a .image .now) (a .reach .now) (a .e) (ways .result .bits) in
+    let end = taken-end (a .image .now) (headerOf (a .h)) (s .pre .0) (a .reach .now) (a .e) (s .pre .1 .1) (ways .result .bits) (omega arith) (ways .ensures .1) in
+    let none = taken-none (a .image .now) (headerOf (a .h)) (s .pre .0) (a .reach .now) (a .e) (s .pre .1 .1) (ways .result .bits) (omega arith) (ways .ensures .1) in
     ⊎-elim
-    (λ v.
-    subst (Taken (a .image .now) (a .reach .now) (a .e) (ways .result .bits)) (sym (v .2))
-    (taken-end (a .image .now) (headerOf (a .h)) (s .pre .0) (a .reach .now) (a .e) (s .pre .1 .1) (ways .result .bits) (omega arith) (ways .ensures .1) (ways .result .stop) (ways .ensures .0) (v .0 .taken)))
-    (λ v.
-    subst (Taken (a .image .now) (a .reach .now) (a .e) (ways .result .bits)) (sym (v .1))
-    (taken-none (a .image .now) (headerOf (a .h)) (s .pre .0) (a .reach .now) (a .e) (s .pre .1 .1) (ways .result .bits) (omega arith) (ways .ensures .1) (ways .result .stop) (ways .ensures .0) (v .0 .left)))
+    (λ v. subst first (sym (v .2)) (end (ways .result .stop) (ways .ensures .0) (v .0 .taken)))
+    (λ v. subst first (sym (v .1)) (none (ways .result .stop) (ways .ensures .0) (v .0 .left)))
     (c .if1 .came)
 
 lowest-requires : tie.Need-lowest-requires Inv-loop μ-loop
@@ -60,7 +59,9 @@ shared-slice-read-m-2 : tie.Need-shared-slice-read-m-2 Inv-loop μ-loop
 shared-slice-read-m-2 c = let s = loop-from (c .before .before .before .before) in omega (arith, c .before .before .lowest .ensures .1, s .pre .1 .0)
 
 loop-less : tie.Need-loop-less Inv-loop μ-loop
-loop-less c = let taken = c .before .before in let x = taken .before .lowest in omega (arith, taken .without .ensures, digit-most (taken .before .before .before .loop .rest) (x .result) (x .ensures .0 .there), pow-pos (x .result))
+loop-less c =
+    let taken = c .before .before in let x = taken .before .lowest in omega
+    (arith, taken .without .ensures, digit-most (taken .before .before .before .loop .rest) (x .result) (x .ensures .0 .there), pow-pos (x .result))
 
 loop-again : tie.Need-loop-again Inv-loop μ-loop
 loop-again c =

@@ -1,7 +1,7 @@
 -- `listing::place::ends_here` meets its contract: both tests, the one of what is asked first.
 use borrow.Author.Needs.{needs}
 use borrow.Author.Tests.{not-true, not-false}
-use mathlib.Core.Path.{_≡_, sym, _∙_}
+use mathlib.Core.Path.{sym, _∙_}
 use Rattle.model.proofs.Booleans.{right-true, right-false}
 use Rattle.listing.specs.Asked.{pathPattern}
 use Rattle.listing.specs.Places.{stopsAfter}

@@ -11,6 +11,7 @@ use mathlib.Core.List.{List, []}
 use lib.ListN.{length, set}
 use Rattle.model.specs.Blocks.{Header, header}
 use Rattle.model.specs.Query.{Query}
+use Rattle.model.specs.Readings.{Reading}
 use Rattle.image.specs.Header.{headerOf}
 use Rattle.rows.specs.Trail.{readingOf, withEntry, Holds}
 use Rattle.rows.specs.Fill.{Roomy}
@@ -97,7 +98,8 @@ module _ (t : ℕ) where
       let w = found .before in
       let next = found .next-entry .ensures _ (w .ways-on .ensures .0) in
       let e = found .next-entry .result .entry in
-      let none : (k : ℕ) → k < e → entryOne (a .image .now) (query s) (a .place) (a .trail) k ≡ [] = λ k h. entry-none (opening found) (query s) k (before-next (w .ways-on .ensures .1) (next .next) k h) in
+      let finds : ℕ → List Reading = entryOne (a .image .now) (query s) (a .place) (a .trail) in
+      let none : (k : ℕ) → k < e → finds k ≡ [] = λ k h. entry-none (opening found) (query s) k (before-next (w .ways-on .ensures .1) (next .next) k h) in
       let passes : e < a .h .entries → mayEnter (a .image .now) (query s .entries) (a .place .last) (a .trail .entries) e ≡ true = λ h. next .next .passes (omega (arith, h, entries-are w)) in (
         (refl, s .pre .1 .1 .1 .1 .1 .1),
         (
@@ -164,7 +166,14 @@ module _ (t : ℕ) where
 
   -- the trail with it
   longer : (c : Turn) → let a = start (head c) .args in let e = c .before .loop .e in
-      Holds (record { path = set (a .trail .path) (a .trail .entries) e; entries = a .trail .entries + 1; pairing = a .trail .pairing; pairs = a .trail .pairs }) (withEntry (readingOf (a .trail)) e) (a .trail .entries + 1) (a .trail .pairs)
+      Holds (record {
+        path =
+            set (a .trail .path) (a .trail .entries) e;
+        entries = a .trail .entries + 1;
+        pairing = a .trail .pairing;
+        pairs = a .trail .pairs;
+      }) (withEntry (readingOf
+      (a .trail)) e) (a .trail .entries + 1) (a .trail .pairs)
   longer c =
       let o = opening (head c) in
       let a = start (head c) .args in
@@ -252,10 +261,13 @@ module _ (t : ℕ) where
       let known : List ℕ → Type 0 = Tabled (s .args .image .now) (query s) (s .args .table .now) in
       let passed =
       ⊎-elim
-      (λ v. turns-is (turns-more _ (loop .inv .1 .1 .1 .0) (offered-all (omega (arith, v .9 .left)) (v .4 .ensures .0)) (open-turn o (loop .e) (longer here) (v .1 .result) (v .1 .ensures .0) (query s) (loop .inv .1 .0 .1 .1 .1 (here .loop-test .taken)))) (v .10) (v .12))
+      (λ v.
+      let one = open-turn o (loop .e) (longer here) (v .1 .result) (v .1 .ensures .0) (query s) (loop .inv .1 .0 .1 .1 .1 (here .loop-test .taken)) in
+      turns-is (turns-more _ (loop .inv .1 .1 .1 .0) (offered-all (omega (arith, v .9 .left)) (v .4 .ensures .0)) one) (v .10) (v .12))
       (λ v. turns-is (turns-skip (loop .inv .1 .1 .1 .0) (looked joined .barren (letter .result .0) (v .0 .left) (loop .e) (sym (letter .ensures .0)))) (v .1) (v .3))
       (done .if2 .came) in (
-        ⊎-elim (λ v. subst known (sym (v .11)) (v .4 .kept .1 .1 .1 .1 .1 .1 .1 .1 .1 .1 .1 .1 .1 .1 .0 ∙ loop .inv .0 .0, v .4 .ensures .1)) (λ v. subst known (sym (v .2)) (loop .inv .0)) (done .if2 .came),
+        ⊎-elim (λ v. subst known (sym (v .11)) (v .4 .kept .1 .1 .1 .1 .1 .1 .1 .1 .1 .1 .1 .1 .1 .1 .0 ∙ loop .inv .0 .0, v .4 .ensures .1)) (λ v. subst known (sym (v .2)) (loop .inv .0))
+            (done .if2 .came),
         (
           (next .ways, (omega (arith, next .low-is), (omega (arith, next .next .in-bound, entries-are (w .before)), λ h. next .next .passes (omega (arith, h, entries-are (w .before)))))),
           (

@@ -1,6 +1,6 @@
 -- What the members of the cycle share: the measures, what each is given at the measure t and what a call of it asks below t, the invariants.
 use Prim.Native.Nat.{ℕ, _<_, _≤_, _+_, _*_, _-_}
-use mathlib.Core.Bool.{true}
+use mathlib.Core.Bool.{Bool, true}
 use mathlib.Core.Path.{_≡_}
 use mathlib.Core.List.{List}
 use lib.ListN.{length, getD, take}
@@ -97,7 +97,20 @@ abbrev pub pair-each-below : ℕ → In 9 pair-each-kinds.ps
 pair-each-below t = and 9 pair-each-kinds.ps (falls 9 pair-each-kinds.ps _<_ μ-pair-each t) pair-each.Pre
 
 abbrev pub open-claims : ℕ → open-lts.Claims
-open-claims t = (ends-here-reads.Asked, ends-here-reads.Learnt, stop-reads.Asked, stop-reads.Learnt, pair-below t, pair.Post, choose-reads.Asked, choose-reads.Learnt, open-each-below t, open-each.Post, open-listed-below t, open-listed.Post)
+open-claims t = (
+  ends-here-reads.Asked,
+  ends-here-reads.Learnt,
+  stop-reads.Asked,
+  stop-reads.Learnt,
+  pair-below t,
+  pair.Post,
+  choose-reads.Asked,
+  choose-reads.Learnt,
+  open-each-below t,
+  open-each.Post,
+  open-listed-below t,
+  open-listed.Post,
+)
 
 abbrev pub open-each-claims : ℕ → open-each-lts.Claims
 open-each-claims t = (ways-on-reads.Asked, ways-on-reads.Learnt, next-entry-reads.Asked, next-entry-reads.Learnt, first-letter-reads.Asked, first-letter-reads.Learnt, look-reads.Asked, look-reads.Learnt, enter-reads.Asked, enter-reads.Learnt, pair-below t, pair.Post)
@@ -119,8 +132,9 @@ Tabled image q before table = (length table ≡ length before) × Remembered ima
 abbrev pub open-each-Inv-loop : open-each-lts.InvT-loop
 open-each-Inv-loop image index h asked path word forms masks reach place trail out₀ capacity found table₀ word-asked entries n₀ known₀ e₀ ways₀ out table n known e ways =
     let q = queryBy asked path word in
+    let may : ℕ → Bool = mayEnter image (q .entries) (place .last) (trail .entries) in
     Tabled image q table₀ table
-    × ((WaysOf image (mayEnter image (q .entries) (place .last) (trail .entries)) ways × ((ways .low ≤ e) × ((e ≤ h .entries) × (e < h .entries → mayEnter image (q .entries) (place .last) (trail .entries) e ≡ true))))
+    × ((WaysOf image may ways × ((ways .low ≤ e) × ((e ≤ h .entries) × (e < h .entries → may e ≡ true))))
     × (((length out ≡ length out₀) × (n ≤ capacity)) × (Turns (put capacity) (entryOne image q place trail) (out₀, found) (out, n) e × Known image q place trail known)))
 
 abbrev pub open-each-μ-loop : open-each-lts.MeasureT-loop
