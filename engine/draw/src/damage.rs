@@ -481,11 +481,11 @@ fn check_or_number(prng: &mut Prng, draft: &Draft) -> Damaged {
 fn past_modulus(prng: &mut Prng, draft: &Draft, higher: bool) -> Damaged {
     let mut draft = draft.clone();
     while draft.entries().count() < 31 {
-        let filler = DraftEntry {
-            form: lexical_letters(&draft.pairs).into_iter().take(1).collect(),
-            continuation: END,
-            gloss: 0,
-        };
+        let filler = DraftEntry::with_one_way(
+            lexical_letters(&draft.pairs).into_iter().take(1).collect(),
+            END,
+            0,
+        );
         draft.lexicons.last_mut().expect("a lexicon").push(filler);
     }
     let mut image = draft.image();
@@ -580,11 +580,7 @@ fn plan(prng: &mut Prng, draft: &Draft) -> Damaged {
 /// A draft laid out right with one count just outside its limits.
 fn past_limit(prng: &mut Prng, draft: &Draft) -> Damaged {
     let mut draft = draft.clone();
-    let entry = DraftEntry {
-        form: Vec::new(),
-        continuation: END,
-        gloss: 0,
-    };
+    let entry = DraftEntry::with_one_way(Vec::new(), END, 0);
     let last = draft.lexicons.len() - 1;
     match prng.below(10) {
         0 => draft.letters.truncate(1),
@@ -815,7 +811,7 @@ fn harmless(prng: &mut Prng, draft: &Draft) -> Damaged {
             if draft.lexicons.len() < 64 {
                 let number = prng.below(draft.lexicons.len());
                 if let Some(entry) = draft.lexicons[number].first_mut() {
-                    entry.continuation = last as u8;
+                    entry.go_on_to(last as u8);
                 }
             }
         }

@@ -136,11 +136,7 @@ fn form(prng: &mut Prng, length: usize, alphabet: &Alphabet) -> Vec<u8> {
 }
 
 fn entry(prng: &mut Prng, form: Vec<u8>, continuation: u8) -> DraftEntry {
-    DraftEntry {
-        form,
-        continuation,
-        gloss: prng.below(65_536) as u16,
-    }
+    DraftEntry::with_one_way(form, continuation, prng.below(65_536) as u16)
 }
 
 /// How the entries of drawn lexicons are spread.
@@ -207,6 +203,7 @@ fn mixed(prng: &mut Prng) -> Draft {
     let lexicons = lexicons(prng, &alphabet, &spread);
     let (sets, tables) = rules(prng, letters, &pairs);
     Draft {
+        image_form: 1,
         letters: points::alphabet(prng, letters),
         pairs,
         sets,
@@ -238,6 +235,7 @@ fn twins(prng: &mut Prng) -> Draft {
     let lexicons = lexicons(prng, &alphabet, &spread);
     let (sets, tables) = rules(prng, letters, &pairs);
     Draft {
+        image_form: 1,
         letters: points::alphabet(prng, letters),
         pairs,
         sets,
@@ -278,6 +276,7 @@ fn cycles(prng: &mut Prng) -> Draft {
     }
     let (sets, tables) = rules(prng, letters, &pairs);
     Draft {
+        image_form: 1,
         letters: points::alphabet(prng, letters),
         pairs,
         sets,
@@ -348,8 +347,8 @@ fn long(prng: &mut Prng) -> Draft {
             0 => {}
             1 => drop(twin.form.pop()),
             2 => twin.form.clear(),
-            _ if link + 2 < links => twin.continuation = link as u8 + 2,
-            _ => twin.continuation = END,
+            _ if link + 2 < links => twin.go_on_to(link as u8 + 2),
+            _ => twin.go_on_to(END),
         }
         let place = prng.below(lexicons[link].len() + 1);
         lexicons[link].insert(place, twin);
@@ -368,6 +367,7 @@ fn long(prng: &mut Prng) -> Draft {
     };
     let tables = (0..rules).map(|_| table(prng, &stock, &temper)).collect();
     Draft {
+        image_form: 1,
         letters: points::alphabet(prng, 5),
         pairs,
         sets,
@@ -432,6 +432,7 @@ fn many(prng: &mut Prng) -> Draft {
     }
     let (sets, tables) = rules(prng, letters, &pairs);
     Draft {
+        image_form: 1,
         letters: points::alphabet(prng, letters),
         pairs,
         sets,
@@ -489,6 +490,7 @@ fn narrow(prng: &mut Prng) -> Draft {
         })
         .collect();
     Draft {
+        image_form: 1,
         letters: points::alphabet(prng, letters),
         pairs,
         sets,
@@ -554,6 +556,7 @@ fn tiny(prng: &mut Prng) -> Draft {
     let lexicons = lexicons(prng, &alphabet, &spread);
     let (sets, tables) = rules(prng, letters, &all);
     Draft {
+        image_form: 1,
         letters: points::alphabet(prng, letters),
         pairs: all,
         sets,
@@ -675,6 +678,7 @@ fn at_limits(prng: &mut Prng, all: bool, set_count: usize) -> Draft {
         spread[lexicon].push(entry);
     }
     Draft {
+        image_form: 1,
         letters: points::alphabet(prng, letters),
         pairs,
         sets,
@@ -709,6 +713,7 @@ pub fn widest(prng: &mut Prng) -> Draft {
     let last = prng.one_of(&[1, 63, 64, 65, 100]);
     lexicons.push(vec![entry(prng, forms[15].clone(), END); last]);
     Draft {
+        image_form: 1,
         letters: (1..=u16::from(LETTERS)).collect(),
         sets: some_sets(prng, LETTERS.into(), &pairs),
         pairs,
@@ -741,6 +746,7 @@ pub fn many_readings(prng: &mut Prng) -> Many {
     let (y, z) = (letter(prng, letters.into()), letter(prng, letters.into()));
     Many {
         draft: Draft {
+            image_form: 1,
             letters: points::alphabet(prng, letters.into()),
             pairs,
             sets: Vec::new(),

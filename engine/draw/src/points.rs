@@ -193,12 +193,9 @@ pub struct Trial {
 fn bare(letters: &[u16]) -> Draft {
     // Of private use, so that nothing is folded to it.
     let boundary = 0xe000;
-    let entry = DraftEntry {
-        form: Vec::new(),
-        continuation: END,
-        gloss: 0,
-    };
+    let entry = DraftEntry::with_one_way(Vec::new(), END, 0);
     Draft {
+        image_form: 1,
         letters: [&[boundary], letters].concat(),
         pairs: vec![(2, 2)],
         sets: Vec::new(),

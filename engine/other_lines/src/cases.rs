@@ -44,11 +44,7 @@ pub struct Case {
 }
 
 fn entry(form: &[u8], continuation: u8) -> DraftEntry {
-    DraftEntry {
-        form: form.to_vec(),
-        continuation,
-        gloss: 0,
-    }
+    DraftEntry::with_one_way(form.to_vec(), continuation, 0)
 }
 
 /// As many equal entries as there are rows, or nearly.
@@ -56,6 +52,7 @@ fn about_as_many_as_rows(prng: &mut Prng) -> Draft {
     let form = vec![2; prng.between(1, 3)];
     let count = prng.one_of(&[1, 62, 63, 64, 64, 65, 65, 66, 128]);
     Draft {
+        image_form: 1,
         letters: vec![35, 97, 98],
         pairs: vec![(2, 2), (3, 3)],
         sets: Vec::new(),
@@ -224,12 +221,9 @@ mod tests {
 
     #[test]
     fn words_too_big_are_left_out() {
-        let entry = |continuation| DraftEntry {
-            form: Vec::new(),
-            continuation,
-            gloss: 0,
-        };
+        let entry = |continuation| DraftEntry::with_one_way(Vec::new(), continuation, 0);
         let draft = Draft {
+            image_form: 1,
             letters: vec![35, 97],
             pairs: vec![(0, 2)],
             sets: Vec::new(),
