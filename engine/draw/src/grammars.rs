@@ -1,5 +1,6 @@
 //! Small grammars are drawn in several manners, each leaning on one part of the definition.
 
+use crate::continuations::{cut_to_fit, entries_with_room, forked, of_either_form};
 use crate::points;
 use crate::prng::Prng;
 use crate::sets::{disguise, how_many, sets, MOST};
@@ -11,7 +12,7 @@ use other_engine::grammar::{Set, ANY, END, NULL};
 type Manner = fn(&mut Prng) -> Draft;
 
 /// The manners of drawing, with their weights.
-const MANNERS: [(usize, Manner); 11] = [
+const MANNERS: [(usize, Manner); 13] = [
     (300, mixed),
     (120, twins),
     (80, cycles),
@@ -23,13 +24,17 @@ const MANNERS: [(usize, Manner); 11] = [
     (30, crowd),
     (30, full),
     (12, widest),
+    (150, branching),
+    (12, border),
 ];
 
-/// A grammar in one of the manners.
+/// A grammar in one of the manners, of either form.
 pub fn grammar(prng: &mut Prng) -> Draft {
     let weights = MANNERS.map(|(weight, _)| weight);
     let (_, manner) = MANNERS[prng.weighted(&weights)];
-    manner(prng)
+    let mut draft = manner(prng);
+    of_either_form(prng, &mut draft);
+    draft
 }
 
 fn letter(prng: &mut Prng, letters: usize) -> u8 {
@@ -441,6 +446,86 @@ fn many(prng: &mut Prng) -> Draft {
     }
 }
 
+/// Entries that end and go on as well, empty ones and insertions among them, so that the place of an ending in a step list tells.
+fn branching(prng: &mut Prng) -> Draft {
+    let letters = prng.between(5, 10);
+    let mut pairs = vec![(2, 2), (3, 3)];
+    let others = [(80, (NULL, 3)), (30, (3, NULL)), (20, (2, 3))];
+    pairs.extend(
+        others
+            .iter()
+            .filter(|(times, _)| prng.percent(*times))
+            .map(|(_, pair)| *pair),
+    );
+    prng.shuffle(&mut pairs);
+    let alphabet = alphabet(prng, &pairs, 2);
+    let count = prng.between(1, 4);
+    let mut circles = prng.below(2);
+    let lexicons = (0..count)
+        .map(|number| {
+            let entries = prng.between(usize::from(number == 0), 3);
+            (0..entries)
+                .map(|_| {
+                    let length = prng.weighted(&[40, 45, 15]);
+                    let form = form(prng, length, &alphabet);
+                    // An empty entry goes on to later lexicons; one may come round.
+                    let first = if form.is_empty() && circles == 0 {
+                        number + 1
+                    } else {
+                        0
+                    };
+                    circles -= usize::from(form.is_empty() && circles > 0);
+                    let lexicons = (first..count).map(|lexicon| lexicon as u8).collect();
+                    let (ends, most) = (prng.percent(60), prng.below(4));
+                    forked(prng, form, ends, lexicons, most)
+                })
+                .collect()
+        })
+        .collect();
+    let (sets, tables) = if prng.percent(50) {
+        rules(prng, letters, &pairs)
+    } else {
+        (some_sets(prng, letters, &pairs), Vec::new())
+    };
+    Draft {
+        image_form: 2,
+        letters: points::alphabet(prng, letters),
+        pairs,
+        sets,
+        tables,
+        lexicons,
+    }
+}
+
+/// As many entries as form 2 has blocks for, or one more or less, most of them in a lexicon that no entry goes on to.
+pub fn border(prng: &mut Prng) -> Draft {
+    let mut draft = if prng.percent(50) {
+        mixed(prng)
+    } else {
+        tiny(prng)
+    };
+    let filler = entry(prng, Vec::new(), END);
+    draft.image_form = 2;
+    let most = entries_with_room(&draft);
+    let wanted = prng.one_of(&[
+        most - 21,
+        most - 20,
+        most - 1,
+        most,
+        most,
+        most + 1,
+        most + 1,
+    ]);
+    draft.image_form = if wanted <= most && prng.percent(30) {
+        2
+    } else {
+        1
+    };
+    let missing = wanted.min(2_800) - draft.entries().count();
+    draft.lexicons.push(vec![filler; missing]);
+    draft
+}
+
 /// Few pairs and many overlapping columns, so that breadth over the boundary pair tells.
 fn narrow(prng: &mut Prng) -> Draft {
     let letters = prng.between(2, 4);
@@ -608,16 +693,22 @@ fn full(prng: &mut Prng) -> Draft {
     } else {
         how_many(prng)
     };
-    at_limits(prng, all, sets)
+    let image_form = prng.between(1, 2);
+    at_limits(prng, image_form, all, sets)
 }
 
-/// All counts at their limits.
+/// All counts at their limits, in form 1.
 pub fn largest(prng: &mut Prng) -> Draft {
-    at_limits(prng, true, MOST)
+    at_limits(prng, 1, true, MOST)
+}
+
+/// All counts at their limits, in form 2: as many entries as there are blocks for.
+pub fn largest_in_form_2(prng: &mut Prng) -> Draft {
+    at_limits(prng, 2, true, MOST)
 }
 
 /// Counts at their limits, all or some of them, beside so many sets, with the entries spread over all lexicons or most of them in the first or last.
-fn at_limits(prng: &mut Prng, all: bool, set_count: usize) -> Draft {
+fn at_limits(prng: &mut Prng, image_form: usize, all: bool, set_count: usize) -> Draft {
     let mut most = |count: usize, few: usize| if all || prng.percent(50) { count } else { few };
     let (letters, count, rules, lexicons, entries) = (
         most(120, 20),
@@ -674,17 +765,25 @@ fn at_limits(prng: &mut Prng, all: bool, set_count: usize) -> Draft {
             Some(lexicon) if prng.percent(50) => lexicon as u8,
             _ => prng.below(lexicons) as u8,
         };
-        let entry = entry(prng, form, continuation);
+        let mut entry = entry(prng, form, continuation);
+        if image_form == 2 && prng.percent(40) {
+            let last = lexicons as u8 - 1;
+            let any = prng.below(lexicons) as u8;
+            entry = forked(prng, entry.form, entry.ends, vec![any, last], 2);
+            entry.lexicons.dedup();
+        }
         spread[lexicon].push(entry);
     }
-    Draft {
-        image_form: 1,
+    let mut draft = Draft {
+        image_form,
         letters: points::alphabet(prng, letters),
         pairs,
         sets,
         tables,
         lexicons: spread,
-    }
+    };
+    cut_to_fit(&mut draft);
+    draft
 }
 
 /// Rows as wide as they can be: sixteen entries of four digits each and forty pairs of three.
@@ -702,7 +801,14 @@ pub fn widest(prng: &mut Prng) -> Draft {
     for form in &mut forms[..8] {
         form.insert(prng.below(3), DROP);
     }
-    let others = prng.one_of(&[1_000, 2_047, 2_048, 2_600]);
+    // In form 2 there are blocks for no more.
+    let image_form = prng.between(1, 2);
+    let others = prng.one_of(&[
+        1_000,
+        2_047,
+        2_048,
+        if image_form == 1 { 2_600 } else { 2_400 },
+    ]);
     // The entries ahead of the long path spell no letter and so have no reading.
     let mut first = vec![entry(prng, vec![DROP], END); others];
     first.push(entry(prng, forms[0].clone(), 1));
@@ -712,8 +818,13 @@ pub fn widest(prng: &mut Prng) -> Draft {
     }
     let last = prng.one_of(&[1, 63, 64, 65, 100]);
     lexicons.push(vec![entry(prng, forms[15].clone(), END); last]);
+    if image_form == 2 {
+        for link in lexicons[1..15].iter_mut().flatten() {
+            link.ends = prng.percent(30);
+        }
+    }
     Draft {
-        image_form: 1,
+        image_form,
         letters: (1..=u16::from(LETTERS)).collect(),
         sets: some_sets(prng, LETTERS.into(), &pairs),
         pairs,
@@ -760,7 +871,7 @@ pub fn many_readings(prng: &mut Prng) -> Many {
 
 #[cfg(test)]
 mod tests {
-    use super::{grammar, largest};
+    use super::{grammar, largest, largest_in_form_2, Manner};
     use crate::prng::Prng;
     use other_engine::draft::Draft;
     use other_engine::grammar::{BOUNDARY, NULL};
@@ -807,10 +918,12 @@ mod tests {
     #[test]
     fn the_largest_image_has_128_blocks() {
         let mut prng = Prng::new(1);
-        for _ in 0..3 {
-            let image = largest(&mut prng).image();
-            assert_eq!(image.len(), 65_536);
-            assert!(read(&image).is_ok());
+        for (drawn, entries) in [(largest as Manner, 2_800), (largest_in_form_2, 1_911)] {
+            for _ in 0..3 {
+                let image = drawn(&mut prng).image();
+                assert_eq!(image.len(), 65_536);
+                assert!(read(&image).is_ok_and(|grammar| grammar.entries.len() == entries));
+            }
         }
     }
 }
