@@ -5,6 +5,7 @@ use crate::library;
 use crate::met::met;
 use crate::tally::Kind;
 use crate::{Image, Outcome, Run};
+use draw::grammars::at_border;
 use draw::inputs::Pool;
 use draw::targets::target_length;
 use other_engine::conversion::{convert_reply, converted};
@@ -92,6 +93,20 @@ impl Run {
             if !self.over() {
                 self.converting(&other, image.bytes.len());
                 self.tally.count_conversion(&["there and back"]);
+            }
+        }
+    }
+
+    /// Images that just can be converted and that just can't, into targets that are as long, shorter and longer.
+    pub fn longest_conversions(&mut self) {
+        for (image_form, over) in [(1, 0), (2, 0), (1, 1)] {
+            let draft = at_border(&mut self.prng, image_form, over);
+            let image = self.image(draft.image());
+            let right = converted(&image.known).map_or(129 * BLOCK, |other| other.len());
+            for room in [right, image.bytes.len(), 128 * BLOCK, right - 1, 0] {
+                if !self.over() {
+                    self.converting(&image, room);
+                }
             }
         }
     }

@@ -82,12 +82,11 @@ fn main() {
     let mut run = Run::new(seed, "call", calls);
     run.many_readings();
     run.most_words();
-    // Late entries are seldom listed, and images that are just converted, or just not, are seldom drawn, so a run begins with grammars of these kinds.
-    let first: [fn(&mut Prng) -> Draft; 7] = [
+    run.longest_conversions();
+    // Late entries are seldom listed, so a run begins with grammars that have them.
+    let first: [fn(&mut Prng) -> Draft; 5] = [
         grammars::largest,
         grammars::largest_in_form_2,
-        grammars::border,
-        grammars::border,
         grammars::widest,
         grammars::widest,
         grammars::widest,

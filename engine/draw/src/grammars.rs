@@ -25,7 +25,7 @@ const MANNERS: [(usize, Manner); 13] = [
     (30, full),
     (12, widest),
     (150, branching),
-    (12, border),
+    (18, border),
 ];
 
 /// A grammar in one of the manners, of either form.
@@ -497,32 +497,33 @@ fn branching(prng: &mut Prng) -> Draft {
     }
 }
 
-/// As many entries as form 2 has blocks for, or one more or less, most of them in a lexicon that no entry goes on to.
-pub fn border(prng: &mut Prng) -> Draft {
+/// About as many entries as form 2 has blocks for.
+fn border(prng: &mut Prng) -> Draft {
+    let over = prng.one_of(&[-21, -20, -1, 0, 0, 1, 1]);
+    let image_form = if over <= 0 && prng.percent(30) { 2 } else { 1 };
+    let mut draft = at_border(prng, image_form, over);
+    // One entry alone may have a second way on, wherever it stands.
+    if image_form == 2 && prng.percent(60) {
+        let fillers = draft.lexicons.last_mut().expect("a lexicon");
+        let number = prng.below(fillers.len());
+        fillers[number].lexicons.push(0);
+    }
+    draft
+}
+
+/// Entries that are so many over those that form 2 has blocks for, most of them in a lexicon that no entry goes on to.
+pub fn at_border(prng: &mut Prng, image_form: usize, over: isize) -> Draft {
     let mut draft = if prng.percent(50) {
         mixed(prng)
     } else {
         tiny(prng)
     };
-    let filler = entry(prng, Vec::new(), END);
     draft.image_form = 2;
-    let most = entries_with_room(&draft);
-    let wanted = prng.one_of(&[
-        most - 21,
-        most - 20,
-        most - 1,
-        most,
-        most,
-        most + 1,
-        most + 1,
-    ]);
-    draft.image_form = if wanted <= most && prng.percent(30) {
-        2
-    } else {
-        1
-    };
-    let missing = wanted.min(2_800) - draft.entries().count();
+    let wanted = entries_with_room(&draft).saturating_add_signed(over);
+    let missing = wanted - draft.entries().count();
+    let filler = entry(prng, Vec::new(), END);
     draft.lexicons.push(vec![filler; missing]);
+    draft.image_form = image_form;
     draft
 }
 
