@@ -1,6 +1,7 @@
 //! A case is a file, or none, in the place of the image and an input for the line program to read.
 
 use crate::spelling::line;
+use crate::tally::Sorts;
 use draw::damage::{damaged, damaged_often};
 use draw::grammars::{grammar, widest};
 use draw::inputs::Pool;
@@ -33,8 +34,8 @@ impl Place {
 pub struct Case {
     pub place: Place,
     pub input: Vec<u8>,
-    /// Whether the image is accepted and a column of it names a set.
-    pub names_sets: bool,
+    /// What its grammar is counted for.
+    pub sorts: Sorts,
     /// What is printed for each line.
     pub answers: Vec<String>,
     /// Lines left out because their words are too big.
@@ -186,7 +187,7 @@ pub fn case(prng: &mut Prng) -> Case {
     Case {
         place,
         input,
-        names_sets: known.is_ok_and(|grammar| grammar.names_sets()),
+        sorts: known.map_or(Sorts::default(), |grammar| Sorts::of(&grammar)),
         answers,
         skipped,
         piece,
