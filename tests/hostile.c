@@ -49,7 +49,24 @@ static void sixteen(const char *name, struct bytes image, struct bytes word, siz
     analyse_words(name, image, (struct bytes){records, sizeof records}, 8 * WORDS, share * WORDS, 4 * WORDS + 1, answers);
 }
 
-/* Neither the word of so many letters a nor the path of entry 0 so many times and then the entry that ends has a reading. */
+/* The image in form 2, and in it every entry may stop where that is asked for. */
+static struct bytes in_form_2(struct bytes image, int all_stop)
+{
+    static uint8_t bytes[LONGEST];
+    size_t entries = image.at[14] + 256u * image.at[15], ahead = image.length / 512 - (entries + 30) / 31;
+    struct bytes two = {bytes, 512 * (ahead + (entries + 20) / 21)};
+    if (headwords_convert(image.at, image.length, bytes, two.length) != 1) {
+        printf("%s: not converted\n", called);
+        exit(1);
+    }
+    for (size_t e = 0; all_stop && e < entries; e++)
+        bytes[512 * (ahead + e / 21) + 4 + 24 * (e % 21) + 13] = 1;
+    headwords_seal(bytes, two.length);
+    return two;
+}
+
+/* Neither the word of so many letters a nor the path of entry 0 so many times and then the entry that ends has a reading: by the image, by the same in form 2,
+ * and where every entry may stop as well. */
 static void none(const char *folder, const char *name, size_t letters, size_t entries, uint8_t last)
 {
     struct bytes image = image_of(folder, name);
@@ -57,11 +74,15 @@ static void none(const char *folder, const char *name, size_t letters, size_t en
     memset(word, 2, sizeof word);
     path[2 * entries] = last;
     unsigned before = failures;
-    alarm(SECONDS);
-    list(headwords_analyse, name, image, (struct bytes){word, letters}, 3 * ROW, 0, nothing);
-    sixteen(name, image, (struct bytes){word, letters}, 3 * ROW, 0, nothing);
-    list(headwords_generate, name, image, (struct bytes){path, 2 * entries + 2}, 3 * ROW, 0, nothing);
-    passed(before, name, "no reading of the word, and none of a path");
+    called = name;
+    for (int form = 0; form < 3; form++) {
+        struct bytes by = form == 0 ? image : in_form_2(image, form == 2);
+        alarm(SECONDS);
+        list(headwords_analyse, name, by, (struct bytes){word, letters}, 3 * ROW, 0, nothing);
+        sixteen(name, by, (struct bytes){word, letters}, 3 * ROW, 0, nothing);
+        list(headwords_generate, name, by, (struct bytes){path, 2 * entries + 2}, 3 * ROW, 0, nothing);
+    }
+    passed(before, name, "no reading of the word, and none of a path, in either form and where every entry may stop");
 }
 
 /* Two readings, with much between them that leads nowhere: what is written before the search is found to be long is written again. */
@@ -72,14 +93,18 @@ static void between(const char *folder, const char *name)
     put_row(rows, BYTES(0, 0), BYTES(0));
     put_row(rows + ROW, BYTES(2, 0, 8, 0), BYTES(0));
     unsigned before = failures;
+    called = name;
     alarm(SECONDS);
     for (size_t room = 0; room <= 3; room++) {
         uint64_t reply = room < 2 ? 4 * room + 2 : 4 * 2 + 1;
         struct bytes written = {rows, (room < 2 ? room : 2) * ROW};
-        list(headwords_analyse, name, image, BYTES(2), room * ROW, reply, written);
-        sixteen(name, image, BYTES(2), room * ROW, reply, written);
+        for (int form = 1; form <= 2; form++) {
+            struct bytes by = form == 1 ? image : in_form_2(image, 0);
+            list(headwords_analyse, name, by, BYTES(2), room * ROW, reply, written);
+            sixteen(name, by, BYTES(2), room * ROW, reply, written);
+        }
     }
-    passed(before, name, "both readings, in buffers of 0 to 3 rows");
+    passed(before, name, "both readings, in buffers of 0 to 3 rows, in either form");
 }
 
 int main(int argc, char **argv)

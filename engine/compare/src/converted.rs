@@ -124,7 +124,7 @@ impl Run {
             given: &[("image", &image.bytes)],
             entry: None,
             reply: (reply, got),
-            written: &[("target", &before, &expected, &target)],
+            written: &[("bytes of the target", &before, &expected, &target)],
             kept: &[("image", &image.bytes, &image.lent)],
         });
         if let Ok(grammar) = &image.known {

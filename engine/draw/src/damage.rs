@@ -357,6 +357,9 @@ fn table_field(prng: &mut Prng, place: &Place, image: &mut [u8]) {
 fn lexicon(prng: &mut Prng, place: &Place, image: &mut [u8]) {
     let at = place.entry(prng.below(place.entries));
     let length = usize::from(image[at]).min(12);
+    if place.image_form == 2 && prng.percent(40) {
+        return way_damage::ways(prng, place, image, at);
+    }
     match prng.below(9) {
         0 | 1 => {
             let at = place.lexicon(prng.below(place.lexicons));
