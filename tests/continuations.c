@@ -225,6 +225,43 @@ static void empty_lexicon(void)
     convert("an empty lexicon alone", image, other.length, 1, other);
 }
 
+/* As many entries as form 2 has blocks for, all but one in lexicon 63: entry 0 ends or goes on with each of them. */
+static struct entry longest_entry(size_t e)
+{
+    static const uint8_t letters[] = {L};
+    return (struct entry){{letters, 1}, 1, e == 0 ? (uint64_t)1 << 63 : 0};
+}
+
+static void longest(void)
+{
+    enum { ENTRIES = 2604, LAST = ENTRIES - 1 };
+    static struct image longest;
+    uint8_t *rows = malloc(ROW * LAST), path[4] = {0};
+    if (rows == NULL)
+        exit(2);
+    add_header(&longest, 2, 3, 1, 0, 64, ENTRIES, 0);
+    memcpy(add_block(&longest, 3, 1), (const uint8_t[]){L, L}, 2);
+    uint8_t *counts = add_block(&longest, 5, 64);
+    put_two(counts, 1);
+    put_two(counts + 2 * 63, LAST);
+    add_entries(&longest, ENTRIES, longest_entry);
+    struct bytes image = sealed(&longest);
+    check("2604 entries in form 2", image, image.length == LONGEST ? 1 : 0);
+    for (size_t e = 1; e <= LAST; e++) {
+        put_two(path + 2, e);
+        put_row(rows + ROW * (e - 1), (struct bytes){path, 4}, BYTES(0, 0));
+    }
+    analyse("2603 readings", image, BYTES(L, L), 5 * ROW, 4 * 5 + 2, (struct bytes){rows, 5 * ROW});
+    analyse("2603 readings, all", image, BYTES(L, L), ROW * LAST, 4 * LAST + 1, (struct bytes){rows, ROW * LAST});
+    generate("the last entry", image, (struct bytes){path, 4}, ROOM, 5, (struct bytes){rows + ROW * (LAST - 1), ROW});
+    judge("the last entry", image, (struct bytes){path, 4}, BYTES(0, 0), 1);
+    form("the last entry", image, LAST, 12, 5, BYTES(L));
+    form("no entry 2604", image, ENTRIES, 12, refused(12), nothing);
+    put_row(rows, PATH(0, 0), BYTES(0));
+    rows_of("entry 0 alone", image, BYTES(L), (struct bytes){rows, ROW});
+    free(rows);
+}
+
 /* One byte of luz in form 2, and the refusal that it brings. */
 static void damaged(const char *what, size_t at, uint8_t byte, unsigned k)
 {
@@ -382,7 +419,7 @@ int main(int argc, char **argv)
     make_room(GIVEN, 16 * HEADWORDS_WORD_BYTES);
     make_room(PAIRING, 40);
     make_room(REPLIES, 16 * 8);
-    make_room(OUT, LONGEST + BLOCK);
+    make_room(OUT, 2604 * ROW);
     watch();
     luz_in_form_2();
     order();
@@ -390,6 +427,7 @@ int main(int argc, char **argv)
     circle();
     bits();
     empty_lexicon();
+    longest();
     refusals();
     luz_converted();
     blocks();

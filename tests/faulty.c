@@ -20,7 +20,8 @@
  * ways WHAT             in form 2 the ways on of an entry are those of faulty_ways.c, with the fault WHAT: stop (every entry may stop), first (the lowest
  *                       bit alone), end (a marked entry goes on with none), go-on (an entry with a bit may not stop), turned (8b + j), last (no lexicon 63);
  *                       mark, missing, neither (what should be refused with 8 is let through)
- * plain order           rows of form 2 are listed as if an ending were no step
+ * order WHAT            rows of form 2 are listed in another order: plain (an ending is no step), late (an ending comes after every entry), down (entries
+ *                       of later lexicons come first)
  * convert WHAT          the converter is that of faulty_ways.c, with the fault WHAT: form (the old one is kept), gloss, mark, bit (of lexicon 63) lost, rest
  *                       (old bytes after the last entry), unsealed, unnumbered (the last block), header (block 0 has its old check), ending (none is
  *                       counted for 15), late-15, late-16 (17 is told first), longer (a target that is too long is taken) */
@@ -120,8 +121,9 @@ static uint64_t with_fault(uint64_t reply, struct call call)
 uint64_t headwords_analyse(const uint8_t *image, size_t image_length, const uint8_t *word, size_t word_length, uint8_t *rows, size_t rows_length)
 {
     uint64_t reply = real_headwords_analyse(given_image(image, image_length), image_length, word, word_length, rows, rows_length);
-    if (reply % 4 == HEADWORDS_ALL && image[4] == 2 && is_fault("plain%s %s", "", "order", 0))
-        put_in_plain_order(image, image_length, rows, reply / 4);
+    const char *fault = getenv("FAULT");
+    if (reply % 4 == HEADWORDS_ALL && image[4] == 2 && fault != NULL && strncmp(fault, "order ", 6) == 0)
+        put_in_order(fault + 6, image, image_length, rows, reply / 4);
     return with_fault(reply, (struct call){"analyse", {image, image_length}, {word, word_length}, {NULL, 0}, {rows, rows_length}, HEADWORDS_ROW_BYTES});
 }
 

@@ -8,8 +8,8 @@
 /* The image that the true call is given, with the fault WHAT; it is the image itself where the fault changes nothing, and stands until the next call. */
 const uint8_t *image_with_fault(const char *what, const uint8_t *image, size_t length);
 
-/* Puts all rows of a word into the order that they would have if an ending were no step. */
-void put_in_plain_order(const uint8_t *image, size_t length, uint8_t *rows, size_t count);
+/* Puts all rows of a word into the order WHAT. */
+void put_in_order(const char *what, const uint8_t *image, size_t length, uint8_t *rows, size_t count);
 
 /* The converter with the fault WHAT. */
 uint64_t convert_with_fault(const char *what, const uint8_t *image, size_t length, uint8_t *target, size_t target_length);
