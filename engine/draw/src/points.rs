@@ -274,7 +274,7 @@ mod tests {
         }
         let [folded, boundary, capital, beside] = alphabets;
         assert!(folded > 800, "{alphabets:?}");
-        assert!(boundary > 250, "{alphabets:?}");
+        assert!(boundary > 200, "{alphabets:?}");
         assert!(capital > 300, "{alphabets:?}");
         assert!(beside > 100, "{alphabets:?}");
         assert!(spelled > 500 && refused > 200, "{spelled} {refused}");

@@ -36,7 +36,7 @@ fn wrong_length(prng: &mut Prng, own: usize, right: usize) -> usize {
 
 #[cfg(test)]
 mod tests {
-    use crate::grammars::grammar;
+    use crate::grammars::{at_border, grammar};
     use crate::inputs::{path_bytes, Pool};
     use crate::prng::Prng;
     use other_engine::calls::{analyse, generate};
@@ -49,7 +49,11 @@ mod tests {
         // To form 2, to form 1, refused by 15 and by 16.
         let mut met = [0; 4];
         for _ in 0..300 {
-            let image = grammar(&mut prng).image();
+            let draft = match prng.below(20) {
+                0 => at_border(&mut prng, 1, 1),
+                _ => grammar(&mut prng),
+            };
+            let image = draft.image();
             let known = read(&image);
             let Ok(grammar) = &known else { continue };
             let place = match converted(&known) {
@@ -71,6 +75,6 @@ mod tests {
             };
             met[place] += 1;
         }
-        assert!(met.iter().all(|&count| count > 2), "{met:?}");
+        assert!(met.iter().all(|&count| count > 5), "{met:?}");
     }
 }
