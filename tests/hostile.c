@@ -1,6 +1,7 @@
 /* The C entry on grammars that leave a search much to try and little to find: hostile FOLDER, with the images that tests/hostile.sh puts there. A call
  * that does not end is ended by a signal. */
 #define _DEFAULT_SOURCE
+#include "built.h"
 #include "calls.h"
 
 enum { SECONDS = 10, LONGEST = 128 * 512, ROW = HEADWORDS_ROW_BYTES, WORDS = 16 };
@@ -107,6 +108,52 @@ static void between(const char *folder, const char *name)
     passed(before, name, "both readings, in buffers of 0 to 3 rows, in either form");
 }
 
+/* Entries of form 2 that have a circle without end as their first way on, and are told apart by their others: a dead end of one is none of the next. Of lexicon
+ * 0 the first four have the letter l: the first goes to the circle alone, the second ends as well, the third goes to lexicon 2 as well, which has x, the fourth
+ * to lexicon 3, which has an empty entry. The fifth is empty and goes to the circle and to lexicon 4, which has l. */
+enum { FIRSTS = 5, L = 2, X = 3 };
+static size_t in_circle;
+
+static struct entry fork_of(size_t e)
+{
+    static const uint8_t l[] = {L}, x[] = {X};
+    static const uint64_t lexicons[FIRSTS] = {2, 2, 2 | 4, 2 | 8, 2 | 16};
+    size_t after = e - FIRSTS - in_circle;
+    if (e < FIRSTS)
+        return (struct entry){{l, e < FIRSTS - 1}, e == 1, lexicons[e]};
+    if (e < FIRSTS + in_circle)
+        return (struct entry){nothing, 0, 2};
+    return (struct entry){{after == 0 ? x : l, after != 1}, 1, 0};
+}
+
+static void forks(size_t round)
+{
+    static struct image image;
+    in_circle = round;
+    size_t entries = FIRSTS + round + 3;
+    add_header(&image, 2, 3, 2, 0, 5, entries, 0);
+    memcpy(add_block(&image, 3, 2), (const uint8_t[]){L, L, X, X}, 4);
+    uint8_t *counts = add_block(&image, 5, 5);
+    const size_t each[] = {FIRSTS, round, 1, 1, 1};
+    for (size_t x = 0; x < 5; x++)
+        put_two(counts + 2 * x, each[x]);
+    add_entries(&image, entries, fork_of);
+    struct bytes forked = sealed(&image);
+    uint8_t rows[3 * ROW];
+    unsigned before = failures;
+    called = "forks";
+    alarm(SECONDS);
+    put_row(rows, BYTES(1, 0), BYTES(0));
+    put_row(rows + ROW, BYTES(3, 0, (uint8_t)(FIRSTS + round + 1), 0), BYTES(0));
+    put_row(rows + 2 * ROW, BYTES(4, 0, (uint8_t)(FIRSTS + round + 2), 0), BYTES(0));
+    list(headwords_analyse, "forks", forked, BYTES(L), 3 * ROW, 4 * 3 + 1, (struct bytes){rows, sizeof rows});
+    list(headwords_analyse, "forks, a row less", forked, BYTES(L), 2 * ROW, 4 * 2 + 2, (struct bytes){rows, 2 * ROW});
+    sixteen("forks", forked, BYTES(L), 3 * ROW, 4 * 3 + 1, (struct bytes){rows, sizeof rows});
+    put_row(rows, BYTES(2, 0, (uint8_t)(FIRSTS + round), 0), BYTES(0, 1));
+    list(headwords_analyse, "forks, by x", forked, BYTES(L, X), 3 * ROW, 5, (struct bytes){rows, ROW});
+    passed(before, "forks", "readings by the other ways on than a circle without end");
+}
+
 int main(int argc, char **argv)
 {
     if (argc != 2)
@@ -123,5 +170,7 @@ int main(int argc, char **argv)
     none(folder, "letter-refused", 32, 15, 1);
     none(folder, "equal-refused", 16, 15, 100);
     between(folder, "between");
+    forks(5);
+    forks(10);
     return failures > 0;
 }
