@@ -38,7 +38,6 @@ pub const SORTS: [&str; 19] = [
 
 /// The sorts that a conversion is of, by an accepted image, into so many bytes.
 fn sorts(grammar: &Grammar, own: usize, room: usize) -> Vec<&'static str> {
-    let known = |name: &[u8]| grammar.entries.iter().any(|entry| entry.lexicons == name);
     let mut draft = Draft::of(grammar);
     draft.image_form = 3 - grammar.image_form;
     let other = draft.unsealed().len();
@@ -53,9 +52,8 @@ fn sorts(grammar: &Grammar, own: usize, room: usize) -> Vec<&'static str> {
         ]);
     }
     if other > 128 * BLOCK {
-        let one = other == 129 * BLOCK;
         return met(&[
-            ("a block too many", one),
+            ("a block too many", other == 129 * BLOCK),
             ("a block too many and no target", room == 0),
         ]);
     }
@@ -74,7 +72,10 @@ fn sorts(grammar: &Grammar, own: usize, room: usize) -> Vec<&'static str> {
         ("a block more", own < other),
         ("a block less", other < own),
         ("128 blocks", other == 128 * BLOCK),
-        ("lexicon 63", known(&[63])),
+        (
+            "lexicon 63",
+            grammar.entries.iter().any(|entry| entry.lexicons == [63]),
+        ),
         ("sets", !grammar.sets.is_empty()),
     ])
 }
@@ -97,10 +98,16 @@ impl Run {
         }
     }
 
-    /// Images that just can be converted and that just can't, into targets that are as long, shorter and longer.
+    /// Images that just can be converted and that just can't, for their length or for one late entry, into targets that are as long, shorter and longer.
     pub fn longest_conversions(&mut self) {
-        for (image_form, over) in [(1, 0), (2, 0), (1, 1)] {
-            let draft = at_border(&mut self.prng, image_form, over);
+        for (image_form, over, forks) in [(1, 0, false), (2, 0, false), (1, 1, false), (2, 0, true)]
+        {
+            let mut draft = at_border(&mut self.prng, image_form, over);
+            let late = draft
+                .lexicons
+                .last_mut()
+                .and_then(|fillers| fillers.last_mut());
+            late.expect("an entry").lexicons.extend(forks.then_some(0));
             let image = self.image(draft.image());
             let right = converted(&image.known).map_or(129 * BLOCK, |other| other.len());
             for room in [right, image.bytes.len(), 128 * BLOCK, right - 1, 0] {
