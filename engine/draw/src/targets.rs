@@ -48,8 +48,8 @@ mod tests {
         let mut prng = Prng::new(1);
         // To form 2, to form 1, refused by 15 and by 16.
         let mut met = [0; 4];
-        for _ in 0..300 {
-            let draft = match prng.below(20) {
+        for _ in 0..150 {
+            let draft = match prng.below(10) {
                 0 => at_border(&mut prng, 1, 1),
                 _ => grammar(&mut prng),
             };
