@@ -4,6 +4,10 @@
  * alone, checks the image it is given, whole, before anything else. Nothing is kept between calls: no allocation, no
  * global state, no locale, so any number of threads may call at once on images that none of them writes.
  *
+ * An image has form 1 or form 2, and every call takes both. In form 1 an entry has one way on: it ends the path, or the path
+ * goes on with one lexicon. In form 2 it may end the path, go on with any lexicons, or both, so that a choice of suffixes
+ * needs no empty entries. Both have one account of what a reading is; headwords_convert takes one form to the other.
+ *
  * Letters, pairs and entries are numbers of the grammar: letters from 1, the boundary, so that a word has letters from 2
  * on; pairs and entries from 0. The command lists them: headwords list letters, pairs, entries. headwords_spell gives the
  * letters of a word as it is written.
@@ -12,6 +16,10 @@
  * lets pass: each rule is fed the boundary pair, then the pairs of the pairing, then the boundary pair again, and has to
  * end in a final state without coming to state 0. So a rule that comes to 0 on the first boundary pair leaves no word
  * and no path a reading; that is an answer and no refusal.
+ *
+ * Readings are listed in step order, by the first number in which their step lists differ. A step list has the pairs and the
+ * path's entries, each entry where it opens: as soon as the last letter of the one before is paired. In form 2 it has the
+ * path's ending too, where the next entry would open, and an ending comes before every entry.
  *
  * What the caller owes, and no call can test:
  *   - each pointer is to at least as many bytes as the length after it says, and is not NULL, even where the length is 0;
@@ -22,22 +30,23 @@
  * Every reply is one number r. r % 4 == 3 is a refusal, numbered r / 4. The tests, in the order in which they are made:
  *    1  image length 0, over 65,536, or no multiple of 512
  *    2  a check or block number is wrong
- *    3  form, counts, block total, kinds, record counts or unused block bytes are not as laid down; over 31 sets; the block
- *       of sets missing, or there though no set is counted
+ *    3  form (1 or 2), counts, block total, kinds, record counts or unused block bytes are not as laid down; over 31 sets; the
+ *       block of sets missing, or there though no set is counted
  *    4  a code point is 0, 55296-57343, or repeated
  *    5  a pair breaks its rule or is repeated
  *    6  a rule table's counts, column sides, marks or next states are out of range, a side names a missing set, or a byte
  *       after its last row is not 0; or a set has a letter above L
  *    7  for a listed or the boundary pair a rule has no matching column, or two narrowest
- *    8  lexicon counts do not add up to the entries, or an entry breaks its layout
+ *    8  lexicon counts do not add up to the entries, or an entry breaks its layout: in form 2, by an end mark over 1, a bit for
+ *       a missing lexicon, or neither mark nor bit as well
  *   14  an entry can never be spelled: a letter of its form is the lexical side of no pair
- *   15  conversion to form 1 of an image in which an entry has more than one way on, an ending counted as a way
+ *   15  an image to be converted to form 1 has an entry with more than one way on, an ending counted as a way
  *   16  the converted image would have over 128 blocks
- *   17  the target is of another length than the converted image
+ *   17  the target is not as long as the converted image
  *    9  word length 0 or over 32; where the word is code points, an odd count of bytes too
  *   10  a word letter outside 2-L
  *   11  path of 0 or over 16 entries, or an odd count of bytes
- *   12  no such entry, or the path is not linked through the lexicon
+ *   12  no such entry, or the path is not linked through the lexicon, or may not stop at its last entry
  *   13  pairing length 0 or over 40, or no such pair
  *   19  a text that is not of the grammar of written rules, has over 32 rules, or a context over 64 bytes or with brackets
  *       nested deeper than 8
@@ -63,9 +72,9 @@
 /* The version of this header and of the library that it is handed over with. A call that is left out or changed raises the
  * first number, a call more the second. */
 #define HEADWORDS_VERSION_MAJOR 1
-#define HEADWORDS_VERSION_MINOR 1
+#define HEADWORDS_VERSION_MINOR 2
 #define HEADWORDS_VERSION_PATCH 0
-#define HEADWORDS_VERSION "1.1.0"
+#define HEADWORDS_VERSION "1.2.0"
 
 #ifdef __cplusplus
 extern "C" {
@@ -145,13 +154,22 @@ uint64_t headwords_check(const uint8_t *image, size_t image_length);
  * 1), and nothing is written. Whether the sealed image is accepted, headwords_check says. */
 uint64_t headwords_seal(uint8_t *image, size_t image_length);
 
-/* The image in the other form: form 1 has one continuation for an entry, form 2 several, and an entry that may both end a
- * path and go on.
- *   1       converted; every byte of the target is written
+/* The grammar of an image in the other form: 1 to 2, or 2 to 1.
+ *   1       converted: every byte of the target is written, and the image there is sealed and accepted
  *   4k + 3  refused (1 to 8, 14, 15, 16 or 17); nothing is written
- * The target's length has to be that of the converted image: 512 bytes for each of its blocks, of which the entries take one
- * for every 31 in form 1 and one for every 21 in form 2; the others stay as they are. The converted image is accepted, and
- * every word and path has the same reply and the same rows by it. From form 1 to form 2 and back gives the same bytes. */
+ * Only the form, the records of entries and the checks differ. Letters, pairs, sets, rules, lexicons and entries keep their
+ * numbers, entries their forms and glosses, and every word and path gets the same reply and rows. There and back leaves the
+ * same bytes. An image of form 2 is converted where each entry has one way on. One of form 1 is, unless it grows past 128
+ * blocks: an entry takes 16 bytes there, 31 to a block, and in form 2 24 bytes, 21 to a block.
+ *
+ * The target has to be just as long as the converted image. The blocks of entries come last; an accepted image has its form in
+ * byte 4, and the count of entries in bytes 14 and 15:
+ *
+ *     size_t entries = image[14] + 256 * image[15], one = (entries + 30) / 31, two = (entries + 20) / 21;
+ *     size_t blocks = image_length / 512 + (image[4] == 1 ? two : one) - (image[4] == 1 ? one : two);
+ *     headwords_convert(image, image_length, target, 512 * blocks); // 1 by luz, whose 6 blocks become 6
+ *
+ * An image is not converted in place: image and target are two ranges. */
 uint64_t headwords_convert(const uint8_t *image, size_t image_length, uint8_t *target, size_t target_length);
 
 /* 1 where the path (as for headwords_generate) and the pairing (one byte a pair number) are a reading of the word that they

@@ -140,6 +140,18 @@ static inline void check(const char *what, struct bytes image, uint64_t reply)
     }
 }
 
+/* `converted` is the whole target afterwards, or nothing where the call is refused. */
+static inline void convert(const char *what, struct bytes image, size_t room, uint64_t reply, struct bytes converted)
+{
+    for (enum side side = 0; side < SIDES; side++) {
+        const uint8_t *lent_image = lend(IMAGE, side, image);
+        uint8_t *target = lend_room(OUT, side, room);
+        expect(OUT, converted);
+        called = what;
+        answered(headwords_convert(lent_image, image.length, target, room), reply);
+    }
+}
+
 /* `sealed` is the image afterwards. */
 static inline void seal(const char *what, struct bytes image, uint64_t reply, struct bytes sealed)
 {

@@ -16,12 +16,21 @@
  * long words            a length byte over 32 is taken for 32
  * early words           the words after one that is refused are not answered
  * last words            of sixteen words and more the last is answered as the first
- * rules WHAT            the judge of rules is that of faulty_rules.c, with the fault WHAT */
+ * rules WHAT            the judge of rules is that of faulty_rules.c, with the fault WHAT
+ * ways WHAT             in form 2 the ways on of an entry are those of faulty_ways.c, with the fault WHAT: stop (every entry may stop), first (the lowest
+ *                       bit alone), end (a marked entry goes on with none), go-on (an entry with a bit may not stop), turned (8b + j), last (no lexicon 63);
+ *                       mark, missing, neither (what should be refused with 8 is let through)
+ * order WHAT            rows of form 2 are listed in another order: plain (an ending is no step), late (an ending comes after every entry), down (entries
+ *                       of later lexicons come first)
+ * convert WHAT          the converter is that of faulty_ways.c, with the fault WHAT: form (the old one is kept), gloss, mark, bit (of lexicon 63) lost, rest
+ *                       (old bytes after the last entry), unsealed, unnumbered (the last block), header (block 0 has its old check), ending (none is
+ *                       counted for 15), late-15, late-16 (17 is told first), longer (a target that is too long is taken) */
 #include <stdio.h>
 #include <stdlib.h>
 #include <string.h>
 
 #include "faulty_rules.h"
+#include "faulty_ways.h"
 #include "headwords.h"
 
 uint64_t real_headwords_analyse(const uint8_t *image, size_t image_length, const uint8_t *word, size_t word_length, uint8_t *rows, size_t rows_length);
@@ -31,6 +40,7 @@ uint64_t real_headwords_check(const uint8_t *image, size_t image_length);
 uint64_t real_headwords_seal(uint8_t *image, size_t image_length);
 uint64_t real_headwords_judge(const uint8_t *image, size_t image_length, const uint8_t *path, size_t path_length, const uint8_t *pairing, size_t pairing_length);
 uint64_t real_headwords_judge_rules(const uint8_t *image, size_t image_length, const uint8_t *pairing, size_t pairing_length, const uint8_t *text, size_t text_length);
+uint64_t real_headwords_convert(const uint8_t *image, size_t image_length, uint8_t *target, size_t target_length);
 uint64_t real_headwords_form(const uint8_t *image, size_t image_length, size_t entry, uint8_t *letters, size_t letters_length);
 uint64_t real_headwords_spell(const uint8_t *image, size_t image_length, const uint8_t *points, size_t points_length, uint8_t *letters, size_t letters_length);
 
@@ -54,6 +64,13 @@ static int is_fault(const char *format, const char *range, const char *call, uns
     const char *fault = getenv("FAULT");
     snprintf(name, sizeof name, format, range, call, k);
     return fault != NULL && strcmp(fault, name) == 0;
+}
+
+/* The image that the true call is given. */
+static const uint8_t *given_image(const uint8_t *image, size_t length)
+{
+    const char *fault = getenv("FAULT");
+    return fault != NULL && strncmp(fault, "ways ", 5) == 0 ? image_with_fault(fault + 5, image, length) : image;
 }
 
 static void read_around(const char *name, struct range range, const struct call *call)
@@ -103,7 +120,10 @@ static uint64_t with_fault(uint64_t reply, struct call call)
 
 uint64_t headwords_analyse(const uint8_t *image, size_t image_length, const uint8_t *word, size_t word_length, uint8_t *rows, size_t rows_length)
 {
-    uint64_t reply = real_headwords_analyse(image, image_length, word, word_length, rows, rows_length);
+    uint64_t reply = real_headwords_analyse(given_image(image, image_length), image_length, word, word_length, rows, rows_length);
+    const char *fault = getenv("FAULT");
+    if (reply % 4 == HEADWORDS_ALL && image[4] == 2 && fault != NULL && strncmp(fault, "order ", 6) == 0)
+        put_in_order(fault + 6, image, image_length, rows, reply / 4);
     return with_fault(reply, (struct call){"analyse", {image, image_length}, {word, word_length}, {NULL, 0}, {rows, rows_length}, HEADWORDS_ROW_BYTES});
 }
 
@@ -130,7 +150,7 @@ uint64_t headwords_analyse_words(const uint8_t *image, size_t image_length, cons
 {
     uint8_t *given = copy_of(words, words_length), *before = copy_of(replies, replies_length);
     put_wrong_words(given, words_length);
-    uint64_t reply = real_headwords_analyse_words(image, image_length, given, words_length, replies, replies_length, rows, rows_length);
+    uint64_t reply = real_headwords_analyse_words(given_image(image, image_length), image_length, given, words_length, replies, replies_length, rows, rows_length);
     size_t n = reply % 4 == HEADWORDS_REFUSED ? 0 : reply / 4, share = n == 0 ? 0 : rows_length / HEADWORDS_ROW_BYTES / n;
     for (size_t i = 0; i < n && is_fault("early%s %s", "", "words", 0); i++)
         if (replies[8 * i] % 4 == HEADWORDS_REFUSED) {
@@ -145,13 +165,13 @@ uint64_t headwords_analyse_words(const uint8_t *image, size_t image_length, cons
 
 uint64_t headwords_generate(const uint8_t *image, size_t image_length, const uint8_t *path, size_t path_length, uint8_t *rows, size_t rows_length)
 {
-    uint64_t reply = real_headwords_generate(image, image_length, path, path_length, rows, rows_length);
+    uint64_t reply = real_headwords_generate(given_image(image, image_length), image_length, path, path_length, rows, rows_length);
     return with_fault(reply, (struct call){"generate", {image, image_length}, {path, path_length}, {NULL, 0}, {rows, rows_length}, HEADWORDS_ROW_BYTES});
 }
 
 uint64_t headwords_check(const uint8_t *image, size_t image_length)
 {
-    uint64_t reply = real_headwords_check(image, image_length);
+    uint64_t reply = real_headwords_check(given_image(image, image_length), image_length);
     return with_fault(reply, (struct call){"check", {image, image_length}, {NULL, 0}, {NULL, 0}, {NULL, 0}, 0});
 }
 
@@ -161,9 +181,16 @@ uint64_t headwords_seal(uint8_t *image, size_t image_length)
     return with_fault(reply, (struct call){"seal", {image, image_length}, {NULL, 0}, {NULL, 0}, {NULL, 0}, 0});
 }
 
+uint64_t headwords_convert(const uint8_t *image, size_t image_length, uint8_t *target, size_t target_length)
+{
+    const char *fault = getenv("FAULT"), *what = fault != NULL && strncmp(fault, "convert ", 8) == 0 ? fault + 8 : NULL;
+    uint64_t reply = what != NULL ? convert_with_fault(what, image, image_length, target, target_length) : real_headwords_convert(image, image_length, target, target_length);
+    return with_fault(reply, (struct call){"convert", {image, image_length}, {NULL, 0}, {NULL, 0}, {target, target_length}, 0});
+}
+
 uint64_t headwords_judge(const uint8_t *image, size_t image_length, const uint8_t *path, size_t path_length, const uint8_t *pairing, size_t pairing_length)
 {
-    uint64_t reply = real_headwords_judge(image, image_length, path, path_length, pairing, pairing_length);
+    uint64_t reply = real_headwords_judge(given_image(image, image_length), image_length, path, path_length, pairing, pairing_length);
     return with_fault(reply, (struct call){"judge", {image, image_length}, {path, path_length}, {pairing, pairing_length}, {NULL, 0}, 0});
 }
 

@@ -1,6 +1,6 @@
 #!/usr/bin/env bash
-# Grammars that leave a search much to try and little or nothing to find: it ends, by the line program and from C, where dead ends are worth remembering. Where
-# they are not, an answer that stands before the word is handed over all the same.
+# Grammars that leave a search much to try and little or nothing to find: it ends, by the line program and from C, there in both forms of the image, where
+# dead ends are worth remembering. Where they are not, an answer that stands before the word is handed over all the same.
 set -eu
 cd "$(dirname "$0")/.."
 root=$PWD

@@ -1,67 +1,10 @@
 /* The C entry at its limits: the largest image there is, with entries, pairs, sets and rules up to the last, listings of more than 65,536 readings, and as many
  * words in one call. */
 #define _DEFAULT_SOURCE
+#include "built.h"
 #include "calls.h"
 
-enum { BLOCK = 512, ROW = HEADWORDS_ROW_BYTES };
-
-static void put_two(uint8_t *at, size_t number)
-{
-    at[0] = (uint8_t)(number % 256);
-    at[1] = (uint8_t)(number / 256);
-}
-
-/* An image made block by block, and then sealed. */
-struct image {
-    uint8_t bytes[128 * BLOCK];
-    size_t length;
-};
-
-/* The records of the next block. */
-static uint8_t *add_block(struct image *image, uint8_t kind, size_t records)
-{
-    uint8_t *block = image->bytes + image->length;
-    image->length += BLOCK;
-    block[2] = kind;
-    block[3] = (uint8_t)records;
-    return block + 4;
-}
-
-static void add_header(struct image *image, size_t letters, size_t pairs, size_t rules, size_t lexicons, size_t entries, size_t sets)
-{
-    size_t counts[] = {1, letters, pairs, rules, lexicons, entries, sets};
-    uint8_t *header = add_block(image, 1, 1);
-    for (size_t i = 0; i < 7; i++)
-        put_two(header + 2 * i, counts[i]);
-    uint8_t *points = add_block(image, 2, letters);
-    for (size_t i = 0; i < letters; i++)
-        put_two(points + 2 * i, 100 + i);
-}
-
-struct entry {
-    struct bytes form;
-    uint8_t continuation;
-};
-
-/* Entry number e is entry_of(e). */
-static void add_entries(struct image *image, size_t entries, struct entry entry_of(size_t))
-{
-    uint8_t *at = NULL;
-    for (size_t e = 0; e < entries; e++) {
-        at = e % 31 > 0 ? at + 16 : add_block(image, 6, entries - e < 31 ? entries - e : 31);
-        struct entry entry = entry_of(e);
-        at[0] = (uint8_t)entry.form.length;
-        memcpy(at + 1, entry.form.at, entry.form.length);
-        at[13] = entry.continuation;
-        put_two(at + 14, e);
-    }
-}
-
-static struct bytes sealed(struct image *image)
-{
-    headwords_seal(image->bytes, image->length);
-    return (struct bytes){image->bytes, image->length};
-}
+enum { ROW = HEADWORDS_ROW_BYTES };
 
 /* The largest image. Pairs 0 to 118 are x:x, 119 to 236 are x:x+1, the others x:0 for letters that no form has. The forms of lexicon 0 are two even
  * letters, all unlike. By entry number their paths end there, go on through lexicons 1 to 15, or through lexicons 49 to 63; all these have one entry,
@@ -97,8 +40,8 @@ static struct entry largest_entry(size_t e)
     static const uint8_t after_stem[] = {255, 1, 49};
     size_t lexicon = e - STEMS + 1;
     if (e < STEMS)
-        return (struct entry){letters_of(e), after_stem[e % 3]};
-    return (struct entry){nothing, lexicon == 15 || lexicon == 63 ? 255 : (uint8_t)(lexicon + 1)};
+        return one_way(letters_of(e), after_stem[e % 3]);
+    return one_way(nothing, lexicon == 15 || lexicon == 63 ? 255 : (uint8_t)(lexicon + 1));
 }
 
 static struct bytes path_of(size_t stem)
@@ -113,7 +56,7 @@ static struct bytes path_of(size_t stem)
 static struct bytes largest(void)
 {
     static struct image image;
-    add_header(&image, LAST, 250, 32, 64, ENTRIES, SETS);
+    add_header(&image, 1, LAST, 250, 32, 64, ENTRIES, SETS);
     uint8_t *pair = add_block(&image, 3, 250);
     for (uint8_t x = 2; x <= 120; x++, pair += 2)
         pair[0] = pair[1] = x;
@@ -248,13 +191,13 @@ enum { WAYS = 41, FIRSTS = 256, SECONDS = 257 };
 static struct entry alike(size_t e)
 {
     static const uint8_t letters[] = {2, 2, 2};
-    return (struct entry){{letters, e == 0 ? 3 : 1}, 0 < e && e <= FIRSTS ? 1 : 255};
+    return one_way((struct bytes){letters, e == 0 ? 3 : 1}, 0 < e && e <= FIRSTS ? 1 : 255);
 }
 
 static struct bytes many(void)
 {
     static struct image image;
-    add_header(&image, WAYS + 1, WAYS, 0, 2, 1 + FIRSTS + SECONDS, 0);
+    add_header(&image, 1, WAYS + 1, WAYS, 0, 2, 1 + FIRSTS + SECONDS, 0);
     uint8_t *pairs = add_block(&image, 3, WAYS);
     for (uint8_t i = 0; i < WAYS; i++) {
         pairs[2 * i] = 2;

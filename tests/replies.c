@@ -416,6 +416,8 @@ static void refused_image(const char *what, struct bytes image, unsigned k)
     spell(what, image, POINTS('l', 'u', 'z'), 3, refused(k), nothing);
     spell(what, image, BYTES('l'), 0, refused(k), nothing);
     spell(what, image, POINTS('l', '#'), 0, refused(k), nothing);
+    convert(what, image, luz.length, refused(k), nothing);
+    convert(what, image, 0, refused(k), nothing);
 }
 
 static void images(void)
@@ -547,7 +549,7 @@ int main(int argc, char **argv)
     make_room(GIVEN, RECORD * MOST_WORDS);
     make_room(PAIRING, 300);
     make_room(REPLIES, 8 * MOST_WORDS);
-    make_room(OUT, MOST);
+    make_room(OUT, luz.length > MOST ? luz.length : MOST);
     watch();
     words();
     paths();

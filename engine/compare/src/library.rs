@@ -34,6 +34,12 @@ extern "C" {
     ) -> u64;
     fn headwords_check(image: *const u8, image_length: usize) -> u64;
     fn headwords_seal(image: *mut u8, image_length: usize) -> u64;
+    fn headwords_convert(
+        image: *const u8,
+        image_length: usize,
+        target: *mut u8,
+        target_length: usize,
+    ) -> u64;
     fn headwords_judge(
         image: *const u8,
         image_length: usize,
@@ -120,6 +126,11 @@ pub fn check(image: &Lent) -> u64 {
 pub fn seal(image: &mut Lent) -> u64 {
     let length = image.length();
     unsafe { headwords_seal(image.start_mut(), length) }
+}
+
+pub fn convert(image: &Lent, target: &mut Lent) -> u64 {
+    let room = target.length();
+    unsafe { headwords_convert(image.start(), image.length(), target.start_mut(), room) }
 }
 
 pub fn judge(image: &Lent, path: &Lent, pairing: &Lent) -> u64 {

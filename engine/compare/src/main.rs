@@ -1,11 +1,13 @@
 //! Every call is made to the linked library and to the second engine, and the first reply or byte that differs ends the run.
 
 mod claims;
+mod converted;
 mod decided;
 mod lent;
 mod library;
 mod many;
 mod met;
+mod reached;
 mod ruled;
 mod spelled;
 mod tables;
@@ -80,9 +82,11 @@ fn main() {
     let mut run = Run::new(seed, "call", calls);
     run.many_readings();
     run.most_words();
+    run.longest_conversions();
     // Late entries are seldom listed, so a run begins with grammars that have them.
-    let first: [fn(&mut Prng) -> Draft; 4] = [
+    let first: [fn(&mut Prng) -> Draft; 5] = [
         grammars::largest,
+        grammars::largest_in_form_2,
         grammars::widest,
         grammars::widest,
         grammars::widest,
@@ -272,9 +276,9 @@ impl Run {
             return;
         }
         let weights = if image.known.is_ok() {
-            [34, 22, 2, 4, 19, 5, 9, 8, 24]
+            [34, 22, 2, 4, 19, 5, 9, 8, 24, 12]
         } else {
-            [15, 16, 16, 5, 14, 14, 10, 10, 10]
+            [15, 16, 16, 5, 14, 14, 10, 10, 10, 12]
         };
         match self.prng.weighted(&weights) {
             0 => self.analyse(image, pool),
@@ -285,6 +289,7 @@ impl Run {
             5 => self.form(image),
             6 => self.spell(image),
             7 => self.words(image, pool),
+            9 => self.convert(image, pool),
             _ => self.rules(image, pool),
         }
     }

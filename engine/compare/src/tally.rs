@@ -1,9 +1,8 @@
 //! Replies are counted by kind of call, so that a run shows what it has met and what it has not.
 
 use crate::ruled::{self, Judged};
-use crate::{many, spelled};
-use other_engine::grammar::{set_named, Grammar, BOUNDARY, NULL};
-use other_engine::Reading;
+use crate::{converted, many, reached, spelled};
+use other_engine::{Grammar, Reading};
 use std::fmt::Write;
 
 /// A kind of call.
@@ -18,9 +17,10 @@ pub enum Kind {
     Spell,
     Words,
     Rules,
+    Convert,
 }
 
-const KINDS: [(Kind, &str); 9] = [
+const KINDS: [(Kind, &str); 10] = [
     (Kind::Analyse, "analyse"),
     (Kind::Generate, "generate"),
     (Kind::Check, "check"),
@@ -30,6 +30,7 @@ const KINDS: [(Kind, &str); 9] = [
     (Kind::Spell, "spell"),
     (Kind::Words, "analyse_words"),
     (Kind::Rules, "judge_rules"),
+    (Kind::Convert, "convert"),
 ];
 
 impl Kind {
@@ -48,6 +49,7 @@ impl Kind {
             Kind::Form => [None, Some("letters"), Some("short")],
             Kind::Spell => [None, Some("spelled"), None],
             Kind::Words => [None, Some("answered"), None],
+            Kind::Convert => [None, Some("converted"), None],
         }
     }
 
@@ -61,57 +63,23 @@ impl Kind {
             Kind::Form => &[12],
             Kind::Spell => &[9, 23, 24],
             Kind::Check | Kind::Words => &[],
+            Kind::Convert => &[15, 16, 17],
             Kind::Seal => return vec![1],
         };
         (1..=8).chain([14]).chain(own.iter().copied()).collect()
     }
 }
 
-/// What the rows of a listing can have at its limit, past a number of bits that might be lost, or by a column that names a set.
-const LIMITS: [&str; 13] = [
-    "16 entries",
-    "40 pairs",
-    "32 letters",
-    "8 lexical nulls",
-    "8 surface nulls",
-    "pair 249",
-    "the largest image",
-    "the null in a set",
-    "the boundary in a set",
-    "set 30",
-    "a set column",
-    "entry 2048 in row 0",
-    "65536 rows",
-];
-/// The first of the limits that analysis and generation should each have reached.
-const OF_EACH: usize = 10;
-
-/// The sets named by the columns that the pairs of a row and the boundary pair take, each with the letter that it was found to have.
-fn sets_asked(grammar: &Grammar, row: &Reading) -> Vec<(usize, u8)> {
-    let boundary = grammar.pairs.len();
-    let pairs = row.pairing.iter().map(|&pair| usize::from(pair));
-    let mut asked = Vec::new();
-    for pair in pairs.chain([boundary]) {
-        let sides = grammar.pairs.get(pair).copied();
-        let (lexical, surface) = sides.unwrap_or((BOUNDARY, BOUNDARY));
-        for table in &grammar.tables {
-            let column = table.columns[table.takes[pair]];
-            asked.extend(set_named(column.0).map(|set| (set, lexical)));
-            asked.extend(set_named(column.1).map(|set| (set, surface)));
-        }
-    }
-    asked
-}
-
-/// How many replies of each kind of call have been met, how many listings by each with a row at a limit, and how many spellings, calls with many words
-/// and texts of rules of each sort.
+/// How many replies of each kind of call have been met, how many listings by each with a row at a limit, and how many spellings, calls with many words,
+/// texts of rules and conversions of each sort.
 pub struct Tally {
     replies: [[u64; 3]; KINDS.len()],
     refusals: [[u64; 25]; KINDS.len()],
-    limits: [[u64; 13]; 2],
+    limits: [[u64; reached::LIMITS.len()]; 2],
     spellings: [u64; spelled::SORTS.len()],
     many: [u64; many::SORTS.len()],
     rules: [u64; ruled::SORTS.len()],
+    conversions: [u64; converted::SORTS.len()],
 }
 
 impl Default for Tally {
@@ -119,10 +87,11 @@ impl Default for Tally {
         Tally {
             replies: [[0; 3]; KINDS.len()],
             refusals: [[0; 25]; KINDS.len()],
-            limits: [[0; 13]; 2],
+            limits: [[0; reached::LIMITS.len()]; 2],
             spellings: [0; spelled::SORTS.len()],
             many: [0; many::SORTS.len()],
             rules: [0; ruled::SORTS.len()],
+            conversions: [0; converted::SORTS.len()],
         }
     }
 }
@@ -136,46 +105,18 @@ impl Tally {
         }
     }
 
-    /// Counts the limits that the rows written by a listing reach, the first of them at least.
+    /// Counts the limits that the rows written by a listing reach.
     pub fn count_limits(&mut self, kind: Kind, grammar: &Grammar, rows: &[Reading]) {
-        let mut reached = [false; 13];
-        for reading in rows.iter().take(50) {
-            let sides = || {
-                reading
-                    .pairing
-                    .iter()
-                    .map(|&p| grammar.pairs[usize::from(p)])
-            };
-            let pairs = reading.pairing.len();
-            let surface_nulls = sides().filter(|s| s.1 == NULL).count();
-            reached[0] |= reading.path.len() == 16;
-            reached[1] |= pairs == 40;
-            reached[2] |= pairs - surface_nulls == 32;
-            reached[3] |= sides().filter(|s| s.0 == NULL).count() == 8;
-            reached[4] |= surface_nulls == 8;
-            reached[5] |= reading.pairing.contains(&249);
-            for (set, letter) in sets_asked(grammar, reading) {
-                reached[7] |= letter == NULL;
-                reached[8] |= letter == BOUNDARY;
-                reached[9] |= set == 30;
-                reached[10] = true;
-            }
+        let met = reached::limits(grammar, rows);
+        for (count, limit) in self.limits[kind as usize].iter_mut().zip(reached::LIMITS) {
+            *count += u64::from(met.contains(&limit));
         }
-        let counts = [
-            grammar.letters.len(),
-            grammar.pairs.len(),
-            grammar.tables.len(),
-            grammar.starts.len() - 1,
-            grammar.entries.len(),
-            grammar.sets.len(),
-        ];
-        reached[6] = !rows.is_empty() && counts == [120, 250, 32, 64, 2_800, 31];
-        reached[11] = rows
-            .first()
-            .is_some_and(|row| row.path.iter().any(|&entry| entry >= 2_048));
-        reached[12] = rows.len() >= 65_536;
-        for (count, reached) in self.limits[kind as usize].iter_mut().zip(reached) {
-            *count += u64::from(reached);
+    }
+
+    /// Counts the sorts that a conversion is of, by an accepted image.
+    pub fn count_conversion(&mut self, sorts: &[&str]) {
+        for (count, sort) in self.conversions.iter_mut().zip(converted::SORTS) {
+            *count += u64::from(sorts.contains(&sort));
         }
     }
 
@@ -226,7 +167,7 @@ impl Tally {
         }
         for (counts, (_, name)) in self.limits.iter().zip(KINDS) {
             let _ = write!(line, "; {name} listings that reach");
-            for (limit, count) in LIMITS.iter().zip(counts) {
+            for (limit, count) in reached::LIMITS.iter().zip(counts) {
                 let _ = write!(line, " {limit}: {count}");
             }
         }
@@ -240,6 +181,10 @@ impl Tally {
         }
         line.push_str("; rules with");
         for (sort, count) in ruled::SORTS.iter().zip(self.rules) {
+            let _ = write!(line, " {sort}: {count}");
+        }
+        line.push_str("; conversions with");
+        for (sort, count) in converted::SORTS.iter().zip(self.conversions) {
             let _ = write!(line, " {sort}: {count}");
         }
         line
@@ -261,9 +206,9 @@ impl Tally {
             }
         }
         let [analyse, generate] = &self.limits;
-        for (place, limit) in LIMITS.iter().enumerate() {
+        for (place, limit) in reached::LIMITS.iter().enumerate() {
             let counts = [analyse[place], generate[place]];
-            if counts.contains(&0) && (place >= OF_EACH || counts == [0, 0]) {
+            if counts.contains(&0) && (place >= reached::OF_EACH || counts == [0, 0]) {
                 missing.push(format!("a listing that reaches {limit}"));
             }
         }
@@ -280,6 +225,11 @@ impl Tally {
         for (sort, count) in ruled::SORTS.iter().zip(self.rules) {
             if count == 0 {
                 missing.push(format!("rules with {sort}"));
+            }
+        }
+        for (sort, count) in converted::SORTS.iter().zip(self.conversions) {
+            if count == 0 {
+                missing.push(format!("a conversion with {sort}"));
             }
         }
         missing.extend(self.seldom());

@@ -1,11 +1,14 @@
 //! An image is damaged so that one known test is the first it fails, or several tests at once, or in ways that do no harm.
 
+use crate::continuations::cut_to_fit;
 use crate::grammars::lexical_letters;
 use crate::prng::Prng;
 use crate::set_damage;
 use crate::sets::{disguise, MOST};
 use crate::tables::{with_columns, Stock, Temper};
+use crate::way_damage;
 use other_engine::draft::{Draft, DraftEntry};
+use other_engine::entries::{entries_in_block, entry_width};
 use other_engine::grammar::{columns_taken, matches, ANY, BOUNDARY, END, NULL};
 use other_engine::image::{block_check, seal, BLOCK};
 
@@ -24,11 +27,12 @@ fn certain(image: Vec<u8>, refusal: u8) -> Damaged {
 
 /// Where things lie in the image of a draft.
 pub(crate) struct Place {
+    pub(crate) image_form: usize,
     pub(crate) letters: usize,
     pairs: usize,
     pub(crate) sets: usize,
     rules: usize,
-    lexicons: usize,
+    pub(crate) lexicons: usize,
     entries: usize,
     blocks: usize,
 }
@@ -36,6 +40,7 @@ pub(crate) struct Place {
 impl Place {
     fn of(draft: &Draft) -> Place {
         let mut place = Place {
+            image_form: draft.image_form,
             letters: draft.letters.len(),
             pairs: draft.pairs.len(),
             sets: draft.sets.len(),
@@ -44,8 +49,13 @@ impl Place {
             entries: draft.entries().count(),
             blocks: 0,
         };
-        place.blocks = place.lexicon_block() + 1 + place.entries.div_ceil(31);
+        place.blocks = place.lexicon_block() + 1 + place.entries.div_ceil(place.in_block());
         place
+    }
+
+    /// The entries of a full block.
+    fn in_block(&self) -> usize {
+        entries_in_block(self.image_form)
     }
 
     /// The first rule's block, or as many blocks as stand ahead of it.
@@ -78,7 +88,8 @@ impl Place {
     }
 
     fn entry(&self, number: usize) -> usize {
-        (self.lexicon_block() + 1 + number / 31) * BLOCK + 4 + 16 * (number % 31)
+        let (width, in_block) = (entry_width(self.image_form), self.in_block());
+        (self.lexicon_block() + 1 + number / in_block) * BLOCK + 4 + width * (number % in_block)
     }
 
     /// The bytes of a block before its unused ones.
@@ -90,7 +101,10 @@ impl Place {
             _ if block < self.first_rule() => 16 * self.sets,
             _ if block < self.lexicon_block() => 506,
             _ if block == self.lexicon_block() => 2 * self.lexicons,
-            _ => 16 * (self.entries - 31 * (block - self.lexicon_block() - 1)).min(31),
+            _ => {
+                let ahead = self.in_block() * (block - self.lexicon_block() - 1);
+                entry_width(self.image_form) * (self.entries - ahead).min(self.in_block())
+            }
         }
     }
 
@@ -162,6 +176,7 @@ pub fn damaged_often(prng: &mut Prng, draft: &Draft) -> Damaged {
         let table = draft.tables[0].clone();
         draft.tables.push(table);
     }
+    cut_to_fit(&mut draft);
     let place = Place::of(&draft);
     let mut image = draft.image();
     for &k in tests.iter().rev() {
@@ -190,6 +205,7 @@ fn with_a_rule(draft: &Draft) -> Draft {
             finals: vec![1],
             rows: vec![vec![1]],
         });
+        cut_to_fit(&mut draft);
     }
     draft
 }
@@ -198,7 +214,10 @@ fn with_a_rule(draft: &Draft) -> Draft {
 fn in_place(prng: &mut Prng, place: &Place, image: &mut [u8], k: u8) {
     match k {
         3 => match prng.below(4) {
-            0 => put(image, 4, prng.one_of(&[0, 2, 256, 257, 257, 513, 65_535])),
+            0 => {
+                let forms = [0, 3, 256, 257, 257, 258, 258, 513, 514, 65_535];
+                put(image, 4, prng.one_of(&forms));
+            }
             1 => {
                 let at = place.some_block(prng) * BLOCK + 2;
                 image[at] = other_kind(prng, image[at]);
@@ -338,6 +357,9 @@ fn table_field(prng: &mut Prng, place: &Place, image: &mut [u8]) {
 fn lexicon(prng: &mut Prng, place: &Place, image: &mut [u8]) {
     let at = place.entry(prng.below(place.entries));
     let length = usize::from(image[at]).min(12);
+    if place.image_form == 2 && prng.percent(40) {
+        return way_damage::ways(prng, place, image, at);
+    }
     match prng.below(9) {
         0 | 1 => {
             let at = place.lexicon(prng.below(place.lexicons));
@@ -385,13 +407,7 @@ fn lexicon(prng: &mut Prng, place: &Place, image: &mut [u8]) {
                 prng.between(1, 255) as u8
             };
         }
-        _ => {
-            image[at + 13] = match prng.below(3) {
-                0 => place.lexicons as u8,
-                1 => 254,
-                _ => prng.between(place.lexicons, 254) as u8,
-            };
-        }
+        _ => way_damage::ways(prng, place, image, at),
     }
 }
 
@@ -480,17 +496,18 @@ fn check_or_number(prng: &mut Prng, draft: &Draft) -> Damaged {
 /// An image with a check below 15, as it should be or written 65,521 higher.
 fn past_modulus(prng: &mut Prng, draft: &Draft, higher: bool) -> Damaged {
     let mut draft = draft.clone();
-    while draft.entries().count() < 31 {
-        let filler = DraftEntry {
-            form: lexical_letters(&draft.pairs).into_iter().take(1).collect(),
-            continuation: END,
-            gloss: 0,
-        };
+    let in_block = entries_in_block(draft.image_form);
+    while draft.entries().count() < in_block {
+        let filler = DraftEntry::with_one_way(
+            lexical_letters(&draft.pairs).into_iter().take(1).collect(),
+            END,
+            0,
+        );
         draft.lexicons.last_mut().expect("a lexicon").push(filler);
     }
     let mut image = draft.image();
     let place = Place::of(&draft);
-    let gloss = place.entry(30) + 14;
+    let gloss = place.entry(in_block - 1) + 14;
     let block = gloss / BLOCK;
     let start = prng.below(65_536);
     for step in 0..65_536 {
@@ -515,7 +532,7 @@ fn past_modulus(prng: &mut Prng, draft: &Draft, higher: bool) -> Damaged {
 fn plan(prng: &mut Prng, draft: &Draft) -> Damaged {
     let place = Place::of(draft);
     let mut image = draft.image();
-    match prng.below(12) {
+    match prng.below(13) {
         0..=2 => {
             let with_rule = with_a_rule(draft);
             let mut image = with_rule.image();
@@ -565,6 +582,7 @@ fn plan(prng: &mut Prng, draft: &Draft) -> Damaged {
             }
         }
         8..=10 => return certain(set_damage::layout(prng, draft), 3),
+        11 => return way_damage::other_form(prng, draft),
         _ => {
             // Two blocks of unlike kinds change places under right numbers.
             let block = prng.below(place.first_rule());
@@ -580,11 +598,7 @@ fn plan(prng: &mut Prng, draft: &Draft) -> Damaged {
 /// A draft laid out right with one count just outside its limits.
 fn past_limit(prng: &mut Prng, draft: &Draft) -> Damaged {
     let mut draft = draft.clone();
-    let entry = DraftEntry {
-        form: Vec::new(),
-        continuation: END,
-        gloss: 0,
-    };
+    let entry = DraftEntry::with_one_way(Vec::new(), END, 0);
     let last = draft.lexicons.len() - 1;
     match prng.below(10) {
         0 => draft.letters.truncate(1),
@@ -599,12 +613,15 @@ fn past_limit(prng: &mut Prng, draft: &Draft) -> Damaged {
         6 => draft.lexicons.resize(65, Vec::new()),
         7 => draft.lexicons.iter_mut().for_each(Vec::clear),
         8 => {
+            // In form 2 so many entries would be refused for the image's length.
+            draft.image_form = 1;
             let missing = 2_801usize.saturating_sub(draft.entries().count()).max(1);
             let longer = draft.lexicons[last].len() + missing;
             draft.lexicons[last].resize(longer, entry);
         }
         _ => {
             // The block total is at its limit and E past its own.
+            draft.image_form = 1;
             let table = with_a_rule(&draft).tables[0].clone();
             draft.tables.resize(32, table);
             let rest = draft.entries().count() - draft.lexicons[last].len();
@@ -614,6 +631,9 @@ fn past_limit(prng: &mut Prng, draft: &Draft) -> Damaged {
     // A block too many would be refused for its length.
     if Place::of(&draft).blocks > 128 {
         draft.sets.clear();
+        if draft.image_form == 2 {
+            cut_to_fit(&mut draft);
+        }
     }
     certain(draft.image(), 3)
 }
@@ -708,7 +728,7 @@ fn unspelled(prng: &mut Prng, draft: &Draft) -> Draft {
             }
         }
     }
-    let number = some_entry(prng, draft.entries().count());
+    let number = some_entry(prng, &draft);
     let mut entries = draft.lexicons.iter_mut().flatten();
     let form = &mut entries.nth(number).expect("an entry").form;
     if prng.percent(15) {
@@ -770,11 +790,12 @@ fn unpaired(prng: &mut Prng, draft: &mut Draft) -> u8 {
 }
 
 /// The number of an entry, often of the last one or of one at the edge of a block.
-fn some_entry(prng: &mut Prng, entries: usize) -> usize {
-    let last = entries - 1;
+fn some_entry(prng: &mut Prng, draft: &Draft) -> usize {
+    let last = draft.entries().count() - 1;
+    let in_block = entries_in_block(draft.image_form);
     match prng.below(4) {
         0 => last,
-        1 => (31 * prng.between(1, 1 + last / 31) - prng.below(2)).min(last),
+        1 => (in_block * prng.between(1, 1 + last / in_block) - prng.below(2)).min(last),
         _ => prng.between(0, last),
     }
 }
@@ -782,7 +803,7 @@ fn some_entry(prng: &mut Prng, entries: usize) -> usize {
 /// Changes at the edge of what is refused, none of them over it.
 fn harmless(prng: &mut Prng, draft: &Draft) -> Damaged {
     let mut draft = draft.clone();
-    match prng.below(8) {
+    match prng.below(10) {
         0 => {
             let number = prng.below(draft.letters.len());
             let point = prng.one_of(&[1, 55_295, 57_344, 65_535]);
@@ -815,7 +836,7 @@ fn harmless(prng: &mut Prng, draft: &Draft) -> Damaged {
             if draft.lexicons.len() < 64 {
                 let number = prng.below(draft.lexicons.len());
                 if let Some(entry) = draft.lexicons[number].first_mut() {
-                    entry.continuation = last as u8;
+                    entry.go_on_to(last as u8);
                 }
             }
         }
@@ -831,9 +852,11 @@ fn harmless(prng: &mut Prng, draft: &Draft) -> Damaged {
             let set = (0..=last).filter(|&x| x == last || prng.percent(50));
             draft.sets.push(set.collect());
         }
+        7 | 8 => way_damage::at_the_edge(prng, &mut draft),
         _ if draft.entries().count() < 2_000 => return past_modulus(prng, &draft, false),
         _ => {}
     }
+    cut_to_fit(&mut draft);
     certain(draft.image(), 0)
 }
 
@@ -842,6 +865,7 @@ mod tests {
     use super::unspelled;
     use crate::grammars::{grammar, lexical_letters};
     use crate::prng::Prng;
+    use other_engine::entries::entries_in_block;
     use other_engine::grammar::NULL;
     use other_engine::image::read;
 
@@ -875,7 +899,7 @@ mod tests {
             let ways = [
                 number == 0 && entries > 1,
                 number + 1 == entries && entries > 1,
-                number > 30,
+                number >= entries_in_block(draft.image_form),
                 place == 0 && length > 1,
                 place + 1 == length && length > 1,
                 place == 11,

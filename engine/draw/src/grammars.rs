@@ -1,5 +1,6 @@
 //! Small grammars are drawn in several manners, each leaning on one part of the definition.
 
+use crate::continuations::{cut_to_fit, entries_with_room, forked, of_either_form};
 use crate::points;
 use crate::prng::Prng;
 use crate::sets::{disguise, how_many, sets, MOST};
@@ -11,7 +12,7 @@ use other_engine::grammar::{Set, ANY, END, NULL};
 type Manner = fn(&mut Prng) -> Draft;
 
 /// The manners of drawing, with their weights.
-const MANNERS: [(usize, Manner); 11] = [
+const MANNERS: [(usize, Manner); 13] = [
     (300, mixed),
     (120, twins),
     (80, cycles),
@@ -23,13 +24,17 @@ const MANNERS: [(usize, Manner); 11] = [
     (30, crowd),
     (30, full),
     (12, widest),
+    (150, branching),
+    (18, border),
 ];
 
-/// A grammar in one of the manners.
+/// A grammar in one of the manners, of either form.
 pub fn grammar(prng: &mut Prng) -> Draft {
     let weights = MANNERS.map(|(weight, _)| weight);
     let (_, manner) = MANNERS[prng.weighted(&weights)];
-    manner(prng)
+    let mut draft = manner(prng);
+    of_either_form(prng, &mut draft);
+    draft
 }
 
 fn letter(prng: &mut Prng, letters: usize) -> u8 {
@@ -136,11 +141,7 @@ fn form(prng: &mut Prng, length: usize, alphabet: &Alphabet) -> Vec<u8> {
 }
 
 fn entry(prng: &mut Prng, form: Vec<u8>, continuation: u8) -> DraftEntry {
-    DraftEntry {
-        form,
-        continuation,
-        gloss: prng.below(65_536) as u16,
-    }
+    DraftEntry::with_one_way(form, continuation, prng.below(65_536) as u16)
 }
 
 /// How the entries of drawn lexicons are spread.
@@ -207,6 +208,7 @@ fn mixed(prng: &mut Prng) -> Draft {
     let lexicons = lexicons(prng, &alphabet, &spread);
     let (sets, tables) = rules(prng, letters, &pairs);
     Draft {
+        image_form: 1,
         letters: points::alphabet(prng, letters),
         pairs,
         sets,
@@ -238,6 +240,7 @@ fn twins(prng: &mut Prng) -> Draft {
     let lexicons = lexicons(prng, &alphabet, &spread);
     let (sets, tables) = rules(prng, letters, &pairs);
     Draft {
+        image_form: 1,
         letters: points::alphabet(prng, letters),
         pairs,
         sets,
@@ -278,6 +281,7 @@ fn cycles(prng: &mut Prng) -> Draft {
     }
     let (sets, tables) = rules(prng, letters, &pairs);
     Draft {
+        image_form: 1,
         letters: points::alphabet(prng, letters),
         pairs,
         sets,
@@ -348,8 +352,8 @@ fn long(prng: &mut Prng) -> Draft {
             0 => {}
             1 => drop(twin.form.pop()),
             2 => twin.form.clear(),
-            _ if link + 2 < links => twin.continuation = link as u8 + 2,
-            _ => twin.continuation = END,
+            _ if link + 2 < links => twin.go_on_to(link as u8 + 2),
+            _ => twin.go_on_to(END),
         }
         let place = prng.below(lexicons[link].len() + 1);
         lexicons[link].insert(place, twin);
@@ -368,6 +372,7 @@ fn long(prng: &mut Prng) -> Draft {
     };
     let tables = (0..rules).map(|_| table(prng, &stock, &temper)).collect();
     Draft {
+        image_form: 1,
         letters: points::alphabet(prng, 5),
         pairs,
         sets,
@@ -432,12 +437,94 @@ fn many(prng: &mut Prng) -> Draft {
     }
     let (sets, tables) = rules(prng, letters, &pairs);
     Draft {
+        image_form: 1,
         letters: points::alphabet(prng, letters),
         pairs,
         sets,
         tables,
         lexicons,
     }
+}
+
+/// Entries that end and go on as well, empty ones and insertions among them, so that the place of an ending in a step list tells.
+fn branching(prng: &mut Prng) -> Draft {
+    let letters = prng.between(5, 10);
+    let mut pairs = vec![(2, 2), (3, 3)];
+    let others = [(80, (NULL, 3)), (30, (3, NULL)), (20, (2, 3))];
+    pairs.extend(
+        others
+            .iter()
+            .filter(|(times, _)| prng.percent(*times))
+            .map(|(_, pair)| *pair),
+    );
+    prng.shuffle(&mut pairs);
+    let alphabet = alphabet(prng, &pairs, 2);
+    let count = prng.between(1, 4);
+    let mut circles = prng.below(2);
+    let lexicons = (0..count)
+        .map(|number| {
+            let entries = prng.between(usize::from(number == 0), 3);
+            (0..entries)
+                .map(|_| {
+                    let length = prng.weighted(&[40, 45, 15]);
+                    let form = form(prng, length, &alphabet);
+                    // An empty entry goes on to later lexicons; one may come round.
+                    let first = if form.is_empty() && circles == 0 {
+                        number + 1
+                    } else {
+                        0
+                    };
+                    circles -= usize::from(form.is_empty() && circles > 0);
+                    let lexicons = (first..count).map(|lexicon| lexicon as u8).collect();
+                    let (ends, most) = (prng.percent(60), prng.below(4));
+                    forked(prng, form, ends, lexicons, most)
+                })
+                .collect()
+        })
+        .collect();
+    let (sets, tables) = if prng.percent(50) {
+        rules(prng, letters, &pairs)
+    } else {
+        (some_sets(prng, letters, &pairs), Vec::new())
+    };
+    Draft {
+        image_form: 2,
+        letters: points::alphabet(prng, letters),
+        pairs,
+        sets,
+        tables,
+        lexicons,
+    }
+}
+
+/// About as many entries as form 2 has blocks for.
+fn border(prng: &mut Prng) -> Draft {
+    let over = prng.one_of(&[-21, -20, -1, 0, 0, 1, 1]);
+    let image_form = if over <= 0 && prng.percent(30) { 2 } else { 1 };
+    let mut draft = at_border(prng, image_form, over);
+    // One entry alone may have a second way on, wherever it stands.
+    if image_form == 2 && prng.percent(60) {
+        let fillers = draft.lexicons.last_mut().expect("a lexicon");
+        let number = prng.below(fillers.len());
+        fillers[number].lexicons.push(0);
+    }
+    draft
+}
+
+/// Entries that are so many over those that form 2 has blocks for, most of them in a lexicon that no entry goes on to.
+pub fn at_border(prng: &mut Prng, image_form: usize, over: isize) -> Draft {
+    let mut draft = if prng.percent(50) {
+        mixed(prng)
+    } else {
+        tiny(prng)
+    };
+    draft.image_form = 2;
+    let wanted = entries_with_room(&draft).saturating_add_signed(over);
+    let missing = wanted - draft.entries().count();
+    let filler = entry(prng, Vec::new(), END);
+    draft.lexicons.push(vec![filler; missing]);
+    draft.image_form = image_form;
+    draft
 }
 
 /// Few pairs and many overlapping columns, so that breadth over the boundary pair tells.
@@ -489,6 +576,7 @@ fn narrow(prng: &mut Prng) -> Draft {
         })
         .collect();
     Draft {
+        image_form: 1,
         letters: points::alphabet(prng, letters),
         pairs,
         sets,
@@ -554,6 +642,7 @@ fn tiny(prng: &mut Prng) -> Draft {
     let lexicons = lexicons(prng, &alphabet, &spread);
     let (sets, tables) = rules(prng, letters, &all);
     Draft {
+        image_form: 1,
         letters: points::alphabet(prng, letters),
         pairs: all,
         sets,
@@ -605,16 +694,22 @@ fn full(prng: &mut Prng) -> Draft {
     } else {
         how_many(prng)
     };
-    at_limits(prng, all, sets)
+    let image_form = prng.between(1, 2);
+    at_limits(prng, image_form, all, sets)
 }
 
-/// All counts at their limits.
+/// All counts at their limits, in form 1.
 pub fn largest(prng: &mut Prng) -> Draft {
-    at_limits(prng, true, MOST)
+    at_limits(prng, 1, true, MOST)
+}
+
+/// All counts at their limits, in form 2: as many entries as there are blocks for.
+pub fn largest_in_form_2(prng: &mut Prng) -> Draft {
+    at_limits(prng, 2, true, MOST)
 }
 
 /// Counts at their limits, all or some of them, beside so many sets, with the entries spread over all lexicons or most of them in the first or last.
-fn at_limits(prng: &mut Prng, all: bool, set_count: usize) -> Draft {
+fn at_limits(prng: &mut Prng, image_form: usize, all: bool, set_count: usize) -> Draft {
     let mut most = |count: usize, few: usize| if all || prng.percent(50) { count } else { few };
     let (letters, count, rules, lexicons, entries) = (
         most(120, 20),
@@ -671,16 +766,25 @@ fn at_limits(prng: &mut Prng, all: bool, set_count: usize) -> Draft {
             Some(lexicon) if prng.percent(50) => lexicon as u8,
             _ => prng.below(lexicons) as u8,
         };
-        let entry = entry(prng, form, continuation);
+        let mut entry = entry(prng, form, continuation);
+        if image_form == 2 && prng.percent(40) {
+            let last = lexicons as u8 - 1;
+            let any = prng.below(lexicons) as u8;
+            entry = forked(prng, entry.form, entry.ends, vec![any, last], 2);
+            entry.lexicons.dedup();
+        }
         spread[lexicon].push(entry);
     }
-    Draft {
+    let mut draft = Draft {
+        image_form,
         letters: points::alphabet(prng, letters),
         pairs,
         sets,
         tables,
         lexicons: spread,
-    }
+    };
+    cut_to_fit(&mut draft);
+    draft
 }
 
 /// Rows as wide as they can be: sixteen entries of four digits each and forty pairs of three.
@@ -698,7 +802,14 @@ pub fn widest(prng: &mut Prng) -> Draft {
     for form in &mut forms[..8] {
         form.insert(prng.below(3), DROP);
     }
-    let others = prng.one_of(&[1_000, 2_047, 2_048, 2_600]);
+    // In form 2 there are blocks for no more.
+    let image_form = prng.between(1, 2);
+    let others = prng.one_of(&[
+        1_000,
+        2_047,
+        2_048,
+        if image_form == 1 { 2_600 } else { 2_400 },
+    ]);
     // The entries ahead of the long path spell no letter and so have no reading.
     let mut first = vec![entry(prng, vec![DROP], END); others];
     first.push(entry(prng, forms[0].clone(), 1));
@@ -708,7 +819,13 @@ pub fn widest(prng: &mut Prng) -> Draft {
     }
     let last = prng.one_of(&[1, 63, 64, 65, 100]);
     lexicons.push(vec![entry(prng, forms[15].clone(), END); last]);
+    if image_form == 2 {
+        for link in lexicons[1..15].iter_mut().flatten() {
+            link.ends = prng.percent(30);
+        }
+    }
     Draft {
+        image_form,
         letters: (1..=u16::from(LETTERS)).collect(),
         sets: some_sets(prng, LETTERS.into(), &pairs),
         pairs,
@@ -741,6 +858,7 @@ pub fn many_readings(prng: &mut Prng) -> Many {
     let (y, z) = (letter(prng, letters.into()), letter(prng, letters.into()));
     Many {
         draft: Draft {
+            image_form: 1,
             letters: points::alphabet(prng, letters.into()),
             pairs,
             sets: Vec::new(),
@@ -754,7 +872,7 @@ pub fn many_readings(prng: &mut Prng) -> Many {
 
 #[cfg(test)]
 mod tests {
-    use super::{grammar, largest};
+    use super::{grammar, largest, largest_in_form_2, Manner};
     use crate::prng::Prng;
     use other_engine::draft::Draft;
     use other_engine::grammar::{BOUNDARY, NULL};
@@ -801,10 +919,12 @@ mod tests {
     #[test]
     fn the_largest_image_has_128_blocks() {
         let mut prng = Prng::new(1);
-        for _ in 0..3 {
-            let image = largest(&mut prng).image();
-            assert_eq!(image.len(), 65_536);
-            assert!(read(&image).is_ok());
+        for (drawn, entries) in [(largest as Manner, 2_800), (largest_in_form_2, 1_911)] {
+            for _ in 0..3 {
+                let image = drawn(&mut prng).image();
+                assert_eq!(image.len(), 65_536);
+                assert!(read(&image).is_ok_and(|grammar| grammar.entries.len() == entries));
+            }
         }
     }
 }

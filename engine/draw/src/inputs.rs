@@ -2,11 +2,10 @@
 
 use crate::prng::Prng;
 use other_engine::calls::{self, Known};
-use other_engine::grammar::{Grammar, END, NULL};
+use other_engine::grammar::{Grammar, NULL};
 use other_engine::listing::ROW;
 use other_engine::pairings::UNITS;
-use other_engine::Reading;
-use std::ops::Range;
+use other_engine::{Entry, Reading};
 
 /// What is known of a grammar that words and paths can be drawn from.
 pub struct Pool {
@@ -19,38 +18,48 @@ pub fn path_bytes(path: &[u16]) -> Vec<u8> {
     path.iter().flat_map(|entry| entry.to_le_bytes()).collect()
 }
 
-/// An entry of a lexicon, often its last.
-fn one_entry(prng: &mut Prng, lexicon: &Range<usize>) -> usize {
-    if prng.percent(20) {
+/// An entry of one of some lexicons, often its last, if there is any.
+fn one_entry(prng: &mut Prng, grammar: &Grammar, lexicons: &[u8]) -> Option<usize> {
+    let ranges = lexicons.iter().map(|&x| grammar.lexicon(usize::from(x)));
+    let mut ranges: Vec<_> = ranges.filter(|range| !range.is_empty()).collect();
+    prng.shuffle(&mut ranges);
+    let lexicon = ranges.pop()?;
+    Some(if prng.percent(20) {
         lexicon.end - 1
     } else {
         prng.between(lexicon.start, lexicon.end - 1)
-    }
+    })
 }
 
 /// A walk through the lexicons, and whether it ended; one that dawdles ends late.
 fn walk(prng: &mut Prng, grammar: &Grammar, most: usize, dawdles: bool) -> (Vec<u16>, bool) {
     let mut path = Vec::new();
-    let mut lexicon = 0;
+    let mut lexicons = &[0][..];
     while path.len() < most {
-        let range = grammar.lexicon(lexicon);
-        if range.is_empty() {
+        let Some(mut number) = one_entry(prng, grammar, lexicons) else {
             break;
-        }
-        let mut entry = one_entry(prng, &range);
+        };
         let late = path.len() + 1 >= most;
         for _ in 0..6 {
-            let ends = grammar.entries[entry].continuation == END;
-            if dawdles && ends != late || !dawdles && path.len() > 8 && !ends {
-                entry = one_entry(prng, &range);
+            let Entry {
+                ends, lexicons: on, ..
+            } = &grammar.entries[number];
+            let unfit = match dawdles {
+                true if late => !ends,
+                true => on.is_empty(),
+                false => path.len() > 8 && !ends,
+            };
+            if unfit {
+                number = one_entry(prng, grammar, lexicons).unwrap_or(number);
             }
         }
-        path.push(entry as u16);
-        let continuation = grammar.entries[entry].continuation;
-        if continuation == END {
+        path.push(number as u16);
+        let entry = &grammar.entries[number];
+        let stops = entry.lexicons.is_empty() || late || !dawdles && prng.percent(50);
+        if entry.ends && stops {
             return (path, true);
         }
-        lexicon = usize::from(continuation);
+        lexicons = &entry.lexicons;
     }
     (path, false)
 }

@@ -1,6 +1,7 @@
 //! Everything a comparison lends is drawn from one seed: grammars, damage to their images, words and records of them, paths, pairings, code points and written rules.
 
 mod context_texts;
+mod continuations;
 pub mod damage;
 pub mod grammars;
 pub mod inputs;
@@ -12,3 +13,5 @@ pub mod rule_texts;
 mod set_damage;
 mod sets;
 mod tables;
+pub mod targets;
+mod way_damage;

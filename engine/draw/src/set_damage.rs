@@ -1,5 +1,6 @@
 //! The sets of an image are damaged in their count, their block, their bits, the sides that name them, and by columns that tie over them.
 
+use crate::continuations::cut_to_fit;
 use crate::damage::{get, put, resealed, Place};
 use crate::grammars::lexical_letters;
 use crate::prng::Prng;
@@ -17,6 +18,7 @@ fn with_sets(prng: &mut Prng, draft: &Draft) -> Draft {
     if draft.sets.is_empty() {
         let count = prng.between(1, 3);
         draft.sets = sets(prng, draft.letters.len(), &draft.pairs, count);
+        cut_to_fit(&mut draft);
     }
     draft
 }
@@ -182,6 +184,7 @@ pub fn columns(prng: &mut Prng, draft: &mut Draft, old: &[(u8, u8)]) -> Vec<(u8,
     while draft.sets.len() < 2 {
         draft.sets.push(Vec::new());
     }
+    cut_to_fit(draft);
     let one = prng.below(draft.sets.len());
     let other = (one + prng.between(1, draft.sets.len() - 1)) % draft.sets.len();
     match prng.below(6) {

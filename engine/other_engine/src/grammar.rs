@@ -8,7 +8,7 @@ pub const BOUNDARY: u8 = 1;
 pub const FIRST_SET: u8 = 128;
 /// The column side that matches every letter, null and boundary included.
 pub const ANY: u8 = 255;
-/// The continuation that ends a path.
+/// The continuation that ends a path, in form 1 of an image.
 pub const END: u8 = 255;
 
 /// The letters of a set, the null and the boundary possibly among them.
@@ -23,15 +23,25 @@ pub struct Table {
     pub takes: Vec<usize>,
 }
 
-/// One entry: its form, continuation and gloss number.
+/// One entry: its form, whether a path may stop at it, the lexicons that it may go on to, and its gloss number.
 pub struct Entry {
     pub form: Vec<u8>,
-    pub continuation: u8,
+    pub ends: bool,
+    pub lexicons: Vec<u8>,
     pub gloss: u16,
+}
+
+impl Entry {
+    /// The ways on, an ending counted as one.
+    pub fn ways(&self) -> usize {
+        usize::from(self.ends) + self.lexicons.len()
+    }
 }
 
 /// Everything an accepted image says.
 pub struct Grammar {
+    /// The form of the image that says it: 1 or 2.
+    pub image_form: usize,
     pub letters: Vec<u16>,
     pub pairs: Vec<(u8, u8)>,
     pub sets: Vec<Set>,
@@ -114,6 +124,7 @@ impl Table {
 impl Grammar {
     /// A grammar from its parts, its pairs laid out by their sides.
     pub fn new(
+        image_form: usize,
         letters: Vec<u16>,
         pairs: Vec<(u8, u8)>,
         sets: Vec<Set>,
@@ -127,6 +138,7 @@ impl Grammar {
             numbers[usize::from(lexical) * width + usize::from(surface)] = Some(number as u8);
         }
         Grammar {
+            image_form,
             letters,
             pairs,
             sets,

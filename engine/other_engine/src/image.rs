@@ -1,6 +1,7 @@
 //! An image is turned down by the first test it fails, each run over the whole image before the next.
 
-use crate::grammar::{columns_taken, set_named, Entry, Grammar, Set, Table, ANY, END, NULL};
+use crate::entries::{entries_in_block, entry, entry_fits, entry_form, entry_width};
+use crate::grammar::{columns_taken, set_named, Grammar, Set, Table, ANY, NULL};
 
 /// The length of a block.
 pub const BLOCK: usize = 512;
@@ -60,12 +61,12 @@ fn block(image: &[u8], number: usize) -> &[u8] {
 }
 
 /// The seven numbers of block 0's one record.
-struct Counts {
-    form: usize,
-    letters: usize,
+pub(crate) struct Counts {
+    pub(crate) form: usize,
+    pub(crate) letters: usize,
     pairs: usize,
     rules: usize,
-    lexicons: usize,
+    pub(crate) lexicons: usize,
     entries: usize,
     sets: usize,
 }
@@ -137,11 +138,11 @@ fn plan(c: &Counts) -> Vec<Plan> {
     });
     let mut rest = c.entries;
     while rest > 0 {
-        let records = rest.min(31);
+        let records = rest.min(entries_in_block(c.form));
         all.push(Plan {
             kind: 6,
             records,
-            width: 16,
+            width: entry_width(c.form),
         });
         rest -= records;
     }
@@ -163,7 +164,7 @@ fn numbers_and_checks_fit(image: &[u8]) -> bool {
 
 fn plan_fits(image: &[u8]) -> bool {
     let c = counts(image);
-    if c.form != 1
+    if !(1..=2).contains(&c.form)
         || !(2..=120).contains(&c.letters)
         || !(1..=250).contains(&c.pairs)
         || c.rules > 32
@@ -216,16 +217,18 @@ fn pairs_fit(image: &[u8]) -> bool {
     })
 }
 
-/// The letters of a set's record: letter 8j + b where byte j has bit b.
-fn members(record: &[u8]) -> Set {
-    (0..128u8)
-        .filter(|&letter| record[usize::from(letter / 8)] >> (letter % 8) & 1 == 1)
+/// The numbers that bits name: 8j + b where byte j has bit b.
+pub(crate) fn named(bits: &[u8]) -> Vec<u8> {
+    let numbers = 0..8 * bits.len();
+    numbers
+        .filter(|number| bits[number / 8] >> (number % 8) & 1 == 1)
+        .map(|number| number as u8)
         .collect()
 }
 
 fn sets(image: &[u8]) -> Vec<Set> {
     (0..counts(image).sets)
-        .map(|number| members(&block(image, 3)[4 + 16 * number..][..16]))
+        .map(|number| named(&block(image, 3)[4 + 16 * number..][..16]))
         .collect()
 }
 
@@ -290,10 +293,11 @@ fn lexicon_counts(image: &[u8]) -> Vec<usize> {
     (0..c.lexicons).map(|i| two(block, 4 + 2 * i)).collect()
 }
 
-/// The record of one entry: 16 bytes.
+/// The record of one entry, as wide as the image's form has it.
 fn entry_record<'a>(image: &'a [u8], c: &Counts, entry: usize) -> &'a [u8] {
-    let at = 4 + 16 * (entry % 31);
-    &block(image, c.first_rule() + c.rules + 1 + entry / 31)[at..at + 16]
+    let (width, in_block) = (entry_width(c.form), entries_in_block(c.form));
+    let number = c.first_rule() + c.rules + 1 + entry / in_block;
+    &block(image, number)[4 + width * (entry % in_block)..][..width]
 }
 
 fn lexicon_fits(image: &[u8]) -> bool {
@@ -302,27 +306,12 @@ fn lexicon_fits(image: &[u8]) -> bool {
         && (0..c.entries).all(|entry| entry_fits(entry_record(image, &c, entry), &c))
 }
 
-fn entry_fits(record: &[u8], c: &Counts) -> bool {
-    let length = usize::from(record[0]);
-    length <= 12
-        && record[1..1 + length]
-            .iter()
-            .all(|&x| (2..=c.letters).contains(&usize::from(x)))
-        && record[1 + length..13].iter().all(|&x| x == 0)
-        && (record[13] == END || usize::from(record[13]) < c.lexicons)
-}
-
-/// The letters of an entry's form, once its length is known to fit.
-fn form(record: &[u8]) -> &[u8] {
-    &record[1..1 + usize::from(record[0])]
-}
-
 /// Whether each letter of each form is the lexical side of some pair.
 fn forms_fit(image: &[u8]) -> bool {
     let c = counts(image);
     let lexical: Vec<u8> = pairs(image).iter().map(|pair| pair.0).collect();
     (0..c.entries).all(|entry| {
-        form(entry_record(image, &c, entry))
+        entry_form(entry_record(image, &c, entry))
             .iter()
             .all(|letter| lexical.contains(letter))
     })
@@ -354,14 +343,8 @@ fn decode(image: &[u8]) -> Grammar {
         starts.push(starts[starts.len() - 1] + count);
     }
     let entries = (0..c.entries)
-        .map(|entry| {
-            let record = entry_record(image, &c, entry);
-            Entry {
-                form: form(record).to_vec(),
-                continuation: record[13],
-                gloss: two(record, 14) as u16,
-            }
-        })
+        .map(|number| entry(entry_record(image, &c, number), c.form))
         .collect();
-    Grammar::new(code_points(image), pairs, sets, tables, starts, entries)
+    let letters = code_points(image);
+    Grammar::new(c.form, letters, pairs, sets, tables, starts, entries)
 }

@@ -2,7 +2,9 @@
 
 pub mod calls;
 pub mod contexts;
+pub mod conversion;
 pub mod draft;
+pub mod entries;
 pub mod folding;
 pub mod grammar;
 pub mod image;

@@ -1,35 +1,37 @@
 //! Complete paths are listed length by length, and kept where their joined forms can spell a word when rules are left aside.
 
-use crate::grammar::{Grammar, END, NULL};
+use crate::grammar::{Grammar, NULL};
 use crate::pairings::{Budget, TooBig, Ways};
 use std::collections::BTreeMap;
 
 /// Complete paths, gathered by the forms they join to.
 pub type ByForm = BTreeMap<Vec<u8>, Vec<Vec<u16>>>;
 
-/// The beginning of a path, none of it yet ended, with how many ways its letters can be paired.
+/// The beginning of a path that may go on, with how many ways its letters can be paired.
 struct Beginning {
     path: Vec<u16>,
     joined: Vec<u8>,
-    lexicon: usize,
+    lexicons: Vec<u8>,
     ways: Ways,
 }
 
 impl Grammar {
-    /// Test 12: every entry exists, the first is from lexicon 0, each next from its predecessor's continuation, the last and only the last ends.
+    /// Test 12: every entry exists, the first is from lexicon 0, each next from one that its predecessor may go on to, and the path may stop at the last.
     pub fn linked(&self, path: &[u16]) -> bool {
-        let mut expected = Some(0);
-        for &entry in path {
-            let Some(lexicon) = expected else {
-                return false;
-            };
-            if !self.lexicon(lexicon).contains(&usize::from(entry)) {
+        let is_of = |lexicons: &[u8], entry: usize| {
+            let mut lexicons = lexicons.iter().map(|&lexicon| usize::from(lexicon));
+            lexicons.any(|lexicon| self.lexicon(lexicon).contains(&entry))
+        };
+        let mut lexicons = &[0][..];
+        let mut ends = false;
+        for entry in path.iter().map(|&entry| usize::from(entry)) {
+            if !is_of(lexicons, entry) {
                 return false;
             }
-            let continuation = self.entries[usize::from(entry)].continuation;
-            expected = (continuation != END).then_some(usize::from(continuation));
+            lexicons = &self.entries[entry].lexicons;
+            ends = self.entries[entry].ends;
         }
-        expected.is_none()
+        ends
     }
 
     /// All complete paths whose joined forms can be paired with the word, rules aside.
@@ -38,13 +40,14 @@ impl Grammar {
         let mut beginnings = vec![Beginning {
             path: Vec::new(),
             joined: Vec::new(),
-            lexicon: 0,
+            lexicons: vec![0],
             ways: Ways::none_paired(word.len()),
         }];
         for _ in 0..16 {
             let mut longer = Vec::new();
             for beginning in &beginnings {
-                for number in self.lexicon(beginning.lexicon) {
+                let lexicons = beginning.lexicons.iter();
+                for number in lexicons.flat_map(|&lexicon| self.lexicon(usize::from(lexicon))) {
                     budget.take(beginning.ways.total())?;
                     let entry = &self.entries[number];
                     let mut ways = beginning.ways.clone();
@@ -62,18 +65,20 @@ impl Grammar {
                     path.push(number as u16);
                     let mut joined = beginning.joined.clone();
                     joined.extend(&entry.form);
-                    if entry.continuation == END {
-                        ways.insert(self, word);
-                        budget.take(ways.total())?;
-                        if ways.at_end() > 0 {
-                            complete.entry(joined).or_default().push(path);
+                    if entry.ends {
+                        let mut ended = ways.clone();
+                        ended.insert(self, word);
+                        budget.take(ended.total())?;
+                        if ended.at_end() > 0 {
+                            let paths = complete.entry(joined.clone()).or_default();
+                            paths.push(path.clone());
                         }
-                    } else {
-                        let lexicon = usize::from(entry.continuation);
+                    }
+                    if !entry.lexicons.is_empty() {
                         longer.push(Beginning {
                             path,
                             joined,
-                            lexicon,
+                            lexicons: entry.lexicons.clone(),
                             ways,
                         });
                     }

@@ -9,6 +9,9 @@ pub struct Reading {
     pub pairing: Vec<u8>,
 }
 
+/// The ending of a path in a step list of form 2, which counts below every entry number.
+pub const ENDING: i32 = -1;
+
 /// Why no list of readings is handed back.
 #[derive(Clone, Copy, Debug, PartialEq, Eq)]
 pub enum Stop {
@@ -45,23 +48,34 @@ impl Grammar {
             && self.passes(pairing)
     }
 
-    /// The step list of a reading.
-    pub fn steps(&self, reading: &Reading) -> Vec<u16> {
+    /// The step list of a reading, which has the ending where the image's form is 2.
+    pub fn steps(&self, reading: &Reading) -> Vec<i32> {
+        self.steps_by(reading, self.image_form == 2)
+    }
+
+    /// The step list of a reading, with its ending or without.
+    pub fn steps_by(&self, reading: &Reading, has_ending: bool) -> Vec<i32> {
         let length = |at: usize| self.entries[usize::from(reading.path[at])].form.len();
         // Entry n + 1 stands straight after the pair of the last letter of entries 0 to n.
-        let mut steps = Vec::with_capacity(reading.path.len() + reading.pairing.len());
+        let mut steps = Vec::with_capacity(reading.path.len() + 1 + reading.pairing.len());
         let mut open = 0;
         let mut letters_due = 0;
         let mut letters_paired = 0;
+        let mut due_to_end = has_ending;
         let mut pairs = reading.pairing.iter();
         loop {
             while open < reading.path.len() && letters_paired == letters_due {
-                steps.push(reading.path[open]);
+                steps.push(i32::from(reading.path[open]));
                 letters_due += length(open);
                 open += 1;
             }
+            // The ending stands where one entry more would open.
+            if due_to_end && letters_paired == letters_due {
+                steps.push(ENDING);
+                due_to_end = false;
+            }
             let Some(&pair) = pairs.next() else { break };
-            steps.push(u16::from(pair));
+            steps.push(i32::from(pair));
             if self.pairs[usize::from(pair)].0 != NULL {
                 letters_paired += 1;
             }

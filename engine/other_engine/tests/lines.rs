@@ -20,12 +20,9 @@ fn printed(known: &Known, input: &[u8]) -> String {
 
 /// One lexicon of so many equal entries, each the single letter 2.
 fn equal_entries(count: usize) -> Known {
-    let entry = DraftEntry {
-        form: vec![2],
-        continuation: 255,
-        gloss: 0,
-    };
+    let entry = DraftEntry::with_one_way(vec![2], 255, 0);
     let draft = Draft {
+        image_form: 1,
         letters: vec![35, 97],
         pairs: vec![(2, 2)],
         sets: Vec::new(),
@@ -168,12 +165,9 @@ fn sixty_four_rows_are_lent() {
 
 #[test]
 fn a_word_with_too_much_to_list_is_told() {
-    let entry = |continuation| DraftEntry {
-        form: Vec::new(),
-        continuation,
-        gloss: 0,
-    };
+    let entry = |continuation| DraftEntry::with_one_way(Vec::new(), continuation, 0);
     let draft = Draft {
+        image_form: 1,
         letters: vec![35, 97],
         pairs: vec![(0, 2)],
         sets: Vec::new(),

@@ -12,11 +12,7 @@ const B: u8 = 129;
 const LAST: u8 = 158;
 
 fn entry(form: &[u8]) -> DraftEntry {
-    DraftEntry {
-        form: form.to_vec(),
-        continuation: 255,
-        gloss: 0,
-    }
+    DraftEntry::with_one_way(form.to_vec(), 255, 0)
 }
 
 /// A table of these columns and rows, every state final.
@@ -32,6 +28,7 @@ fn table(columns: &[(u8, u8)], rows: &[&[u8]]) -> DraftTable {
 fn draft(letters: u16, pairs: &[(u8, u8)], sets: &[&[u8]], columns: &[(u8, u8)]) -> Draft {
     let row = vec![1; columns.len()];
     Draft {
+        image_form: 1,
         letters: (97..97 + letters).collect(),
         pairs: pairs.to_vec(),
         sets: sets.iter().map(|set| set.to_vec()).collect(),
@@ -87,6 +84,7 @@ const DROP: u8 = 8;
 /// Rule 3 of source document 001, appendix A.1: i is written e before a postvelar, also over a transparent sound.
 fn quichua() -> Draft {
     Draft {
+        image_form: 1,
         letters: LETTERS.encode_utf16().collect(),
         pairs: vec![
             (2, 2),

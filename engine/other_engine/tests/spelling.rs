@@ -24,12 +24,9 @@ fn bytes(points: &[u16]) -> Vec<u8> {
 
 /// A grammar with these letters, the first of them the boundary, one pair and one empty entry.
 fn alphabet(letters: &[u16]) -> Known {
-    let entry = DraftEntry {
-        form: Vec::new(),
-        continuation: 255,
-        gloss: 0,
-    };
+    let entry = DraftEntry::with_one_way(Vec::new(), 255, 0);
     let draft = Draft {
+        image_form: 1,
         letters: letters.to_vec(),
         pairs: vec![(2, 2)],
         sets: Vec::new(),

@@ -22,16 +22,13 @@ fn bytes(path: &[u16]) -> Vec<u8> {
 }
 
 fn entry(form: &[u8], continuation: u8) -> DraftEntry {
-    DraftEntry {
-        form: form.to_vec(),
-        continuation,
-        gloss: 0,
-    }
+    DraftEntry::with_one_way(form.to_vec(), continuation, 0)
 }
 
 /// A grammar without rules over letters with code points 97, 98, ...
 fn plain(letters: u16, pairs: &[(u8, u8)], lexicons: Vec<Vec<DraftEntry>>) -> Draft {
     Draft {
+        image_form: 1,
         letters: (97..97 + letters).collect(),
         pairs: pairs.to_vec(),
         sets: Vec::new(),
@@ -565,8 +562,8 @@ fn fourteen_is_tested_after_eight() {
         (|draft| draft.tables[0].rows[0][0] = 6, 6),
         (|draft| draft.tables[0].columns[4] = (8, 8), 7),
         // The entry of the slip, one after it, and the boundary and a letter past L in a form.
-        (|draft| draft.lexicons[0][0].continuation = 2, 8),
-        (|draft| draft.lexicons[1][1].continuation = 2, 8),
+        (|draft| draft.lexicons[0][0].go_on_to(2), 8),
+        (|draft| draft.lexicons[1][1].go_on_to(2), 8),
         (|draft| draft.lexicons[0][1].form[0] = 1, 8),
         (|draft| draft.lexicons[1][1].form[2] = 10, 8),
     ];
@@ -695,6 +692,7 @@ fn an_image_at_every_limit_is_accepted() {
     lexicons[63].extend(vec![entry(&[], 255); 48]);
     letters.truncate(120);
     let draft = Draft {
+        image_form: 1,
         letters,
         pairs,
         sets: vec![(16..=120).collect(); 31],

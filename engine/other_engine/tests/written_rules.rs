@@ -168,15 +168,12 @@ fn a_context_has_64_bytes_and_depth_8() {
 /// Letters # t c i s; pairs t:c, t:t, i:i, s:s, and the insertions 0:i and 0:s.
 fn t_c() -> Known {
     let draft = Draft {
+        image_form: 1,
         letters: "#tcis".bytes().map(u16::from).collect(),
         pairs: vec![(2, 3), (2, 2), (4, 4), (5, 5), (0, 4), (0, 5)],
         sets: Vec::new(),
         tables: Vec::new(),
-        lexicons: vec![vec![DraftEntry {
-            form: vec![2],
-            continuation: 255,
-            gloss: 0,
-        }]],
+        lexicons: vec![vec![DraftEntry::with_one_way(vec![2], 255, 0)]],
     };
     read(&draft.image())
 }

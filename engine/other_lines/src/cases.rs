@@ -1,6 +1,7 @@
 //! A case is a file, or none, in the place of the image and an input for the line program to read.
 
 use crate::spelling::line;
+use crate::tally::Sorts;
 use draw::damage::{damaged, damaged_often};
 use draw::grammars::{grammar, widest};
 use draw::inputs::Pool;
@@ -33,8 +34,8 @@ impl Place {
 pub struct Case {
     pub place: Place,
     pub input: Vec<u8>,
-    /// Whether the image is accepted and a column of it names a set.
-    pub names_sets: bool,
+    /// What its grammar is counted for.
+    pub sorts: Sorts,
     /// What is printed for each line.
     pub answers: Vec<String>,
     /// Lines left out because their words are too big.
@@ -44,11 +45,7 @@ pub struct Case {
 }
 
 fn entry(form: &[u8], continuation: u8) -> DraftEntry {
-    DraftEntry {
-        form: form.to_vec(),
-        continuation,
-        gloss: 0,
-    }
+    DraftEntry::with_one_way(form.to_vec(), continuation, 0)
 }
 
 /// As many equal entries as there are rows, or nearly.
@@ -56,6 +53,7 @@ fn about_as_many_as_rows(prng: &mut Prng) -> Draft {
     let form = vec![2; prng.between(1, 3)];
     let count = prng.one_of(&[1, 62, 63, 64, 64, 65, 65, 66, 128]);
     Draft {
+        image_form: 1,
         letters: vec![35, 97, 98],
         pairs: vec![(2, 2), (3, 3)],
         sets: Vec::new(),
@@ -189,7 +187,7 @@ pub fn case(prng: &mut Prng) -> Case {
     Case {
         place,
         input,
-        names_sets: known.is_ok_and(|grammar| grammar.names_sets()),
+        sorts: known.map_or(Sorts::default(), |grammar| Sorts::of(&grammar)),
         answers,
         skipped,
         piece,
@@ -224,12 +222,9 @@ mod tests {
 
     #[test]
     fn words_too_big_are_left_out() {
-        let entry = |continuation| DraftEntry {
-            form: Vec::new(),
-            continuation,
-            gloss: 0,
-        };
+        let entry = |continuation| DraftEntry::with_one_way(Vec::new(), continuation, 0);
         let draft = Draft {
+            image_form: 1,
             letters: vec![35, 97],
             pairs: vec![(0, 2)],
             sets: Vec::new(),

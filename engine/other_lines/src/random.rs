@@ -53,7 +53,7 @@ pub fn compare(program: &Path, seed: u64, count: u64) -> Result<(), Fault> {
             return Err(Fault::Difference(told));
         }
         for text in &case.answers {
-            tally.count(text, case.names_sets);
+            tally.count(text, case.sorts);
         }
         skipped += case.skipped;
         long += usize::from(case.input.len() > LONG);

@@ -1,18 +1,38 @@
 //! Replies are counted by what stands first in their text, so that a run shows what it has met.
 
+use other_engine::Grammar;
+
 /// The replies a line can get.
 const REPLIES: [&str; 5] = ["all", "more", "none", "refused", "unread"];
 
 /// The refusals a line can get, in the order of their tests.
 const REFUSALS: [usize; 11] = [1, 2, 3, 4, 5, 6, 7, 8, 14, 9, 10];
 
-/// How often each reply, and each refusal by its number, was met, how often a first row with an entry that needs more than eleven bits, and how often rows by a grammar with a column that names a set.
+/// What a grammar has that rows by it are counted for: a column that names a set, or an entry with more than one way on, which form 2 alone can have.
+#[derive(Clone, Copy, Default)]
+pub struct Sorts {
+    names_sets: bool,
+    has_several_ways: bool,
+}
+
+impl Sorts {
+    /// What an accepted grammar has of these.
+    pub fn of(grammar: &Grammar) -> Sorts {
+        Sorts {
+            names_sets: grammar.names_sets(),
+            has_several_ways: grammar.entries.iter().any(|entry| entry.ways() > 1),
+        }
+    }
+}
+
+/// How often each reply, and each refusal by its number, was met, how often a first row with an entry that needs more than eleven bits, and how often rows by a grammar of each sort.
 #[derive(Default)]
 pub struct Tally {
     replies: [u64; 5],
     refusals: [u64; 15],
     late_entries: u64,
     by_sets: u64,
+    by_several_ways: u64,
 }
 
 /// Whether the first row of an answer has an entry from 2,048 on.
@@ -24,8 +44,8 @@ fn has_late_entry(text: &str) -> bool {
 }
 
 impl Tally {
-    /// Counts the reply that a text begins with, by a grammar with such a column or not.
-    pub fn count(&mut self, text: &str, names_sets: bool) {
+    /// Counts the reply that a text begins with, by a grammar of these sorts.
+    pub fn count(&mut self, text: &str, sorts: Sorts) {
         let mut words = text.split_ascii_whitespace();
         let reply = words.next();
         let number = words.next().and_then(|number| number.parse().ok());
@@ -38,7 +58,8 @@ impl Tally {
         }
         self.late_entries += u64::from(has_late_entry(text));
         let rows = matches!(reply, Some("all" | "more"));
-        self.by_sets += u64::from(rows && names_sets);
+        self.by_sets += u64::from(rows && sorts.names_sets);
+        self.by_several_ways += u64::from(rows && sorts.has_several_ways);
     }
 
     /// All replies together.
@@ -52,11 +73,12 @@ impl Tally {
         let replies: Vec<String> = REPLIES.iter().zip(&self.replies).map(counted).collect();
         let refusals = REFUSALS.map(|k| format!("{k}:{}", self.refusals[k]));
         format!(
-            "{}; refused {}; entry 2048 in row 0: {}; rows by a set column's grammar: {}",
+            "{}; refused {}; entry 2048 in row 0: {}; rows by a set column's grammar: {}; by one with several ways on: {}",
             replies.join(" "),
             refusals.join(" "),
             self.late_entries,
-            self.by_sets
+            self.by_sets,
+            self.by_several_ways
         )
     }
 
@@ -66,10 +88,11 @@ impl Tally {
         let refusals = REFUSALS.iter().filter(|&&k| self.refusals[k] == 0);
         let late = (self.late_entries == 0).then_some("entry 2048 in row 0");
         let sets = (self.by_sets == 0).then_some("rows by a set column's grammar");
+        let ways = (self.by_several_ways == 0).then_some("rows by a grammar with several ways on");
         replies
             .map(|(name, _)| name.to_string())
             .chain(refusals.map(|k| format!("refused {k}")))
-            .chain(late.into_iter().chain(sets).map(str::to_string))
+            .chain(late.into_iter().chain(sets).chain(ways).map(str::to_string))
             .collect()
     }
 }
