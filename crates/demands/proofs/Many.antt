@@ -28,10 +28,10 @@ use Rattle.demands.proofs.Numbers.{coding, coded-case, listing-coding}
 
 -- a reply's number fits eight bytes: it has at most as many rows as a slice, and refusals have small numbers
 in-table-small : (k : ℕ) → T (inTable k) → k ≤ 24
-in-table-small k t = go (within 1 14 k) (within 19 20 k) refl refl t
+in-table-small k t = go (within 1 17 k) (within 19 20 k) refl refl t
   where
-    go : (a b : Bool) → within 1 14 k ≡ a → within 19 20 k ≡ b → T (a || b || within 23 24 k) → k ≤ 24
-    go true b e f u = omega (arith, within-out 1 14 k (of-true (within 1 14 k) e) .1)
+    go : (a b : Bool) → within 1 17 k ≡ a → within 19 20 k ≡ b → T (a || b || within 23 24 k) → k ≤ 24
+    go true b e f u = omega (arith, within-out 1 17 k (of-true (within 1 17 k) e) .1)
     go false true e f u = omega (arith, within-out 19 20 k (of-true (within 19 20 k) f) .1)
     go false false e f u = within-out 23 24 k u .1
 
