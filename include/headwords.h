@@ -158,9 +158,9 @@ uint64_t headwords_seal(uint8_t *image, size_t image_length);
  *   1       converted: every byte of the target is written, and the image there is sealed and accepted
  *   4k + 3  refused (1 to 8, 14, 15, 16 or 17); nothing is written
  * Only the form, the records of entries and the checks differ. Letters, pairs, sets, rules, lexicons and entries keep their
- * numbers, entries their forms and glosses, and every word and path gets the same reply and rows. There and back leaves the
- * same bytes. An image of form 2 is converted where each entry has one way on. One of form 1 is, unless it grows past 128
- * blocks: an entry takes 16 bytes there, 31 to a block, and in form 2 24 bytes, 21 to a block.
+ * numbers, entries their forms and glosses, and every word and path gets the same reply and rows. From form 1 to form 2 and
+ * back leaves the same bytes. An image of form 2 is converted where each entry has one way on. One of form 1 is, unless it
+ * grows past 128 blocks: an entry takes 16 bytes there, 31 to a block, and in form 2 24 bytes, 21 to a block.
  *
  * The target has to be just as long as the converted image. The blocks of entries come last; an accepted image has its form in
  * byte 4, and the count of entries in bytes 14 and 15:
