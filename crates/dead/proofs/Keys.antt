@@ -1,7 +1,7 @@
 -- A node's numbers tell the node: nodes of the same numbers are the same, and from both nothing is found or from neither.
-use Prim.Native.Nat.{ℕ, _+_, _-_, _<_, _≤_}
+use Prim.Native.Nat.{ℕ, _+_, _*_, _-_, _/_, _%_, _<_, _≤_}
 use native.Mathlib.Omega.{arith}
-use mathlib.Core.Bool.{Bool, _&&_}
+use mathlib.Core.Bool.{Bool, true, false, _&&_, cond}
 use mathlib.Core.Logic.{_⊎_, inl, inr}
 use mathlib.Core.Path.{_≡_, refl, sym, ap, ap₂, _∙_, subst}
 use mathlib.Core.List.{List, []}
@@ -16,14 +16,18 @@ use Rattle.model.specs.Tree.{Node}
 use Rattle.model.specs.GrammarOf.{grammarOf}
 use Rattle.model.proofs.Lists.{below-from}
 use Rattle.lexicon.specs.Sole.{WayOf}
+use Rattle.digits.specs.Ways.{Names}
+use Rattle.rules.specs.Paths.{inSome}
 use Rattle.rules.proofs.PathLaws.{any-same}
 use Rattle.rows.specs.Trail.{readingOf}
 use Rattle.listing.specs.declared.place.Place.{Place}
 use Rattle.listing.specs.Gather.{gather, stepsFrom}
 use Rattle.listing.specs.Places.{root, ended, waysAfter, stopsAfter, restOf, nodeOf}
 use Rattle.listing.specs.Search.{nodeAt, foundAt}
+use Rattle.listing.proofs.Places.{stops-entry}
+use Rattle.listing.proofs.Ranges.{entry-ways}
 use Rattle.dead.specs.declared.Left.{Left}
-use Rattle.dead.specs.Dead.{DeadAt, lettersLeft, noneLeft, noneOpen, restBy, followsBy, endsBy, waysBy, stopBy, endedBy, Tells, keyBy, KeyOf}
+use Rattle.dead.specs.Dead.{DeadAt, lettersLeft, noneLeft, setLeft, setBy, noneOpen, restBy, followsBy, endsBy, waysBy, stopBy, endedBy, Tells, keyBy, KeyOf}
 
 module _ (image : List ℕ) where
   pub letters-tell : (place : Place) → place .from < place .to → Tells image place (lettersLeft place)
@@ -74,6 +78,33 @@ module _ (image : List ℕ) where
         go (inl l) = by-way h few way (omega arith) (w .goes l .1) (w .goes l .0 ∙ sym (ne-eqb way 255 (λ e. omega arith)))
         go (inr (inl e)) = absurd (sole e)
         go (inr (inr e)) = by-way h few way (omega arith) (λ x m. w .ends e .1 x m ∙ sym (ne-eqb way x (λ f. omega arith))) (w .ends e .0 ∙ sym (eq-eqb way 255 e))
+
+    -- by the set of them
+    pub set-tells : place .last < ended → header image .lexicons ≤ 64 → (bits : ℕ) (stop : Bool) → Names (goesTo (entry image (place .last)) (header image .form)) bits
+        → stop ≡ mayStop (entry image (place .last)) (header image .form) → Tells image place (setLeft bits stop)
+    unfolding restBy waysBy stopBy endedBy
+    set-tells h few bits stop names stops =
+        let l = setLeft bits stop in
+        let none-left = le-ltb (l .from) (l .to) (omega arith) in
+        let order = lt-ltb (l .to) (l .from) (omega arith) in
+        let set = le-ltb (l .from) 32768 (omega arith) in
+        record {
+          rest-is = rw none-left no-rest;
+          ways-is = λ f. rw (order, set) (entry-ways image (place .last) bits h few names f ∙ ap (λ (n : ℕ). inSome image (header image .lexicons) n f) (sym (set-back bits stop)));
+          stop-is = rw (order, set) (sym (stops-entry image (place .last) h stop stops) ∙ sym (mark-back (bits / 32768 / 32768) stop));
+          ended-is = rw order (ne-eqb (place .last) ended (λ e. omega arith));
+        }
+      where
+        half : (q : ℕ) (stop : Bool) → (2 * q + cond stop 1 0) / 2 ≡ q
+        half q true = omega arith
+        half q false = omega arith
+
+        set-back : (bits : ℕ) (stop : Bool) → setBy (setLeft bits stop) ≡ bits
+        set-back bits stop = omega (arith, half (bits / 32768 / 32768) stop)
+
+        mark-back : (q : ℕ) (stop : Bool) → eqb ((2 * q + cond stop 1 0) % 2) 1 ≡ stop
+        mark-back q true = eq-eqb ((2 * q + 1) % 2) 1 (omega arith)
+        mark-back q false = ne-eqb ((2 * q + 0) % 2) 1 (λ e. omega arith)
 
     pub unopened-tells : Tells image place (noneOpen (place .last))
     unfolding restBy waysBy stopBy endedBy

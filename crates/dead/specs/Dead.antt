@@ -1,5 +1,5 @@
 -- Nodes of the search from which nothing is found, and what it is for a table to hold such nodes alone.
-use Prim.Native.Nat.{ℕ, _+_, _*_, _-_, _<_, _≤_}
+use Prim.Native.Nat.{ℕ, _+_, _*_, _-_, _/_, _%_, _<_, _≤_}
 use mathlib.Core.Bool.{Bool, false, _&&_, cond}
 use mathlib.Core.Path.{_≡_}
 use mathlib.Core.List.{List, [], _∷_}
@@ -10,6 +10,7 @@ use Rattle.model.specs.Blocks.{header}
 use Rattle.model.specs.Lexicon.{inLexicon}
 use Rattle.model.specs.GrammarOf.{grammarOf}
 use Rattle.model.specs.Query.{Query}
+use Rattle.rules.specs.Paths.{inSome}
 use Rattle.rows.specs.declared.Trail.{Trail}
 use Rattle.listing.specs.declared.place.Place.{Place}
 use Rattle.listing.specs.Places.{ended, waysAfter, stopsAfter, restOf}
@@ -29,6 +30,13 @@ lettersLeft place = record { from = place .from; to = place .to; last = place .l
 abbrev pub noneLeft : ℕ → Left
 noneLeft next = record { from = 1; to = 0; last = next }
 
+-- where it has several ways on, and none to a lexicon past the forty-fifth: their digits, in three numbers of which the first is 32768 at least
+abbrev pub setLeft : ℕ → Bool → Left
+setLeft bits stop = record { from = 32768 + bits / 32768 % 32768; to = bits % 32768; last = 2 * (bits / 32768 / 32768) + cond stop 1 0 }
+
+abbrev pub setBy : Left → ℕ
+setBy l = l .to + 32768 * (l .from - 32768) + 1073741824 * (l .last / 2)
+
 -- no letter is left, and no entry is open, yet or any more: which of the two it is; the first number is the second
 abbrev pub noneOpen : ℕ → Left
 noneOpen last = record { from = 0; to = 0; last = last }
@@ -38,7 +46,7 @@ module _ (image : List ℕ) where
   unfoldable pub restBy : Left → List ℕ
   restBy l = cond (ltb (l .from) (l .to)) (take (l .to - l .from) (drop (l .from) image)) []
 
-  -- the ways on in one number: 255 where the path can only end, a lexicon where it can only go on with that one, and 256 and the entry where that is not said
+  -- the ways on in one number: 255 where the path can only end, a lexicon where it can only go on with that one, and 256 and the entry where neither that nor a set says it
   unfoldable pub followsBy : ℕ → ℕ → Bool
   followsBy n f = cond (ltb n 256) (any (λ x. eqb n x && inLexicon image x f) (below (header image .lexicons))) (grammarOf image .follows (n - 256) f)
 
@@ -46,10 +54,10 @@ module _ (image : List ℕ) where
   endsBy n = cond (ltb n 256) (eqb n 255) (grammarOf image .ends (n - 256))
 
   unfoldable pub waysBy : Left → ℕ → Bool
-  waysBy l = cond (ltb (l .to) (l .from)) (followsBy (l .last)) (waysAfter image (l .last))
+  waysBy l = cond (ltb (l .to) (l .from)) (cond (ltb (l .from) 32768) (followsBy (l .last)) (inSome image (header image .lexicons) (setBy l))) (waysAfter image (l .last))
 
   unfoldable pub stopBy : Left → Bool
-  stopBy l = cond (ltb (l .to) (l .from)) (endsBy (l .last)) (stopsAfter image (l .last))
+  stopBy l = cond (ltb (l .to) (l .from)) (cond (ltb (l .from) 32768) (endsBy (l .last)) (eqb (l .last % 2) 1)) (stopsAfter image (l .last))
 
   unfoldable pub endedBy : Left → Bool
   endedBy l = cond (ltb (l .to) (l .from)) false (eqb (l .last) ended)

@@ -8,7 +8,7 @@ ghost use Rattle.model.specs.Query.{Query};
 ghost use Rattle.image.specs.Header.{headerOf};
 ghost use Rattle.image.specs.Accepted.{Accepted};
 ghost use Rattle.listing.specs.Places.{Standing};
-ghost use Rattle.dead.specs.Dead.{DeadAt, Remembered, Narrow, Tells, widthOf, KeyOf};
+ghost use Rattle.dead.specs.Dead.{DeadAt, Remembered, Narrow, setLeft, Tells, widthOf, KeyOf};
 use image::Header;
 use listing::place::ENDED;
 use listing::place::Place;
@@ -40,6 +40,29 @@ pub struct Left {
     pub last: usize,
 }
 
+// The ways on of an entry that has several, as the digits of three numbers: whether a path may stop, and the lexicons.
+fn left_by(bits: u64, stop: bool) -> Left
+    requires { ⌜ bits < 35184372088832 ⌝ }
+    ensures { λ r. ⌜ r ≡ setLeft bits stop ⌝ }
+{
+    let high = bits / 32768;
+    let last = (2 * (high / 32768)) as usize;
+    let from = (32768 + high % 32768) as usize;
+    let to = (bits % 32768) as usize;
+    if stop {
+        return Left {
+            from: from,
+            to: to,
+            last: last + 1,
+        };
+    }
+    Left {
+        from: from,
+        to: to,
+        last: last,
+    }
+}
+
 fn left_of(image: &[u8], h: Header, place: Place) -> Left
     requires { ⌜ Accepted (now image) (headerOf h) ⌝ }
     requires { ⌜ Standing (now image) place ⌝ }
@@ -54,18 +77,23 @@ fn left_of(image: &[u8], h: Header, place: Place) -> Left
         };
     }
     if last < ENDED {
-        let way = lexicon::ways::way_of(image, h, last);
-        if way == 254 {
+        let ways = lexicon::ways::ways_of(image, h, last);
+        let way = lexicon::ways::sole_way(ways);
+        if way != 254 {
             return Left {
                 from: 1,
                 to: 0,
-                last: 256 + last,
+                last: way,
             };
+        }
+        let bits = ways.bits;
+        if bits < 35184372088832 {
+            return left_by(bits, ways.stop);
         }
         return Left {
             from: 1,
             to: 0,
-            last: way,
+            last: 256 + last,
         };
     }
     Left {

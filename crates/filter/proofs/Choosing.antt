@@ -24,7 +24,7 @@ use Rattle.rules.specs.Paths.{inSome}
 use Rattle.rules.proofs.PathLaws.{some-here}
 use Rattle.listing.specs.Places.{waysAfter}
 use Rattle.listing.specs.Opening.{Known, SetOf}
-use Rattle.listing.proofs.Ranges.{some-none, some-one, some-taken}
+use Rattle.listing.proofs.Ranges.{some-none, some-taken}
 use Rattle.forms.specs.Forms.{flagsIn}
 use Rattle.filter.specs.Listed.{Rising}
 use Rattle.filter.specs.Sieve.{Chosen}
@@ -143,16 +143,6 @@ module _ (image masks flags reach : List ℕ) (first : ℕ) where
     where
       last : firstEntry image lexicons ≡ header image .entries
       last = subst (λ (g : Header). firstEntry image (g .lexicons) ≡ g .entries) (a .laid .header-is) (first-last image h (a .laid) (of-true (rightEntries image) (a .entries-right)))
-
-  -- of one lexicon
-  pub one-survives : (x low high : ℕ) → x < lexicons → low ≡ firstEntry image x → high ≡ firstEntry image x + entryCount image x → high ≤ header image .entries → (xs : List ℕ)
-      → Surviving image masks flags reach first low high xs → SurvivingSet image masks flags reach first (2 ^ x) xs
-  one-survives x low high few e1 e2 within xs s = record {
-    rising = rising-within low high xs (s .rising) (header image .entries) within;
-    opens = λ k h. let r = rising-in low high xs (s .rising) k h in subst T (sym (some-one image lexicons x few (getD xs k 0)))
-        (lexicon-in image x (getD xs k 0) (omega (arith, r .0)) (omega (arith, r .1)));
-    others = λ e t none l. let r = lexicon-out image x e (subst T (some-one image lexicons x few e) t) in s .others e (omega (arith, r .0)) (omega (arith, r .1)) none l;
-  }
 
 -- the survivors of the lexicons that come next, where any path will do
 pub set-chosen : (image forms masks reach : List ℕ) (last first bits : ℕ) → (length forms ≡ 0 → ⊥) → SetOf image (waysAfter image last) bits → (xs : List ℕ)

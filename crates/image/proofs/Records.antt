@@ -216,13 +216,6 @@ by-kind f none (suc (suc (suc (suc (suc (suc zero)))))) is = refl
 by-kind f none (suc (suc (suc (suc (suc (suc (suc zero))))))) is = refl
 by-kind f none (suc (suc (suc (suc (suc (suc (suc (suc n)))))))) is = absurd (omega arith)
 
-pub place-few : (form kind : ℕ) → IsKind kind → placeOf form kind < 9
-place-few form kind is = go (eqb form 2 && eqb kind 6)
-  where
-    go : (b : Bool) → cond b 8 kind < 9
-    go true = omega arith
-    go false = omega arith
-
 -- a table with a place more, for the entries of form 2
 pub by-form : (two : Bool) (none a b c d e f g other kind : ℕ) → IsKind kind
     → getD (none ∷ a ∷ b ∷ c ∷ d ∷ e ∷ f ∷ g ∷ other ∷ []) (cond (two && eqb kind 6) 8 kind) 0
@@ -243,3 +236,19 @@ by-form false none a b c d e f g other (suc (suc (suc (suc (suc zero))))) is = r
 by-form false none a b c d e f g other (suc (suc (suc (suc (suc (suc zero)))))) is = refl
 by-form false none a b c d e f g other (suc (suc (suc (suc (suc (suc (suc zero))))))) is = refl
 by-form two none a b c d e f g other (suc (suc (suc (suc (suc (suc (suc (suc n)))))))) is = absurd (omega arith)
+
+-- the two tables of the code, by the place of a kind
+pub width-at : (h : Header) (kind : ℕ) → IsKind kind → getD (0 ∷ 14 ∷ 2 ∷ 2 ∷ 506 ∷ 2 ∷ 16 ∷ 16 ∷ 24 ∷ []) (placeOf (h .form) kind) 0 ≡ recordWidth h kind
+unfolding kinds
+width-at h kind is = by-form (eqb (h .form) 2) 0 14 2 2 506 2 16 16 24 kind is ∙ by-kind (recordWidth h) 0 kind is
+
+pub per-block-at : (h : Header) (kind : ℕ) → IsKind kind → getD (0 ∷ 36 ∷ 253 ∷ 253 ∷ 1 ∷ 253 ∷ 31 ∷ 31 ∷ 21 ∷ []) (placeOf (h .form) kind) 0 ≡ perBlock h kind
+unfolding kinds
+per-block-at h kind is =
+    by-form (eqb (h .form) 2) 0 36 253 253 1 253 31 31 21 kind is
+    ∙ ap (λ (n : ℕ). getD (0 ∷ 36 ∷ 253 ∷ 253 ∷ 1 ∷ 253 ∷ n ∷ 31 ∷ []) kind 0) (sym (fitting-by (eqb (h .form) 2)))
+    ∙ by-kind (perBlock h) 0 kind is
+  where
+    fitting-by : (two : Bool) → 506 / cond two 24 16 ≡ cond two 21 31
+    fitting-by true = refl
+    fitting-by false = refl

@@ -2,7 +2,7 @@
 // layer reads it.
 use crate::Header;
 ghost use mathlib.Core.Path.{_≡_};
-ghost use Prim.Native.Nat.{_<_, _≤_};
+ghost use Prim.Native.Nat.{_+_, _*_, _-_, _/_, _<_, _≤_};
 ghost use Rattle.model.specs.Blocks.{filling, inAll, recordWidth, perBlock, firstBlock, recordStart};
 ghost use Rattle.image.specs.Header.{headerOf};
 ghost use Rattle.image.specs.Laid.{Counted, Limited};
@@ -19,6 +19,11 @@ pub const LETTER_WIDTH: usize = WIDTH[2];
 pub const TABLE_WIDTH: usize = WIDTH[4];
 
 pub const LEXICON_WIDTH: usize = WIDTH[5];
+
+// An entry of form 2, and how many a block holds.
+const WIDE_ENTRY: usize = WIDTH[8];
+
+const WIDE_ENTRIES: usize = PER_BLOCK[8];
 
 // The first letter and the first pair: no count moves their blocks.
 pub const LETTERS_START: usize = 512 + 4;
@@ -97,14 +102,28 @@ pub fn first_block(h: Header, kind: usize) -> usize
     blocks[kind]
 }
 
-// Where record i of a kind begins. With the kind a constant, so is all that the table says of it.
+// What is added up where records of one width stand so many to a block, the first of them in block `first`.
+fn added(first: usize, wide: usize, most: usize, i: usize) -> usize
+    requires { ⌜ (1 ≤ most) × (wide * most ≤ 506) ⌝ }
+    requires { ⌜ 512 * first + 4 + wide * i + (512 - wide * most) * (i / most) < 65536 ⌝ }
+    ensures { λ r. ⌜ r ≡ 512 * first + 4 + wide * i + (512 - wide * most) * (i / most) ⌝ }
+{
+    512 * first + 4 + wide * i + (512 - wide * most) * (i / most)
+}
+
+// Where record i of a kind begins. With the kind a constant, so is all that the table says of it, in either form by itself: so no division is by a number that
+// the compiler does not know.
 pub fn record_start(h: Header, kind: usize, i: usize) -> usize
     requires { ⌜ Limited (headerOf h) ⌝ }
     requires { ⌜ IsKind kind ⌝ }
     requires { ⌜ i < inAll (headerOf h) kind ⌝ }
     ensures { λ r. ⌜ (r ≡ recordStart (headerOf h) kind i) × (r < 65536) ⌝ }
 {
+    let first = first_block(h, kind);
+    if place_of(h, kind) == 8 {
+        return added(first, WIDE_ENTRY, WIDE_ENTRIES, i);
+    }
     let most = per_block(h, kind);
     let wide = width(h, kind);
-    512 * first_block(h, kind) + 4 + wide * i + (512 - wide * most) * (i / most)
+    added(first, wide, most, i)
 }

@@ -42,14 +42,12 @@ fn bits_at(image: &[u8], at: usize) -> u64
     a + 256 * (b + 256 * (c + 256 * (d + 256 * (e + 256 * (f + 256 * (g + 256 * h))))))
 }
 
-// Whether a continuation is a lexicon or 255, the end of a path.
+// Whether a continuation is a lexicon or 255, the end of a path: one more, in a byte, is at most their number.
 fn is_continuation(continuation: usize, lexicons: usize) -> bool
+    requires { ⌜ continuation < 256 ⌝ }
     ensures { λ r. ⌜ r ≡ (ltb continuation lexicons || eqb continuation 255) ⌝ }
 {
-    if continuation < lexicons {
-        return true;
-    }
-    continuation == 255
+    (continuation + 1) % 256 <= lexicons
 }
 
 // Whether a set names lexicons that there are, and no other.

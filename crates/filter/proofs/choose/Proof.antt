@@ -8,7 +8,6 @@ use mathlib.Core.List.{List}
 use lib.ListN.{length, take}
 use Rattle.model.specs.Blocks.{Header, header}
 use Rattle.model.specs.Query.{Pattern, anything}
-use Rattle.digits.proofs.Bits.{digit-most}
 use Rattle.listing.specs.declared.asked.PathAsked.{PathAsked}
 use Rattle.listing.specs.Asked.{pathPattern}
 use Rattle.listing.specs.Opening.{Known}
@@ -61,12 +60,10 @@ module _ (c : tie.After-set-on) where
   all-chosen =
       set-chosen (s .args .image .now) (s .args .forms .now) (s .args .masks .now) (s .args .reach .now) (s .args .last) (2 ^ s .args .letters) bits (there .if1 .left) (c .set-on .ensures)
 
-  chosen : (set r : ℕ) (list : List ℕ) → set ≡ bits → (r ≡ 65) ⊎ ((r ≤ length (s .args .list .now)) × Survive set (take r list)) → Told r list
-  chosen set r list e =
+  chosen : (r : ℕ) (list : List ℕ) → (r ≡ 65) ⊎ ((r ≤ length (s .args .list .now)) × Survive bits (take r list)) → Told r list
+  chosen r list =
       ⊎-elim {C = Told r list} inl
-      (λ u.
-      let own = all-chosen (take r list) (subst (λ (n : ℕ). Survive n (take r list)) e (u .1)) in
-      inr (omega (arith, u .0, s .pre .1 .1 .1 .0 .1), subst (λ path. ChosenBy path (take r list)) (sym told) own))
+      (λ u. inr (omega (arith, u .0, s .pre .1 .1 .1 .0 .1), subst (λ path. ChosenBy path (take r list)) (sym told) (all-chosen (take r list) (u .1))))
 
 returns : tie.Need-returns
 returns c = inl refl
@@ -80,53 +77,28 @@ enum-told-2 c = search needs
 set-on-requires : tie.Need-set-on-requires
 set-on-requires c κs = let s = lent-from (c .before .before .before) in (s .pre .0, s .pre .1 .1 .0)
 
+are-few-requires : tie.Need-are-few-requires
+are-few-requires c κs = (s c .pre .0, (s c .pre .1 .0, known c))
+
 returns-2 : tie.Need-returns-2
 returns-2 c = inl refl
 
-lowest-requires : tie.Need-lowest-requires
-lowest-requires c κs = search needs
+choose-each-requires : tie.Need-choose-each-requires
+choose-each-requires c κs =
+    let t = c .before .before .before in
+    (s t .pre .0, (s t .pre .1 .0, (sieved t .forms-of, ((sieved t .filled, sieved t .reached), (known t, (s t .pre .1 .1 .1 .0 .0, omega (arith, s t .pre .1 .1 .1 .0 .1)))))))
 
-without-requires : tie.Need-without-requires
-without-requires c κs = (c .lowest .ensures .0 .there, c .lowest .ensures .1)
-
-choose-one-requires : tie.Need-choose-one-requires
-choose-one-requires c κs =
-    let low = c .before .before .before in
-    let t = low .before .before in
-    let few = known t (low .lowest .result) (low .lowest .ensures .0 .there) in
-    (s t .pre .0, (s t .pre .1 .0, (sieved t .forms-of, ((sieved t .filled, sieved t .reached), (few, (s t .pre .1 .1 .1 .0 .0, omega (arith, s t .pre .1 .1 .1 .0 .1)))))))
+returns-3 : tie.Need-returns-3
+returns-3 c = inl refl
 
 same-length : tie.Need-same-length
 same-length c = search needs
 
-returns-3 : tie.Need-returns-3
-returns-3 c =
-    let called = c .before .before in
-    let less = called .before .before .before in
-    let low = less .before in
-    let t = low .before .before in
-    let x = low .lowest in
-    let one : 2 ^ x .result ≡ bits t = omega (arith, less .without .ensures, called .before .before .if3 .taken, digit-most (bits t) (x .result) (x .ensures .0 .there)) in
-    chosen t (2 ^ x .result) (called .choose-one .result) _ one (called .choose-one .ensures)
-
-choose-each-requires : tie.Need-choose-each-requires
-choose-each-requires c κs =
-    let less = c .before .before in
-    let t = less .before .before .before in
-    (s t .pre .0, (s t .pre .1 .0, (sieved t .forms-of, ((sieved t .filled, sieved t .reached), (known t, (s t .pre .1 .1 .1 .0 .0, omega (arith, s t .pre .1 .1 .1 .0 .1)))))))
-
 returns-4 : tie.Need-returns-4
-returns-4 c = inl refl
-
-same-length-2 : tie.Need-same-length-2
-same-length-2 c = search needs
-
-returns-5 : tie.Need-returns-5
-returns-5 c =
+returns-4 c =
     let called = c .before .before in
-    let less = called .before .before .before in
-    let t = less .before .before .before in
-    chosen t (bits t) (called .choose-each .result) _ refl (called .choose-each .ensures)
+    let few = called .before .before in
+    chosen (few .before .before) (called .choose-each .result) _ (called .choose-each .ensures)
 
 pub choose-spec : {M : Type 1} → statement M
 choose-spec =
@@ -136,13 +108,9 @@ choose-spec =
     enum-told
     enum-told-2
     set-on-requires
+    are-few-requires
     returns-2
-    lowest-requires
-    without-requires
-    choose-one-requires
-    same-length
-    returns-3
     choose-each-requires
-    returns-4
-    same-length-2
-    returns-5)
+    returns-3
+    same-length
+    returns-4)

@@ -1,52 +1,72 @@
--- `record_start` meets its contract: what it adds up is where the record begins, and nothing added up is more than that.
+-- `record_start` meets its contract: what it adds up is where the record begins, by the table's place for the entries of form 2 or for the kind, and nothing added
+-- up is more than that.
 use borrow.Author.Needs.{needs}
 use native.Mathlib.Omega.{arith}
-use mathlib.Core.Path.{_≡_, ap₂}
+use mathlib.Core.List.{[], _∷_}
+use mathlib.Core.Path.{_≡_, sym, ap, ap₂, _∙_}
 use Prim.Native.Nat.{ℕ, _+_, _*_, _-_, _/_, _<_, _≤_}
-use Rattle.model.specs.Blocks.{Header, recordWidth, recordStart}
+use lib.ListN.{getD}
+use Rattle.model.specs.Blocks.{Header, recordWidth, perBlock, firstBlock, recordStart}
 use Rattle.image.specs.Header.{headerOf}
-use Rattle.image.proofs.Records.{total-most, counted, kind-fitted, some-fit, fit-most, start-by, record-block, record-before}
+use Rattle.image.proofs.Records.{total-most, counted, kind-fitted, some-fit, fit-most, start-by, record-block, record-before, width-at, per-block-at}
 use Rattle.image.proofs.kinds.record_start.Statement.{statement}
 use Rattle.image.proofs.kinds.record_start.Tie as tie
 
-module _ (c : tie.After-first-block) where
-  abbrev start : tie.Start
-  start = c .before .before .before
-
+module _ (s : tie.Start) where
   abbrev h : Header
-  h = headerOf (start .args .h)
+  h = headerOf (s .args .h)
 
   abbrev kind : ℕ
-  kind = start .args .kind
+  kind = s .args .kind
 
   abbrev i : ℕ
-  i = start .args .i
-
-  -- what is added up
-  abbrev added : ℕ → ℕ → ℕ → ℕ
-  added first wide most = 512 * first + 4 + wide * i + (512 - wide * most) * (i / most)
-
-  abbrev most : ℕ
-  most = c .before .before .per-block .result
-
-  abbrev wide : ℕ
-  wide = c .before .width .result
-
-  sum-is : added (c .first-block .result) wide most ≡ recordStart h kind i
-  sum-is = start-by h (start .pre .0) kind i (start .pre .1 .1) (c .first-block .ensures) (c .before .width .ensures) (c .before .before .per-block .ensures)
+  i = s .args .i
 
   small : recordStart h kind i < 65536
   unfolding recordStart
-  small = omega (arith, record-block h (start .pre .0) kind i (start .pre .1 .1), total-most h (start .pre .0), record-before h (start .pre .0) kind i (start .pre .1 .1))
+  small = omega (arith, record-block h (s .pre .0) kind i (s .pre .1 .1), total-most h (s .pre .0), record-before h (s .pre .0) kind i (s .pre .1 .1))
 
-  -- the records of a block have room in it
-  room : wide * most ≤ 506
-  room = omega (arith, ap₂ (λ (a b : ℕ). a * b) (c .before .width .ensures) (c .before .before .per-block .ensures), fit-most (recordWidth h kind))
+  -- by what is told of the kind
+  module _ (first wide most : ℕ) (e1 : first ≡ firstBlock h kind) (e2 : wide ≡ recordWidth h kind) (e3 : most ≡ perBlock h kind) where
+    sum-is : 512 * first + 4 + wide * i + (512 - wide * most) * (i / most) ≡ recordStart h kind i
+    sum-is = start-by h (s .pre .0) kind i (s .pre .1 .1) e1 e2 e3
 
-  some : 1 ≤ most
-  some =
-      let f = kind-fitted h (start .pre .0) kind i (start .pre .1 .1) in
-      omega (arith, some-fit (recordWidth h kind) (f .wide) (f .narrow), c .before .before .per-block .ensures)
+    -- the records of a block have room in it
+    room : wide * most ≤ 506
+    room = omega (arith, ap₂ (λ (a b : ℕ). a * b) e2 e3, fit-most (recordWidth h kind))
+
+    some : 1 ≤ most
+    some = let f = kind-fitted h (s .pre .0) kind i (s .pre .1 .1) in omega (arith, some-fit (recordWidth h kind) (f .wide) (f .narrow), e3)
+
+    ready : ((1 ≤ most) × (wide * most ≤ 506)) × (512 * first + 4 + wide * i + (512 - wide * most) * (i / most) < 65536)
+    ready = ((some, room), omega (arith, sum-is, small))
+
+-- the entries of form 2
+module _ (c : tie.Then1) where
+  abbrev start : tie.Start
+  start = c .before .before .before
+
+  wide-is : 24 ≡ recordWidth (h start) (kind start)
+  wide-is = ap (λ (n : ℕ). getD (0 ∷ 14 ∷ 2 ∷ 2 ∷ 506 ∷ 2 ∷ 16 ∷ 16 ∷ 24 ∷ []) n 0) (sym (c .if1 .taken) ∙ c .before .place-of .ensures .0) ∙ width-at (h start) (kind start) (start .pre .1 .0)
+
+  most-is : 21 ≡ perBlock (h start) (kind start)
+  most-is = ap (λ (n : ℕ). getD (0 ∷ 36 ∷ 253 ∷ 253 ∷ 1 ∷ 253 ∷ 31 ∷ 31 ∷ 21 ∷ []) n 0) (sym (c .if1 .taken) ∙ c .before .place-of .ensures .0) ∙ per-block-at (h start) (kind start) (start .pre .1 .0)
+
+first-block-requires : tie.Need-first-block-requires
+first-block-requires c κs = (counted (headerOf (c .args .h)) (c .pre .0), c .pre .1 .0)
+
+place-of-requires : tie.Need-place-of-requires
+place-of-requires c κs = search needs
+
+added-requires : tie.Need-added-requires
+added-requires c κs = let first = c .before .before .first-block in ready (start c) (first .result) 24 21 (first .ensures) (wide-is c) (most-is c)
+
+returns : tie.Need-returns
+returns c =
+    let t = c .before in
+    let first = t .before .before .first-block in
+    let sum = sum-is (start t) (first .result) 24 21 (first .ensures) (wide-is t) (most-is t) in
+    (c .added .ensures ∙ sum, omega (arith, c .added .ensures, sum, small (start t)))
 
 per-block-requires : tie.Need-per-block-requires
 per-block-requires c κs = search needs
@@ -54,53 +74,32 @@ per-block-requires c κs = search needs
 width-requires : tie.Need-width-requires
 width-requires c κs = search needs
 
-first-block-requires : tie.Need-first-block-requires
-first-block-requires c κs = let s = c .before .before in (counted (headerOf (s .args .h)) (s .pre .0), s .pre .1 .0)
+-- any other record
+module _ (c : tie.After-width) where
+  abbrev found : tie.After-first-block
+  found = let other = c .before .before in other .before .before
 
-mul-result : tie.Need-mul-result
-mul-result c = omega (arith, sum-is c, small c)
+added-requires-2 : tie.Need-added-requires-2
+added-requires-2 c κs =
+    let first = found c .first-block in
+    ready (found c .before) (first .result) (c .width .result) (c .before .per-block .result) (first .ensures) (c .width .ensures) (c .before .per-block .ensures)
 
-add-result : tie.Need-add-result
-add-result c = omega (arith, sum-is c, small c)
-
-mul-result-2 : tie.Need-mul-result-2
-mul-result-2 c = omega (arith, sum-is c, small c)
-
-add-result-2 : tie.Need-add-result-2
-add-result-2 c = omega (arith, sum-is c, small c)
-
-mul-result-3 : tie.Need-mul-result-3
-mul-result-3 c = omega (arith, room c)
-
-sub-result : tie.Need-sub-result
-sub-result c = omega (arith, room c)
-
-div-result : tie.Need-div-result
-div-result c = some c
-
-mul-result-4 : tie.Need-mul-result-4
-mul-result-4 c = omega (arith, sum-is c, small c)
-
-add-result-3 : tie.Need-add-result-3
-add-result-3 c = omega (arith, sum-is c, small c)
-
-returns : tie.Need-returns
-returns c = (sum-is c, omega (arith, sum-is c, small c))
+returns-2 : tie.Need-returns-2
+returns-2 c =
+    let t = c .before in
+    let first = found t .first-block in
+    let sum = sum-is (found t .before) (first .result) (t .width .result) (t .before .per-block .result) (first .ensures) (t .width .ensures) (t .before .per-block .ensures) in
+    (c .added2 .ensures ∙ sum, omega (arith, c .added2 .ensures, sum, small (found t .before)))
 
 pub record-start-spec : {M : Type 1} → statement M
 record-start-spec =
     tie.close
     (tie.spec
+    first-block-requires
+    place-of-requires
+    added-requires
+    returns
     per-block-requires
     width-requires
-    first-block-requires
-    mul-result
-    add-result
-    mul-result-2
-    add-result-2
-    mul-result-3
-    sub-result
-    div-result
-    mul-result-4
-    add-result-3
-    returns)
+    added-requires-2
+    returns-2)

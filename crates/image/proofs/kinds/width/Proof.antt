@@ -4,10 +4,8 @@ use mathlib.Core.List.{[], _∷_}
 use mathlib.Core.Path.{ap, _∙_}
 use Prim.Native.Nat.{ℕ}
 use lib.ListN.{getD}
-use lib.Dec.{eqb}
-use Rattle.model.specs.Blocks.{kinds, recordWidth}
 use Rattle.image.specs.Header.{headerOf}
-use Rattle.image.proofs.Records.{by-kind, by-form}
+use Rattle.image.proofs.Records.{width-at}
 use Rattle.image.proofs.kinds.width.Statement.{statement}
 use Rattle.image.proofs.kinds.width.Tie as tie
 
@@ -21,12 +19,9 @@ array-read-result : tie.Need-array-read-result
 array-read-result c = search needs
 
 returns : tie.Need-returns
-unfolding kinds
 returns c =
     let s = c .before in
-    ap (λ (n : ℕ). getD (0 ∷ 14 ∷ 2 ∷ 2 ∷ 506 ∷ 2 ∷ 16 ∷ 16 ∷ 24 ∷ []) n 0) (c .place-of .ensures .0)
-    ∙ by-form (eqb (s .args .h .form) 2) 0 14 2 2 506 2 16 16 24 (s .args .kind) (s .pre)
-    ∙ by-kind (recordWidth (headerOf (s .args .h))) 0 (s .args .kind) (s .pre)
+    ap (λ (n : ℕ). getD (0 ∷ 14 ∷ 2 ∷ 2 ∷ 506 ∷ 2 ∷ 16 ∷ 16 ∷ 24 ∷ []) n 0) (c .place-of .ensures .0) ∙ width-at (headerOf (s .args .h)) (s .args .kind) (s .pre)
 
 pub width-spec : {M : Type 1} → statement M
 width-spec = tie.close (tie.spec place-of-requires mul-result array-read-result returns)
