@@ -1,4 +1,4 @@
--- The converted image: it is accepted and of the other form, its rows are those of the image, and from form 1 to form 2 and back gives the same bytes.
+-- The converted image: it says the same in the other form, its readings are those of the image, and it is accepted.
 use Prim.Native.Nat.{ℕ, _+_, _-_, _<_, _≤_}
 use native.Mathlib.Omega.{arith}
 use native.Mathlib.Decide.{decLt, ℕ-discrete}

@@ -1,4 +1,4 @@
--- The trials of document 02, (e), as rows of one theorem. Its proof is `starred` in proofs/Trials.antt.
+-- Trials of document 02, (e), as rows of one theorem. Its proof is `starred` in proofs/Trials.antt.
 use Prim.Native.Nat.{ℕ}
 use mathlib.Core.Path.{_≡_}
 use mathlib.Core.List.{List, [], _∷_, _++_, map}

@@ -1,4 +1,4 @@
-// What a slot says, and where to go on from it: no other crate knows where its bytes stand.
+// What a slot says, and where to go on from it: no other crate's code knows where its bytes stand.
 ghost use mathlib.Core.Path.{_≡_};
 ghost use Prim.Native.Nat.{_+_, _*_, _<_, _≤_};
 ghost use lib.ListN.{length, getD};

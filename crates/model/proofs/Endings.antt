@@ -1,11 +1,11 @@
 -- Where no entry both ends a path and goes on, the order of the step lists with endings is that of document 01's step lists. So it is for every image of form 1.
 use Prim.Native.Nat.{ℕ, zero, suc, _+_, _<_}
-use mathlib.Core.Bool.{Bool, true, false, _&&_, not}
+use mathlib.Core.Bool.{Bool, true, false, _&&_, not, cond}
 use mathlib.Core.Path.{_≡_, refl, sym, ap, _∙_, subst}
-use mathlib.Core.Logic.{inl, inr}
+use mathlib.Core.Logic.{_⊎_, inl, inr, ⊎-elim}
 use mathlib.Core.List.{List, [], _∷_, _++_, map, List·Memᴰ, List·Memᴰ·head, List·Memᴰ·tail, Memᴰ·map}
 use lib.ListN.{length, length-append}
-use lib.Dec.{T, ltb, eqb}
+use lib.Dec.{T, ltb, eqb, eqb→eq}
 use borrow.Author.Tests.{eqb-true}
 use native.Mathlib.Omega.{arith}
 use Rattle.model.specs.Lists.{below, every, any, joined, byte}
@@ -14,12 +14,12 @@ use Rattle.model.specs.Grammar.{Grammar, OneWay}
 use Rattle.model.specs.GrammarOf.{grammarOf}
 use Rattle.model.specs.Readings.{Reading, stepsBy, withoutNulls, spelled, afterLetter, upTo, beyond, endingList, stepList, endingSteps}
 use Rattle.model.specs.Readings.{steps, Before, Ascending, isReading, isPath, isLinked}
-use Rattle.model.specs.Lexicon.{inLexicon, entry, mayStop, goesTo, linked, pathLength}
+use Rattle.model.specs.Lexicon.{inLexicon, entry, continuation, mayStop, goesTo, linked, pathLength}
 use Rattle.model.specs.Query.{Query}
 use Rattle.model.specs.Tree.{readings}
 use Rattle.model.specs.Calls.{stepsOf}
 use Rattle.model.proofs.Listing.{ListsBy, IsListing, listing}
-use Rattle.model.proofs.Booleans.{and-in, and-out, not-both, out3}
+use Rattle.model.proofs.Booleans.{and-in, and-out, not-both, out3, of-true, true-of, false-of, eq→eqb}
 use Rattle.model.proofs.Readings.{parts-of}
 use Rattle.model.proofs.Lists.{map-from, any-from, any-has, below-has}
 
@@ -139,6 +139,41 @@ image-one-way image one e f s t =
 
 pub image-ends-last : (image es : List ℕ) (e f : ℕ) (fs : List ℕ) → header image .form ≡ 1 → T (isLinked (grammarOf image) (es ++ (e ∷ f ∷ fs))) → T (grammarOf image .ends e) → ⊥
 image-ends-last image es e f fs one = ends-last (grammarOf image) (image-one-way image one) (grammarOf image .begins) false es e f fs
+
+-- "each next from its predecessor's continuation, the last and only the last with 255": what may follow and end in an image of form 1, in document 01's words
+pub image-one-ends : (image : List ℕ) (e : ℕ) → header image .form ≡ 1 → grammarOf image .ends e ≡ eqb (continuation (entry image e)) 255
+unfolding grammarOf mayStop
+image-one-ends image e one = ap (λ (n : ℕ). eqb (byte (entry image e) 13) (cond (eqb n 2) 1 255)) one
+
+pub image-one-follows : (image : List ℕ) (e f : ℕ) → header image .form ≡ 1 → (continuation (entry image e) < header image .lexicons) ⊎ (continuation (entry image e) ≡ 255)
+    → grammarOf image .follows e f ≡ (not (eqb (continuation (entry image e)) 255) && inLexicon image (continuation (entry image e)) f)
+unfolding grammarOf goesTo mayStop
+image-one-follows image e f one right = go (not (eqb c 255) && inLexicon image c f) refl
+  where
+    c : ℕ
+    c = continuation (entry image e)
+
+    named : ℕ → Bool
+    named x = (eqb c x && not (eqb c 255)) && inLexicon image x f
+
+    all-named : any (λ x. goesTo (entry image e) (header image .form) x && inLexicon image x f) (below (header image .lexicons)) ≡ any named (below (header image .lexicons))
+    all-named = ap (λ (n : ℕ). any (λ x. goesTo (entry image e) n x && inLexicon image x f) (below (header image .lexicons))) one
+
+    go : (b : Bool) → (not (eqb c 255) && inLexicon image c f) ≡ b → any (λ x. goesTo (entry image e) (header image .form) x && inLexicon image x f) (below (header image .lexicons)) ≡ b
+    go true t =
+        let u = and-out (not (eqb c 255)) (inLexicon image c f) (of-true _ t) in
+        let few : c < header image .lexicons = ⊎-elim (λ l. l) (λ z. absurd (not-both (eqb c 255) (eq→eqb c 255 z) (u .0))) right in
+        let own : T (eqb c c && not (eqb c 255)) = and-in (eqb c c) (not (eqb c 255)) (eq→eqb c c refl) (u .0) in
+        all-named ∙ true-of _ (any-has named (below (header image .lexicons)) (below-has (header image .lexicons) c few) (and-in (eqb c c && not (eqb c 255)) (inLexicon image c f) own (u .1)))
+    go false t =
+        all-named
+        ∙ false-of _
+        (λ w.
+        let u = any-from named (below (header image .lexicons)) w in
+        let v = and-out (eqb c (u .0) && not (eqb c 255)) (inLexicon image (u .0) f) (u .2) in
+        let p = and-out (eqb c (u .0)) (not (eqb c 255)) (v .0) in
+        let there : T (inLexicon image c f) = subst (λ (x : ℕ). T (inLexicon image x f)) (sym (eqb→eq c (u .0) (p .0))) (v .1) in
+        subst T t (and-in (not (eqb c 255)) (inLexicon image c f) (p .1) there))
 
 -- "the list of all readings follows the image's form"
 pub image-listing : (image : List ℕ) (q : Query) → ListsBy (stepsOf image) (grammarOf image) q (readings (grammarOf image) q)

@@ -42,7 +42,7 @@ module _ (entry : List ℕ) where
   unfoldable pub mayStop : ℕ → Bool
   mayStop form = eqb (byte entry 13) (cond (eqb form 2) 1 255)
 
-  -- lexicon x goes on after it; bits name lexicons 0 to 63
+  -- a path may go on with lexicon x; bits name lexicons 0 to 63
   unfoldable pub goesTo : ℕ → ℕ → Bool
   goesTo form x = cond (eqb form 2) (inSet (drop 16 entry) x) (eqb (byte entry 13) x && not (mayStop form))
 

@@ -1,5 +1,5 @@
--- Images without sets keep their meaning and their verdict: what was accepted before there were sets has none and stands for the same grammar, and an image
--- that has some was refused, with 3 where 1 and 2 let it pass.
+-- Images without sets have the verdict and the grammar of a layout that knows no sets, in either form: what that accepts has none and stands for the same
+-- grammar, and an image that has some is refused by it, with 3 where 1 and 2 let it pass.
 use Prim.Native.Nat.{ℕ, zero, suc, _+_, _*_, _/_, _%_, _<_, _≤_}
 use native.Mathlib.Omega.{arith}
 use mathlib.Core.Bool.{Bool, true, false, _&&_}

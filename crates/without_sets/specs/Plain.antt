@@ -1,4 +1,4 @@
--- Document 01 without what document 02, (c), adds: a header of five counts, no block of sets, and column sides that are letters or any. All else is read
+-- Document 01, and the entries of document 02, (e), without what (c) adds: a header of five counts, no block of sets, and column sides that are letters or any. All else is read
 -- from records, which stand where they stood (`plain-record`); an image with sets gets no further than 3 (`sets-were-3`).
 use Prim.Native.Nat.{ℕ, _+_, _*_, _-_, _/_, _%_, min}
 use mathlib.Core.Bool.{Bool, _&&_, _||_, not}

@@ -1,4 +1,4 @@
--- `lowest` meets its contract: what the machine counts.
+-- `lowest` meets its contract: trailing zeros are the digits below the lowest one, and a number above 0 has one.
 use native.Mathlib.Omega.{arith}
 use native.Mathlib.Decide.{decLt}
 use mathlib.Core.Bool.{false}

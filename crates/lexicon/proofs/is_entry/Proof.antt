@@ -1,4 +1,4 @@
--- `is_entry` meets its contract: the length, the bytes within its bounds, the marks and the continuation.
+-- `is_entry` meets its contract: the length, the bytes within its bounds, the marks and the ways on.
 use borrow.Author.Needs.{needs}
 use borrow.Author.Tests.{not-true, not-false}
 use native.Mathlib.Omega.{arith}

@@ -1,4 +1,4 @@
--- `are_right` meets its contract, by the image's form.
+-- `are_right` meets its contract: what test 8 asks is asked of the mark and the set in form 2, and of the continuation in form 1.
 use borrow.Author.Needs.{needs}
 use native.Mathlib.Omega.{arith}
 use mathlib.Core.Bool.{_||_}

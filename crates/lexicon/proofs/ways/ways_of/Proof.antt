@@ -1,4 +1,4 @@
--- `ways_of` meets its contract, by the image's form.
+-- `ways_of` meets its contract: in form 2 the mark and the eight bytes say it, in form 1 the one byte, which is the end or one lexicon.
 use borrow.Author.Needs.{needs}
 use native.Mathlib.Omega.{arith}
 use mathlib.Core.Path.{_≡_, sym, ap, _∙_}
