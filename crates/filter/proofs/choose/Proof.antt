@@ -77,28 +77,21 @@ enum-told-2 c = search needs
 set-on-requires : tie.Need-set-on-requires
 set-on-requires c κs = let s = lent-from (c .before .before .before) in (s .pre .0, s .pre .1 .1 .0)
 
-are-few-requires : tie.Need-are-few-requires
-are-few-requires c κs = (s c .pre .0, (s c .pre .1 .0, known c))
+choose-each-requires : tie.Need-choose-each-requires
+choose-each-requires c κs =
+    let t = c .before in
+    (s t .pre .0, (s t .pre .1 .0, (sieved t .forms-of, ((sieved t .filled, sieved t .reached), (known t, (s t .pre .1 .1 .1 .0 .0, omega (arith, s t .pre .1 .1 .1 .0 .1)))))))
 
 returns-2 : tie.Need-returns-2
 returns-2 c = inl refl
 
-choose-each-requires : tie.Need-choose-each-requires
-choose-each-requires c κs =
-    let t = c .before .before .before in
-    (s t .pre .0, (s t .pre .1 .0, (sieved t .forms-of, ((sieved t .filled, sieved t .reached), (known t, (s t .pre .1 .1 .1 .0 .0, omega (arith, s t .pre .1 .1 .1 .0 .1)))))))
-
-returns-3 : tie.Need-returns-3
-returns-3 c = inl refl
-
 same-length : tie.Need-same-length
 same-length c = search needs
 
-returns-4 : tie.Need-returns-4
-returns-4 c =
+returns-3 : tie.Need-returns-3
+returns-3 c =
     let called = c .before .before in
-    let few = called .before .before in
-    chosen (few .before .before) (called .choose-each .result) _ (called .choose-each .ensures)
+    chosen (called .before .before) (called .choose-each .result) _ (called .choose-each .ensures)
 
 pub choose-spec : {M : Type 1} → statement M
 choose-spec =
@@ -108,9 +101,7 @@ choose-spec =
     enum-told
     enum-told-2
     set-on-requires
-    are-few-requires
-    returns-2
     choose-each-requires
-    returns-3
+    returns-2
     same-length
-    returns-4)
+    returns-3)
