@@ -1,16 +1,13 @@
 -- `left_of` meets its contract: letters are left, or none is, and then an entry is open, which its sole way on tells, or the set of its ways, or its number; or none is open.
 use borrow.Author.Needs.{needs}
 use native.Mathlib.Omega.{arith}
-use mathlib.Core.Bool.{Bool}
 use mathlib.Core.Logic.{⊎-elim}
 use mathlib.Core.Path.{_≡_, sym, ap, subst}
-use Prim.Native.Nat.{ℕ, _<_, _≤_}
+use Prim.Native.Nat.{_<_, _≤_}
 use Rattle.model.specs.Blocks.{Header, header}
 use Rattle.model.specs.Lexicon.{entry, mayStop, goesTo}
 use Rattle.digits.specs.Ways.{Names}
-use Rattle.lexicon.specs.Sole.{WayOf}
 use Rattle.lexicon.proofs.WayLaws.{way-sole}
-use Rattle.dead.specs.declared.Left.{Left}
 use Rattle.dead.specs.Dead.{Tells}
 use Rattle.dead.proofs.Keys.{letters-tell, entry-tells, way-tells, set-tells, unopened-tells}
 use Rattle.dead.proofs.left_of.Statement.{statement}

@@ -1,6 +1,7 @@
 -- `record_start` meets its contract: what it adds up is where the record begins, by the table's place for the entries of form 2 or for the kind, and nothing added
 -- up is more than that.
 use borrow.Author.Needs.{needs}
+use native.Mathlib.Nat.{le-refl, mul-le-mul}
 use native.Mathlib.Omega.{arith}
 use mathlib.Core.List.{[], _∷_}
 use mathlib.Core.Path.{_≡_, sym, ap, ap₂, _∙_}
@@ -8,6 +9,7 @@ use Prim.Native.Nat.{ℕ, _+_, _*_, _-_, _/_, _<_, _≤_}
 use lib.ListN.{getD}
 use Rattle.model.specs.Blocks.{Header, recordWidth, perBlock, firstBlock, recordStart}
 use Rattle.image.specs.Header.{headerOf}
+use Rattle.image.specs.Kinds.{placeOf}
 use Rattle.image.proofs.Records.{total-most, counted, kind-fitted, some-fit, fit-most, start-by, record-block, record-before, width-at, per-block-at}
 use Rattle.image.proofs.kinds.record_start.Statement.{statement}
 use Rattle.image.proofs.kinds.record_start.Tie as tie
@@ -38,19 +40,29 @@ module _ (s : tie.Start) where
     some : 1 ≤ most
     some = let f = kind-fitted h (s .pre .0) kind i (s .pre .1 .1) in omega (arith, some-fit (recordWidth h kind) (f .wide) (f .narrow), e3)
 
-    ready : ((1 ≤ most) × (wide * most ≤ 506)) × (512 * first + 4 + wide * i + (512 - wide * most) * (i / most) < 65536)
-    ready = ((some, room), omega (arith, sum-is, small))
+    -- each takes a byte at least
+    few : i ≤ wide * i
+    few = let f = kind-fitted h (s .pre .0) kind i (s .pre .1 .1) in omega (arith, mul-le-mul {n₁ = 1} {m₁ = i} {n₂ = wide} {m₂ = i} (omega (arith, f .wide, e2)) (le-refl i))
+
+    most-few : most ≤ wide * most
+    most-few = let f = kind-fitted h (s .pre .0) kind i (s .pre .1 .1) in omega (arith, mul-le-mul {n₁ = 1} {m₁ = most} {n₂ = wide} {m₂ = most} (omega (arith, f .wide, e2)) (le-refl most))
+
+    ready : (((1 ≤ most) × (most ≤ 506)) × (wide * most ≤ 506)) × ((i < 65536) × (512 * first + 4 + wide * i + (512 - wide * most) * (i / most) < 65536))
+    ready = (((some, omega (arith, most-few, room)), room), (omega (arith, few, sum-is, small), omega (arith, sum-is, small)))
 
 -- the entries of form 2
 module _ (c : tie.Then1) where
   abbrev start : tie.Start
   start = c .before .before .before
 
+  placed : 8 ≡ placeOf (h start .form) (kind start)
+  placed = sym (c .if1 .taken) ∙ c .before .place-of .ensures .0
+
   wide-is : 24 ≡ recordWidth (h start) (kind start)
-  wide-is = ap (λ (n : ℕ). getD (0 ∷ 14 ∷ 2 ∷ 2 ∷ 506 ∷ 2 ∷ 16 ∷ 16 ∷ 24 ∷ []) n 0) (sym (c .if1 .taken) ∙ c .before .place-of .ensures .0) ∙ width-at (h start) (kind start) (start .pre .1 .0)
+  wide-is = ap (λ (n : ℕ). getD (0 ∷ 14 ∷ 2 ∷ 2 ∷ 506 ∷ 2 ∷ 16 ∷ 16 ∷ 24 ∷ []) n 0) placed ∙ width-at (h start) (kind start) (start .pre .1 .0)
 
   most-is : 21 ≡ perBlock (h start) (kind start)
-  most-is = ap (λ (n : ℕ). getD (0 ∷ 36 ∷ 253 ∷ 253 ∷ 1 ∷ 253 ∷ 31 ∷ 31 ∷ 21 ∷ []) n 0) (sym (c .if1 .taken) ∙ c .before .place-of .ensures .0) ∙ per-block-at (h start) (kind start) (start .pre .1 .0)
+  most-is = ap (λ (n : ℕ). getD (0 ∷ 36 ∷ 253 ∷ 253 ∷ 1 ∷ 253 ∷ 31 ∷ 31 ∷ 21 ∷ []) n 0) placed ∙ per-block-at (h start) (kind start) (start .pre .1 .0)
 
 first-block-requires : tie.Need-first-block-requires
 first-block-requires c κs = (counted (headerOf (c .args .h)) (c .pre .0), c .pre .1 .0)
