@@ -102,14 +102,13 @@ pub fn first_block(h: Header, kind: usize) -> usize
     blocks[kind]
 }
 
-// What is added up where records of one width stand so many to a block, the first of them in block `first`. A division of 32 bits takes five instructions less.
+// What is added up where records of one width stand so many to a block, the first of them in block `first`.
 fn added(first: usize, wide: usize, most: usize, i: usize) -> usize
-    requires { ⌜ ((1 ≤ most) × (most ≤ 506)) × (wide * most ≤ 506) ⌝ }
-    requires { ⌜ (i < 65536) × (512 * first + 4 + wide * i + (512 - wide * most) * (i / most) < 65536) ⌝ }
+    requires { ⌜ (1 ≤ most) × (wide * most ≤ 506) ⌝ }
+    requires { ⌜ 512 * first + 4 + wide * i + (512 - wide * most) * (i / most) < 65536 ⌝ }
     ensures { λ r. ⌜ r ≡ 512 * first + 4 + wide * i + (512 - wide * most) * (i / most) ⌝ }
 {
-    let before = (i as u32 / most as u32) as usize;
-    512 * first + 4 + wide * i + (512 - wide * most) * before
+    512 * first + 4 + wide * i + (512 - wide * most) * (i / most)
 }
 
 // Where record i of a kind begins. With the kind a constant, so is all that the table says of it, in either form by itself: so no division is by a number that

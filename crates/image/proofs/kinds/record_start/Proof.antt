@@ -1,7 +1,6 @@
 -- `record_start` meets its contract: what it adds up is where the record begins, by the table's place for the entries of form 2 or for the kind, and nothing added
 -- up is more than that.
 use borrow.Author.Needs.{needs}
-use native.Mathlib.Nat.{le-refl, mul-le-mul}
 use native.Mathlib.Omega.{arith}
 use mathlib.Core.List.{[], _∷_}
 use mathlib.Core.Path.{_≡_, sym, ap, ap₂, _∙_}
@@ -40,15 +39,8 @@ module _ (s : tie.Start) where
     some : 1 ≤ most
     some = let f = kind-fitted h (s .pre .0) kind i (s .pre .1 .1) in omega (arith, some-fit (recordWidth h kind) (f .wide) (f .narrow), e3)
 
-    -- each takes a byte at least
-    few : i ≤ wide * i
-    few = let f = kind-fitted h (s .pre .0) kind i (s .pre .1 .1) in omega (arith, mul-le-mul {n₁ = 1} {m₁ = i} {n₂ = wide} {m₂ = i} (omega (arith, f .wide, e2)) (le-refl i))
-
-    most-few : most ≤ wide * most
-    most-few = let f = kind-fitted h (s .pre .0) kind i (s .pre .1 .1) in omega (arith, mul-le-mul {n₁ = 1} {m₁ = most} {n₂ = wide} {m₂ = most} (omega (arith, f .wide, e2)) (le-refl most))
-
-    ready : (((1 ≤ most) × (most ≤ 506)) × (wide * most ≤ 506)) × ((i < 65536) × (512 * first + 4 + wide * i + (512 - wide * most) * (i / most) < 65536))
-    ready = (((some, omega (arith, most-few, room)), room), (omega (arith, few, sum-is, small), omega (arith, sum-is, small)))
+    ready : ((1 ≤ most) × (wide * most ≤ 506)) × (512 * first + 4 + wide * i + (512 - wide * most) * (i / most) < 65536)
+    ready = ((some, room), omega (arith, sum-is, small))
 
 -- the entries of form 2
 module _ (c : tie.Then1) where
