@@ -1,4 +1,7 @@
 // Lower case: a code point folded through a constant table.
+
+#![tactic(auto)]
+
 ghost use Rattle.std.specs.Prelude.{◌≡◌};
 ghost use Rattle.folding.specs.Folding.{fold};
 

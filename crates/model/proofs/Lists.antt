@@ -87,11 +87,13 @@ module _ {A : Type 0} where
   every_same f h (x ∷ xs) e = ap₂ (λ (a b : Bool). a && b) (e x (Memᴰ.head refl)) (every_same f h xs (λ y m. e y (Memᴰ.tail m)))
 
   pub every_at : (f : A → Bool) (xs : List A) {x : A} → Memᴰ x xs → T (every f xs) → T (f x)
+  every_at f [] x4 t = elim x4 [ ]
   every_at f (y ∷ xs) (Memᴰ.head e) t = rw e (and_out (f y) (every f xs) t).0
   every_at f (y ∷ xs) (Memᴰ.tail m) t = every_at f xs m (and_out (f y) (every f xs) t).1
 
   -- one member that fails
   pub every_not : (f : A → Bool) (xs : List A) {x : A} → Memᴰ x xs → f x ≡ false → every f xs ≡ false
+  every_not f [] x4 h = elim x4 [ ]
   every_not f (y ∷ xs) (Memᴰ.head e) h = left_false (f y) (every f xs) (ap f (sym e) ∙ h)
   every_not f (y ∷ xs) (Memᴰ.tail m) h = right_false (f y) (every f xs) (every_not f xs m h)
 
@@ -129,6 +131,7 @@ module _ {A : Type 0} where
       go false e = e
 
   pub any_has : (f : A → Bool) (xs : List A) {x : A} → Memᴰ x xs → T (f x) → T (any f xs)
+  any_has f [] x4 t = elim x4 [ ]
   any_has f (y ∷ xs) (Memᴰ.head e) t = left_or (f y) (any f xs) (subst (λ z. T (f z)) e t)
   any_has f (y ∷ xs) (Memᴰ.tail m) t = right_or (f y) (any f xs) (any_has f xs m t)
 
@@ -147,6 +150,7 @@ module _ {A B : Type 0} where
   map_same f h (x ∷ xs) e = ap₂ {C = List B} (λ y l. y ∷ l) (e x (Memᴰ.head refl)) (map_same f h xs (λ y m. e y (Memᴰ.tail m)))
 
   pub flat_map_has : (f : A → List B) (xs : List A) {x : A} {b : B} → Memᴰ x xs → Memᴰ b (f x) → Memᴰ b (flat_map f xs)
+  flat_map_has f [] {b = b} x4 k = elim x4 [ ]
   flat_map_has f (y ∷ xs) {b} (Memᴰ.head e) k = Memᴰ.append_left (flat_map f xs) (subst (λ z. Memᴰ b (f z)) e k)
   flat_map_has f (y ∷ xs) {b} (Memᴰ.tail h) k = Memᴰ.append_right (f y) (flat_map_has f xs h k)
 

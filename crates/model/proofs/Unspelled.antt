@@ -123,6 +123,7 @@ without_from (suc x ∷ xs) (Memᴰ.head e) = Memᴰ.head e
 without_from (suc x ∷ xs) (Memᴰ.tail m) = Memᴰ.tail (without_from xs m)
 
 joined_has : (ls : List (List ℕ)) {l : List ℕ} {a : ℕ} → Memᴰ l ls → Memᴰ a l → Memᴰ a (joined ls)
+joined_has [] {l = l} {a = a} x' k = elim x' [ ]
 joined_has (m ∷ ls) {l} {a} (Memᴰ.head e) k = Memᴰ.append_left (joined ls) (subst (Memᴰ a) e k)
 joined_has (m ∷ ls) {l} {a} (Memᴰ.tail h) k = Memᴰ.append_right m (joined_has ls h k)
 

@@ -1,1 +1,3 @@
 // Definitions and theorems alone: what the other crates' contracts cite.
+
+#![tactic(auto)]

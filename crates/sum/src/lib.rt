@@ -1,6 +1,9 @@
 // The weighted sum of a block. Bytes 0 to 503 are taken as 63 rows of 8, nine rows to a strip: byte c of row q of strip p counts c + 1 times, 8 q times
 // more, and 72 p times more. Running sums, from the last row up, give a column's sums with no product, and fit in 16 bits: the machine adds eight
 // columns at once.
+
+#![tactic(auto)]
+
 ghost use Rattle.std.specs.Prelude.{◌≡◌, ◌+◌, ◌<◌, ◌≤◌, length, take, get_or};
 ghost use Rattle.model.specs.Blocks.{weighted_sum};
 ghost use Rattle.sum.specs.Sums.{strip_sum, strip_by_row, column_sum, column_by_row, column_by_strip, of_columns, Filled};
