@@ -1,12 +1,12 @@
 -- What sealing stores: a number at the front of a block, a check at its end, and one block after another.
-use Prim.Native.Nat.{ℕ, zero, suc, ◌+◌, ◌*◌, ◌-◌, ◌/◌, ◌%◌, ◌<◌, ◌≤◌}
+use Prim.Native.Nat.{ℕ, ◌+◌, ◌*◌, ◌-◌, ◌/◌, ◌%◌, ◌<◌, ◌≤◌}
 use native.Mathlib.Numerals.{add-one}
 use mathlib.Core.Path.{◌≡◌, refl, sym, ap, ap₂, ◌∙◌}
 use mathlib.Core.List.{List, [], ◌∷◌, ◌++◌, append_assoc, append-nil}
 use lib.ListN.{length, take, drop, set, length-take, length-drop, length-append, take-append-drop, drop_of_length-le}
 use lib.Seq.{set_at, drop-drop, take_at, drop_at}
 use native.Mathlib.Omega.{arith}
-use Rattle.model.specs.Lists.{below, part, flat_map, number_bytes}
+use Rattle.model.specs.Lists.{below, part, flat_map}
 use Rattle.model.specs.Blocks.{block, check_of, numbered, sealed_block, sealed_image, block_count}
 use borrow.Rule.Slice.PartMut.{put_mid}
 use Rattle.model.proofs.Lists.{flat_map_below, length_below, below_from}

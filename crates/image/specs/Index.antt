@@ -1,6 +1,6 @@
 -- The index of an accepted image, 39,424 bytes in rows of 256: for each rule the column that it takes for each pair and the boundary,
 -- for each lexical letter the pairs that may pair it or stand before it, and where each lexicon begins. Bytes of a row that nothing fills are 0: room for more.
-use Rattle.std.specs.Prelude.{ℕ, ◌+◌, ◌*◌, Bool, true, false, ◌||◌, cond, List, [], ◌∷◌, ◌++◌, length, get_or, take, replicate, leb, ltb, eqb}
+use Rattle.std.specs.Prelude.{ℕ, ◌+◌, Bool, ◌||◌, List, [], ◌∷◌, ◌++◌, length, get_or, take, replicate, leb, ltb, eqb}
 use Rattle.model.specs.Lists.{below, given, flat_map, is_zero, number_bytes}
 use Rattle.model.specs.Blocks.{header}
 use Rattle.model.specs.RuleTables.{pairs, boundary_pair, columns_of}

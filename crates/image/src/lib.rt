@@ -1,4 +1,7 @@
 // An image's bytes and two-byte numbers, the check of a block, the header, and sealing.
+
+#![tactic(auto)]
+
 ghost use Rattle.std.specs.Prelude.{◌≡◌, ◌&&◌, ◌+◌, ◌/◌, ◌%◌, ◌<◌, ◌≤◌, length, take, drop, eqb};
 ghost use Rattle.model.specs.Lists.{every, within, is_zero, byte, number};
 ghost use Rattle.model.specs.Blocks.{check_of, header};
@@ -61,7 +64,7 @@ pub fn check_of(block: &[u8]) -> usize
 }
 
 // The counts in an image's first block.
-#[derive(Drop)]
+#[derive(Clone, Copy)]
 pub struct Header {
     pub form: usize,
     pub letters: usize,

@@ -5,7 +5,7 @@ ghost use Rattle.model.specs.Blocks.{sealed_block};
 ghost use Rattle.model.specs.Calls.{sealing_reply, after_sealing};
 ghost use Rattle.image.specs.Sealing.{sealing_of};
 
-#[derive(Drop)]
+#[derive(Clone, Copy)]
 pub enum Sealing {
     Sealed,
     Refused(u8),

@@ -1,4 +1,7 @@
 // Tests 2 and 3 of the image check: block numbers and checks, and which block holds what.
+
+#![tactic(auto)]
+
 ghost use Rattle.std.specs.Prelude.{◌≡◌, true, ◌&&◌, ◌+◌, ◌*◌, ◌<◌, ◌≤◌, length, eqb};
 ghost use Rattle.model.specs.Lists.{below, every, within};
 ghost use Rattle.model.specs.Blocks.{block, block_count, block_number, block_check, check_of, per_block, records_at, laid_out, within_limits, block_total};

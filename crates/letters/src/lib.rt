@@ -1,4 +1,7 @@
 // Letters and pairs of an image: tests 4 and 5 of the image check, and the two sides of a pair, each level by a type of its own.
+
+#![tactic(auto)]
+
 ghost use Rattle.std.specs.Prelude.{◌≡◌, ◌||◌, not, ◌+◌, ◌<◌, ◌≤◌, length, get_or, take, drop, eqb};
 ghost use Rattle.model.specs.Lists.{byte, every, any, distinct, within, is_zero};
 ghost use Rattle.model.specs.Blocks.{header, record_width, record_start};
@@ -13,15 +16,15 @@ use image::{Header, kinds};
 pub mod marks;
 
 // A letter of the lexical level.
-#[derive(Drop)]
+#[derive(Clone, Copy)]
 pub struct Lexical(pub u8);
 
 // A letter of the surface level: with the same number as a lexical letter, it is still another.
-#[derive(Drop)]
+#[derive(Clone, Copy)]
 pub struct Surface(pub u8);
 
 // A pair: on each level a letter or the null.
-#[derive(Drop)]
+#[derive(Clone, Copy)]
 pub struct Pair {
     pub lexical: Lexical,
     pub surface: Surface,
