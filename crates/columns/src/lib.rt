@@ -1,5 +1,8 @@
 // The columns that the pairs take: a pass over all pairs for each column, which finds how many it matches, and one more, which keeps it for the pairs that it
 // is the narrowest for.
+
+#![tactic(auto)]
+
 ghost use Rattle.std.specs.Prelude.{◌≡◌, cond, not, ◌++◌, ◌+◌, ◌<◌, ◌≤◌, eqb, length, drop};
 ghost use Rattle.model.specs.Lists.{every, count};
 ghost use Rattle.model.specs.RuleTables.{letter_sets, pairs_and_boundary, matches};
@@ -15,7 +18,7 @@ use sets::sides;
 use sets::sides::Sides;
 
 // The sides of the pairs by number, each level by itself; the boundary pair has number P.
-#[derive(Drop)]
+#[derive(Clone, Copy)]
 struct PairSides {
     lexical: [u8; 256],
     surface: [u8; 256],

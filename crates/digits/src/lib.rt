@@ -1,4 +1,7 @@
 // Sets of lexicons as numbers of 64 bits: binary digit x is lexicon x.
+
+#![tactic(auto)]
+
 ghost use Rattle.std.specs.Prelude.{◌≡◌, ◌-◌, ◌<◌, ◌^◌, T};
 ghost use Rattle.model.specs.Lists.{bit};
 ghost use Rattle.digits.specs.Ways.{Lowest};

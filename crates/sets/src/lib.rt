@@ -1,4 +1,7 @@
 // Sets of letters: which letters a set has, what a column's side sees of the pairs' letters by them, and that no set has a letter above L.
+
+#![tactic(auto)]
+
 pub mod range;
 pub mod sides;
 

@@ -10,7 +10,7 @@ use image::Header;
 use letters::{Lexical, Pair, Surface};
 
 // What a column says of a pair: on each level its letter, 255 for any, or a number that names a set.
-#[derive(Drop)]
+#[derive(Clone, Copy)]
 pub struct Sides {
     pub lexical: Lexical,
     pub surface: Surface,

@@ -1,4 +1,7 @@
 // Rule tables: the tests 6 and 7 of the image check, and the column that each pair takes.
+
+#![tactic(auto)]
+
 mod range;
 
 ghost use Rattle.std.specs.Prelude.{◌≡◌, ◌++◌, ◌*◌, ◌+◌, ◌<◌, ◌≤◌, T, ltb, true, length, drop, replicate};
