@@ -1,5 +1,8 @@
 // The index of an accepted image, filled row by row: after the columns that the check kept, for each lexical letter the pairs that may pair it or stand
 // before it, and where each lexicon begins. It is filled once a call or once a run; a step only reads it.
+
+#![tactic(auto)]
+
 ghost use Rattle.std.specs.Prelude.{◌≡◌, ◌++◌, ◌≤◌, ◌<◌, replicate};
 ghost use Rattle.model.specs.Lists.{below, flat_map};
 ghost use Rattle.image.specs.Header.{header_of};

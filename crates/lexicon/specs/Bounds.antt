@@ -1,5 +1,5 @@
 -- What a byte of an entry may be, by the length of the form.
-use Rattle.std.specs.Prelude.{ℕ, ◌+◌, ◌*◌, ◌<◌, Bool, cond, List, ◌≡◌, length, ltb, eqb}
+use Rattle.std.specs.Prelude.{ℕ, ◌+◌, ◌*◌, ◌<◌, Bool, cond, List, ◌≡◌, ltb, eqb}
 use Rattle.model.specs.Lists.{within, byte}
 
 -- what may stand at a place, as its sign in the table: a letter, anything, nothing

@@ -1,4 +1,7 @@
 // The lexicons of an image: how many entries each has, where an entry stands, and tests 8 and 14 of the image check.
+
+#![tactic(auto)]
+
 mod bounds;
 pub mod ways;
 

@@ -11,7 +11,7 @@ ghost use Rattle.lexicon.specs.Sole.{Sole, WayOf};
 
 use image::Header;
 
-#[derive(Drop)]
+#[derive(Clone, Copy)]
 pub struct Ways {
     pub bits: u64,
     pub stop: bool,

@@ -1,14 +1,12 @@
 -- `is_continuation` meets its contract: one more than 255 is 0 in a byte, and one more than any other is at most a number just where that other is below it.
 use native.Mathlib.Omega.{arith}
 use native.Mathlib.Decide.{dec_lt}
-use borrow.Author.Rules.{rules}
 use borrow.Author.Tests.{lt-ltb, le-ltb, le-leb, lt-leb, eq-eqb, ne_eqb}
 use mathlib.Core.Bool.{Bool, true, false, ◌||◌}
 use mathlib.Core.Path.{◌≡◌, refl}
 use Prim.Native.Nat.{ℕ, ◌+◌, ◌%◌, ◌<◌, ◌≤◌}
 use lib.Dec.{leb, ltb, eqb}
-use Rattle.lexicon.proofs.ways.is_continuation.Statement.{statement}
-use Rattle.lexicon.proofs.ways.is_continuation.Tie as tie
+use Rattle.lexicon.proofs.ways.is_continuation.Goals as goal
 
 or_true : (b : Bool) → (b || true) ≡ true
 or_true true = refl
@@ -29,11 +27,5 @@ one_more c x few = go (dec_lt c 255) (dec_lt c x)
         let none : (c + 1) % 256 ≤ x = omega arith in
         rw (le-leb ((c + 1) % 256) x none, eq-eqb c 255 end, or_true) refl
 
-add-result : tie.Need-overflow-add-result
-add-result c = search rules
-
-returns : tie.Need-returns
+pub returns : goal.returns
 returns c = one_more c.args.continuation c.args.lexicons c.requires
-
-pub is-continuation-spec : {M : Type 1} → statement M
-is-continuation-spec = tie.close (tie.spec add-result returns)
