@@ -1,4 +1,7 @@
 // The index of forms filled once a run, part after part, whatever stood there before.
+
+#![tactic(auto)]
+
 ghost use Rattle.std.specs.Prelude.{◌≡◌, length};
 ghost use Rattle.image.specs.Header.{header_of};
 ghost use Rattle.image.specs.Accepted.{Accepted};

@@ -1,5 +1,8 @@
 // The index of forms of an accepted image, for callers that ask many words of one image: which letters pair, which lexicons are worth looking ahead in, and each
 // lexicon's entries in an order that puts like beginnings together. Here its parts, each filled by itself.
+
+#![tactic(auto)]
+
 ghost use Rattle.forms.specs.Filling.{Cleared};
 
 pub mod pairs;
