@@ -1,4 +1,7 @@
 // The image check with its verdict, and the view of an entry's form with its companion.
+
+#![tactic(auto)]
+
 ghost use Rattle.std.specs.Prelude.{◌≡◌, ◌++◌, T, replicate};
 ghost use Rattle.model.specs.Lists.{below, flat_map};
 ghost use Rattle.model.specs.Refusals.{accepted, right_pairs, image_verdict};
@@ -10,7 +13,7 @@ ghost use Rattle.grammar.specs.Answers.{verdict_of, form_reply_of, tables_verdic
 
 use image::Header;
 
-#[derive(Drop)]
+#[derive(Clone, Copy)]
 pub enum Verdict {
     Accepted,
     Refused(u8),
@@ -96,7 +99,7 @@ fn check_lexicon(image: &[u8], h: Header) -> Verdict
     Verdict::Refused(14)
 }
 
-#[derive(Drop)]
+#[derive(Clone, Copy)]
 pub enum FormReply {
     Letters(usize),
     Refused(u8),

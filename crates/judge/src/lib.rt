@@ -1,4 +1,7 @@
 // The judge: whether a path and a pairing are a reading of the word that they spell, or the refusal.
+
+#![tactic(auto)]
+
 pub mod reading;
 
 ghost use Rattle.std.specs.Prelude.{◌≡◌, ◌++◌, replicate};
@@ -14,7 +17,7 @@ ghost use Rattle.judge.specs.Answers.{judgement_of, judged_accepted};
 use grammar::Verdict;
 use image::Header;
 
-#[derive(Drop)]
+#[derive(Clone, Copy)]
 pub enum Judgement {
     Holds,
     Fails,

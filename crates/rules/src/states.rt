@@ -28,7 +28,7 @@ fn next_state(image: &[u8], index: &[u8], h: Header, r: usize, s: u8, p: usize) 
 }
 
 // What one pair does to all rules. Where one fails, the states are of no use.
-#[derive(Drop)]
+#[derive(Clone, Copy)]
 pub struct Stepped {
     pub alive: bool,
     pub states: [u8; 32],

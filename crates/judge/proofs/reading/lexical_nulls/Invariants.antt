@@ -1,0 +1,10 @@
+use Prim.Native.Nat.{◌-◌}
+use Rattle.model.specs.GrammarOf.{grammar_of}
+use Rattle.judge.proofs.PairingLaws.{Counted}
+use Rattle.judge.proofs.reading.lexical_nulls.Given as goal
+
+abbrev pub invariant-loop-i : goal.invariant-loop-i
+invariant-loop-i l = Counted (grammar_of l.image).lexical l.pairing l.count l.i
+
+abbrev pub decreases-loop-i : goal.decreases-loop-i
+decreases-loop-i l = l.n - l.i
