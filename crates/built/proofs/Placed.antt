@@ -4,7 +4,7 @@ use native.Mathlib.Nat.{le_refl, mul-le-mul}
 use native.Mathlib.Omega.{arith}
 use native.Mathlib.Decide.{dec_lt}
 use mathlib.Core.Bool.{Bool, false, not}
-use mathlib.Core.Path.{◌≡◌, refl, ap, ◌∙◌}
+use mathlib.Core.Path.{◌≡◌, refl, sym, subst, ap, ◌∙◌}
 use mathlib.Core.List.{List, [], ◌∷◌, map, Memᴰ}
 use lib.Dec.{T, eqb, T_not}
 use borrow.Author.Tests.{lt-ltb, le-ltb, eq-eqb}
@@ -50,7 +50,8 @@ module _ (k : ℕ) where
           let t = kind_row rs (n + r.blocks) (omega arith) (omega arith) in
           let other : eqb r.kind (kind_from k (n + r.blocks) rs) ≡ false =
           ap (eqb r.kind) t.2 ∙ false_of (eqb r.kind t.0.kind) (λ s. T_not (any (same_kind r) rs) none (any_has (same_kind r) rs t.1 s)) in
-          rw (le-ltb k (n + r.blocks) (omega arith), other) (rest (omega arith) (omega arith))
+          let later : kind_from k n (r ∷ rs) ≡ kind_from k (n + r.blocks) rs = rw (le-ltb k (n + r.blocks) (omega arith)) refl in
+          subst (λ (kind : ℕ). Among (r ∷ rs) n kind) (sym later) (rw other (rest (omega arith) (omega arith)))
 
 module _ (h : Header) (k : ℕ) where
   -- "those that the blocks before have left, as many as a block holds", for a kind by name

@@ -4,7 +4,7 @@ use native.Mathlib.Nat.{mul-suc}
 use native.Mathlib.Numerals.{add-one}
 use native.Mathlib.Omega.{arith}
 use mathlib.Core.Path.{◌≡◌, refl, sym, ap, ap₂, ◌∙◌}
-use mathlib.Core.List.{List, [], ◌++◌, append_assoc}
+use mathlib.Core.List.{List, ◌++◌, append_assoc}
 use lib.ListN.{length, take, drop, set, replicate, length-append}
 use lib.Seq.{take-suc, drop-cons, append_snoc, length-take-le, take_all, take_at, drop_at, drop-drop, set_at}
 use borrow.Rule.Slice.PartMut.{put_mid}

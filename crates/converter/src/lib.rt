@@ -1,4 +1,7 @@
 // The converter: an image of form 1 as one of form 2, and back, into a lent target.
+
+#![tactic(auto)]
+
 mod blocks;
 mod entries;
 mod writing;
@@ -9,7 +12,7 @@ ghost use Rattle.converter.specs.Answers.{conversion_of};
 
 use grammar::Verdict;
 
-#[derive(Drop)]
+#[derive(Clone, Copy)]
 pub enum Conversion {
     Converted,
     Refused(u8),
