@@ -1,4 +1,7 @@
 // Contexts read and matched in one pass over the text, by recursion: the text left falls at each bracket.
+
+#![tactic(auto)]
+
 pub mod context;
 
 ghost use Rattle.std.specs.Prelude.{true, false, ◌||◌, ◌≡◌, ◌+◌, ◌-◌, ◌≤◌, ◌<◌, length, drop, eqb};
@@ -12,7 +15,7 @@ ghost use Rattle.relations.specs.Rows.{RowsAre};
 ghost use Rattle.matching.specs.Steps.{Follows, Placed, Numbered};
 
 // Whether a text begins with a context; where it goes on; and row by row the places where a run that begins there may end.
-#[derive(Drop)]
+#[derive(Clone, Copy)]
 pub struct Step {
     pub read: bool,
     pub at: usize,

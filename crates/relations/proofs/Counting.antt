@@ -3,7 +3,7 @@ use Prim.Native.Nat.{ℕ, suc, ◌+◌, ◌≤◌, ◌<◌}
 use native.Mathlib.Numerals.{add-one}
 use native.Mathlib.Omega.{arith}
 use native.Mathlib.Decide.{ℕ_discrete, dec_lt}
-use mathlib.Core.Bool.{Bool, true, false, ◌&&◌, ◌||◌, and-false, or_false}
+use mathlib.Core.Bool.{Bool, true, false, ◌&&◌, ◌||◌, and-false, or-false}
 use mathlib.Core.Path.{◌≡◌, refl, sym, ap, ◌∙◌}
 use lib.Dec.{eqb, ltb}
 use borrow.Author.Tests.{lt-ltb, le-ltb, eq-eqb, ne_eqb}
@@ -26,7 +26,7 @@ count_more f i out x c h k = h k ∙ ap (λ (b : Bool). b || (f i && eqb k i)) (
   where
     go : Dec (k ≡ i) → Dec (k < i) → (ltb k i && f k || (f i && eqb k i)) ≡ (ltb k (i + 1) && f k)
     go (yes e) d = rw (e, le-ltb i i (omega arith), lt-ltb i (i + 1) (omega arith), eq-eqb i i refl) (and_on (f i))
-    go (no e) (yes l) = rw (lt-ltb k i l, lt-ltb k (i + 1) (omega arith), ne_eqb k i e, and-false (f i)) (or_false (f k))
+    go (no e) (yes l) = rw (lt-ltb k i l, lt-ltb k (i + 1) (omega arith), ne_eqb k i e, and-false (f i)) (or-false (f k))
     go (no e) (no l) = rw (le-ltb k i (omega arith), le-ltb k (i + 1) (omega arith), ne_eqb k i e) (and-false (f i))
 
 pub count_done : (f : ℕ → Bool) (i out k : ℕ) → Counted f i out → k < i → holds out k ≡ f k

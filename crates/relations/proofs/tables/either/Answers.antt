@@ -1,0 +1,44 @@
+-- `either` meets its contract.
+use native.Mathlib.Omega.{arith}
+use mathlib.Core.Bool.{◌||◌}
+use mathlib.Core.Path.{refl, fun_ext}
+use Rattle.relations.specs.Rows.{row}
+use Rattle.relations.proofs.Filling.{fill_begun, fill_more, fill_done}
+use Rattle.relations.proofs.tables.either.Goals as goal
+
+pub loop-j-init : goal.loop-j-init
+loop-j-init c = let a = c.args in fill_begun _ a.n (λ i k. row a.one.now i k || row a.two.now i k) refl
+
+pub offset_bounds-one-j : goal.offset_bounds-one-j
+offset_bounds-one-j c = omega (arith, c.loop-j-test.true, c.requires)
+
+pub bounds-one-j : goal.bounds-one-j
+bounds-one-j c = omega (arith, c.loop-j-test.true, c.requires)
+
+pub offset_bounds-two-j : goal.offset_bounds-two-j
+offset_bounds-two-j c = omega (arith, c.loop-j-test.true, c.requires)
+
+pub bounds-two-j : goal.bounds-two-j
+bounds-two-j c = omega (arith, c.loop-j-test.true, c.requires)
+
+pub offset_bounds-rows-j : goal.offset_bounds-rows-j
+offset_bounds-rows-j c = omega (arith, c.loop-j-test.true, c.requires)
+
+pub bounds-rows-j : goal.bounds-rows-j
+bounds-rows-j c = omega (arith, c.loop-j.invariant.long, c.loop-j-test.true, c.requires)
+
+pub overflow_add-j : goal.overflow_add-j
+overflow_add-j c = omega (arith, c.loop-j-test.true, c.requires)
+
+pub loop-j-smaller : goal.loop-j-smaller
+loop-j-smaller c = omega (arith, c.loop-j-test.true)
+
+pub loop-j-preserved : goal.loop-j-preserved
+loop-j-preserved c =
+    let a = c.args in
+    fill_more c.loop-j.rows a.n c.loop-j.j c.union-set.result (λ i k. row a.one.now i k || row a.two.now i k) c.loop-j.invariant c.loop-j-test.true c.requires (fun_ext c.union-set.ensures)
+
+pub returns : goal.returns
+returns c =
+    let a = c.args in
+    fill_done c.loop-j.rows a.n c.loop-j.j (λ i k. row a.one.now i k || row a.two.now i k) c.loop-j.invariant c.loop-j-test.false
