@@ -76,6 +76,10 @@ module _ (t : List ℕ) where
   unfolding is_text
   too_many h = left_false (leb (length (lines_of t)) 32) (every rule_line (lines_of t)) (lt-leb (length (lines_of t)) 32 h)
 
+  -- where 32 lines are behind a place and it has one more
+  pub one_too_many : (count at : ℕ) → count + length (lines_of (drop at t)) ≡ length (lines_of t) → count ≡ 32 → at < length t → is_text t ≡ false
+  one_too_many count at e f h = too_many (omega (arith, ap length (first_line t at h)))
+
   pub wrong_line : every rule_line (lines_of t) ≡ false → is_text t ≡ false
   unfolding is_text
   wrong_line e = right_false (leb (length (lines_of t)) 32) (every rule_line (lines_of t)) e

@@ -1,9 +1,9 @@
 -- The pairs that a text names are known exactly when each rule's own pair is, and each pair of its contexts or the boundary.
 use Prim.Native.Nat.{ℕ, ◌<◌}
 use mathlib.Core.Bool.{Bool, true, false, ◌||◌}
-use mathlib.Core.Path.{◌≡◌, sym, subst}
-use mathlib.Core.Logic.{◌↔◌, ◌⊎◌, inl, inr}
-use mathlib.Core.List.{List, ◌++◌, Memᴰ}
+use mathlib.Core.Path.{sym, subst}
+use mathlib.Core.Logic.{◌↔◌, inl, inr}
+use mathlib.Core.List.{List, ◌++◌}
 use lib.Dec.{T, ltb, eqb, eqb→eq, ltb→lt, lt→ltb}
 use Rattle.model.specs.Lists.{every}
 use Rattle.model.proofs.Booleans.{and_out, and_in, left_or, right_or, eq→eqb}

@@ -3,9 +3,9 @@ use Prim.Native.Nat.{ℕ, ◌/◌, ◌%◌, ◌≤◌}
 use mathlib.Core.Bool.{Bool, true, false, cond}
 use mathlib.Core.Path.{◌≡◌, refl, sym, ap, ap₂, ◌∙◌, subst}
 use mathlib.Core.Logic.{◌↔◌}
-use mathlib.Core.List.{List, [], ◌∷◌, ◌++◌}
+use mathlib.Core.List.{List, ◌∷◌, ◌++◌}
 use lib.ListN.{drop}
-use lib.Dec.{T, leb, eqb→eq, leb→le, le→leb}
+use lib.Dec.{T, leb, leb→le, le→leb}
 use native.Mathlib.Omega.{arith}
 use Rattle.model.specs.Lists.{same_list}
 use Rattle.model.proofs.Booleans.{and_out, and_in, out3, in3, same_out}

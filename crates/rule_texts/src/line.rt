@@ -8,7 +8,7 @@ ghost use Rattle.rule_texts.specs.Parts.{Signs, Divides};
 
 use matching::context;
 
-#[derive(Drop)]
+#[derive(Clone, Copy)]
 pub enum Operator {
     OnlyThere,
     AlwaysThere,
@@ -17,7 +17,7 @@ pub enum Operator {
 }
 
 // The operator that a line begins with, where it does.
-#[derive(Drop)]
+#[derive(Clone, Copy)]
 pub struct Signed {
     pub found: bool,
     pub operator: Operator,
@@ -100,7 +100,7 @@ fn read_sign(line: &[u8], space: usize) -> Signed
 }
 
 // A line divided: its operator and own pair, where the left context begins, and where the underscore stands; or a line that is no rule's.
-#[derive(Drop)]
+#[derive(Clone, Copy)]
 pub struct Parts {
     pub divided: bool,
     pub operator: Operator,

@@ -5,6 +5,7 @@ ghost use Rattle.rule_texts.specs.Text.{is_text, pairs_known};
 use super::line;
 
 // Test 19: at most 32 lines, each a rule's.
+#[tactic(auto, using(crate::proofs::Each::one_too_many))]
 pub fn is_text(text: &[u8]) -> bool
     ensures { result ≡ is_text text.now }
 {

@@ -1,4 +1,7 @@
 // Spelling: code points become letters of the alphabet, a capital that is none as its lower case.
+
+#![tactic(auto)]
+
 ghost use Rattle.std.specs.Prelude.{◌≡◌, ◌<◌, length, leb};
 ghost use Rattle.model.specs.Lists.{every, where_room, numbers};
 ghost use Rattle.model.specs.Refusals.{accepted, image_verdict};
@@ -11,7 +14,7 @@ ghost use Rattle.spelling.specs.Answers.{spelling_of, handed_over};
 use grammar::Verdict;
 use image::Header;
 
-#[derive(Drop)]
+#[derive(Clone, Copy)]
 pub enum Spelling {
     Letters(usize),
     Refused(u8),
@@ -104,7 +107,7 @@ fn hand_over(word: &[u8], out: &mut [u8]) -> Spelling
 {
     let n = word.len();
     let written = if out.len() < n { 0 } else { n };
-    bytes::copy(&word[0..written], out);
+    out[..written].copy_from_slice(&word[..written]);
     if written < n {
         return Spelling::Refused(24);
     }

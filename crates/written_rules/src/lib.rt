@@ -1,4 +1,7 @@
 // The judge of written rules: whether a pairing obeys each rule of a text, or the refusal.
+
+#![tactic(auto)]
+
 mod boundaries;
 mod rule;
 
