@@ -1,4 +1,7 @@
 // Nodes of the search from which nothing is found, kept in a lent table: a slot has the numbers of a node, and a node is looked up before it is searched.
+
+#![tactic(auto)]
+
 ghost use Rattle.std.specs.Prelude.{true, false, ◌≡◌, List, ℕ, ◌+◌, ◌*◌, ◌<◌, ◌≤◌, length, take};
 ghost use Rattle.model.specs.Query.{Query};
 ghost use Rattle.image.specs.Header.{header_of};
@@ -30,7 +33,7 @@ pub fn count(table: &mut [u16]) -> bool
 }
 
 // What is left of the entry that is open: its letters and the entry, or where no letter is left what may come next.
-#[derive(Drop)]
+#[derive(Clone, Copy)]
 pub struct Left {
     pub from: usize,
     pub to: usize,

@@ -7,7 +7,6 @@ use mathlib.Core.Path.{◌≡◌, refl, sym}
 use lib.Dec.{leb, ltb}
 use borrow.Author.Tests.{le-leb, ltb-true}
 use Rattle.model.specs.Query.{Pattern}
-use Rattle.model.specs.Tree as tree
 use Rattle.model.specs.Tree.{letters_and, nulls_and}
 use Rattle.listing.specs.declared.level.Level.{Level}
 use Rattle.listing.specs.Levels.{level_of, level_may_by, level_go_by, Bounded}

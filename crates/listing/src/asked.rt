@@ -5,21 +5,21 @@ ghost use Rattle.listing.specs.Asked.{path_pattern, word_pattern};
 use letters::Surface;
 
 // Of the path, which is given as bytes, two to an entry number.
-#[derive(Drop)]
+#[derive(Clone, Copy)]
 pub enum PathAsked {
     Anything,
     Exactly,
 }
 
 // Of the word, which is given as its letters.
-#[derive(Drop)]
+#[derive(Clone, Copy)]
 pub enum WordAsked {
     Anything,
     Exactly,
 }
 
 // Of both together. The bytes of each are lent beside it.
-#[derive(Drop)]
+#[derive(Clone, Copy)]
 pub struct Asked {
     pub path: PathAsked,
     pub word: WordAsked,

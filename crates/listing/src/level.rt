@@ -7,14 +7,14 @@ ghost use Rattle.listing.specs.Levels.{level_may_by, level_go_by, level_of, Boun
 use crate::asked::WordAsked;
 use letters::{Lexical, Surface};
 
-#[derive(Drop)]
+#[derive(Clone, Copy)]
 pub struct Level {
     pub letters: usize,
     pub nulls: usize,
 }
 
 // A level after one more pair, where the pair may come next.
-#[derive(Drop)]
+#[derive(Clone, Copy)]
 pub struct SurfaceAfter {
     pub may: bool,
     pub level: Level,
@@ -54,7 +54,7 @@ pub fn pass(asked: WordAsked, word: &[u8], level: Level, x: Surface) -> SurfaceA
 }
 
 // The lexical level after one more pair: where the letters left begin, and its nulls.
-#[derive(Drop)]
+#[derive(Clone, Copy)]
 pub struct LexicalAfter {
     pub may: bool,
     pub from: usize,

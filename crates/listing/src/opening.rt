@@ -15,7 +15,7 @@ use crate::place::ROOT;
 use image::Header;
 
 // Entries from low up to high.
-#[derive(Drop)]
+#[derive(Clone, Copy)]
 pub struct Range {
     pub low: usize,
     pub high: usize,
@@ -36,7 +36,7 @@ pub fn lexicon_range(image: &[u8], index: &[u8], h: Header, x: usize) -> Range
 }
 
 // Entries that may open: those from low up to high, and then those of the lexicons of a set. What comes before low has been passed.
-#[derive(Drop)]
+#[derive(Clone, Copy)]
 pub struct Ways {
     pub low: usize,
     pub high: usize,
@@ -44,7 +44,7 @@ pub struct Ways {
 }
 
 // The next of them, and those from it on.
-#[derive(Drop)]
+#[derive(Clone, Copy)]
 pub struct Next {
     pub entry: usize,
     pub ways: Ways,

@@ -15,7 +15,7 @@ use crate::place::Place;
 use image::Header;
 
 // The place after a pair, where the pair may be taken.
-#[derive(Drop)]
+#[derive(Clone, Copy)]
 pub struct Taken {
     pub may: bool,
     pub place: Place,

@@ -13,7 +13,7 @@ use crate::level::Level;
 use image::Header;
 
 // The letters left stand in the image from `from` up to `to`; `last` is the entry opened last, or ROOT, or ENDED.
-#[derive(Drop)]
+#[derive(Clone, Copy)]
 pub struct Place {
     pub from: usize,
     pub to: usize,

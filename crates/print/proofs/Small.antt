@@ -23,6 +23,7 @@ pub record Small (r : Reading) : Type 0 where
 module _ (g : Grammar) (entries_few : g.entries < 65536) (pairs_few : g.pairs < 65536) where
   linked_small : (may : ℕ → Bool) (stop : Bool) (es : List ℕ) → T (linked g.entries g.follows g.ends may stop es) → TwoBytes es
   unfolding linked
+  linked_small may stop mathlib.Core.List.[] t n x' = elim x' [ ]
   linked_small may stop (e ∷ es) t n (Memᴰ.head p) = let u = out3 (may e) (ltb e g.entries) (linked g.entries g.follows g.ends (g.follows e) (g.ends e) es) t in omega (arith, p, ltb→lt e g.entries u.1)
   linked_small may stop (e ∷ es) t n (Memᴰ.tail m) = linked_small (g.follows e) (g.ends e) es (out3 (may e) (ltb e g.entries) (linked g.entries g.follows g.ends (g.follows e) (g.ends e) es) t).2 n m
 

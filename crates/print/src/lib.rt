@@ -1,4 +1,7 @@
 // A listing's reply and rows as text, put one after another into a lent buffer. Each function answers where its text ends.
+
+#![tactic(auto)]
+
 ghost use Rattle.std.specs.Prelude.{List, [], ◌∷◌, ◌++◌, ℕ, ◌+◌, ◌*◌, ◌<◌, ◌≤◌, length};
 ghost use Rattle.model.specs.Lines.{decimal, spaced, printed_reply, printed_row, printed_line, unread};
 ghost use Rattle.model.specs.Demand.{reply_rows};

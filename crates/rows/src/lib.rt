@@ -1,4 +1,7 @@
 // What a search carries of a reading, the rows that it puts into a lent buffer, and the reply.
+
+#![tactic(auto)]
+
 ghost use Rattle.std.specs.Prelude.{◌≡◌, [], ◌^◌, ◌<◌, ◌≤◌, length, replicate};
 ghost use Rattle.model.specs.Rows.{row_bytes, reply_number};
 ghost use Rattle.model.specs.Demand.{reply_rows};
@@ -6,7 +9,7 @@ ghost use Rattle.rows.specs.Trail.{reading_of, Short, Holds, row_up_to};
 ghost use Rattle.rows.specs.Fill.{put, Roomy, reply_for, reply_of};
 
 // A reading as far as a search has come: its entries and its pairs.
-#[derive(Drop)]
+#[derive(Clone, Copy)]
 pub struct Trail {
     pub path: [u16; 16],
     pub entries: usize,
@@ -95,7 +98,7 @@ pub fn offer(rows: &mut [u8], capacity: usize, found: usize, t: Trail) -> usize
 }
 
 // What a listing replies.
-#[derive(Drop)]
+#[derive(Clone, Copy)]
 pub enum Reply {
     All(usize),
     More(usize),
