@@ -38,6 +38,7 @@ rising_append low mid next high [] (y ∷ ys) a b d r s = (omega (arith, s.0), s
 rising_append low mid next high (x ∷ xs) ys a b d r s = (r.0, (omega (arith, r.1.0), rising_append (suc x) mid next high xs ys (omega (arith, r.1.0)) b d r.1.1 s))
 
 mem_left : {e : ℕ} (xs ys : List ℕ) → Memᴰ e xs → Memᴰ e (xs ++ ys)
+mem_left {e = e} [] ys x' = elim x' [ ]
 mem_left (x ∷ xs) ys (Memᴰ.head h) = Memᴰ.head h
 mem_left (x ∷ xs) ys (Memᴰ.tail m) = Memᴰ.tail (mem_left xs ys m)
 

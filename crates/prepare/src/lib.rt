@@ -1,4 +1,7 @@
 // What is had of an image before anything is asked of it: the verdict, and of an accepted image the header and the index. Who asks much has the index of forms too.
+
+#![tactic(auto)]
+
 ghost use Rattle.std.specs.Prelude.{◌≡◌, ◌++◌, ℕ, length, replicate};
 ghost use Rattle.model.specs.Lists.{below, flat_map};
 ghost use Rattle.model.specs.Refusals.{accepted, refused};
@@ -12,7 +15,7 @@ ghost use Rattle.prepare.specs.Had.{Had};
 use grammar::Verdict;
 use image::Header;
 
-#[derive(Drop)]
+#[derive(Clone, Copy)]
 pub struct Prepared {
     pub verdict: Verdict,
     pub h: Header,

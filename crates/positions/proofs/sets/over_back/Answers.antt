@@ -1,0 +1,12 @@
+-- `filter::sets::over_back` meets its contract.
+use mathlib.Core.Path.{refl}
+use Rattle.positions.specs.Masks.{back_over_mask}
+use Rattle.positions.proofs.sets.over_back.Goals as goal
+
+pub returns-then-deletes : goal.returns-then-deletes
+unfolding back_over_mask
+returns-then-deletes c = rw c.if-deletes.true refl
+
+pub returns : goal.returns
+unfolding back_over_mask
+returns c = rw c.if-deletes.false refl
