@@ -16,7 +16,7 @@ use listing::place::Place;
 use rows::Trail;
 
 // What the candidates come to: how many may be taken, of which more than two are not told, and one of them with the place after it.
-#[derive(Drop)]
+#[derive(Clone, Copy)]
 pub struct Tried {
     pub many: usize,
     pub pair: usize,
@@ -68,7 +68,7 @@ pub fn try_all(
 }
 
 // Where it led: over, where nothing is found at all, or on, to another place and a longer trail.
-#[derive(Drop)]
+#[derive(Clone, Copy)]
 pub struct Led {
     pub over: bool,
     pub place: Place,

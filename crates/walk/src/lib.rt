@@ -1,5 +1,8 @@
 // The walk through the tree of readings, whatever is asked of the path and of the word: opening an entry and pairing its letters call each other, and each
 // reading found is offered to the lent rows.
+
+#![tactic(auto)]
+
 ghost use Rattle.std.specs.Prelude.{true, ◌≡◌, ◌<◌, ◌≤◌, length, take};
 ghost use Rattle.model.specs.Lists.{below, flat_map};
 ghost use Rattle.rows.specs.Fill.{Roomy};
@@ -18,7 +21,7 @@ use listing::place::{ENDED, Place};
 use rows::Trail;
 
 // Where every letter is paired: the path ends, where it may and what is asked lets it, and then each entry that may open does, or each that the filter leaves.
-#[cycle(open_open_each_open_listed_pair_pair_each)]
+#[cycle(walk)]
 pub fn open(
     image: &[u8],
     index: &[u8],
@@ -88,7 +91,7 @@ pub fn open(
 
 // Each entry that may open does, and its letters are paired. Whether a pair may be taken at once is the same for all entries that begin with one letter:
 // `known` keeps what was seen of each, 0 before it is looked at, and where that is 1 an entry is passed over.
-#[cycle(open_open_each_open_listed_pair_pair_each)]
+#[cycle(walk)]
 pub fn open_each(
     image: &[u8],
     index: &[u8],
@@ -159,7 +162,7 @@ pub fn open_each(
 }
 
 // The first entries of a list open, one after the other, where it leaves out only what finds nothing.
-#[cycle(open_open_each_open_listed_pair_pair_each)]
+#[cycle(walk)]
 pub fn open_listed(
     image: &[u8],
     index: &[u8],
@@ -211,7 +214,7 @@ pub fn open_listed(
 
 // Where a letter is left or the path has ended: the pairs that are forced are taken, and then each that may come next, unless that is known to find
 // nothing; where it found nothing, that is remembered. With a table that only counts, the search gives up where it has met too many nodes.
-#[cycle(open_open_each_open_listed_pair_pair_each)]
+#[cycle(walk)]
 pub fn pair(
     image: &[u8],
     index: &[u8],
@@ -264,7 +267,7 @@ pub fn pair(
 
 // Where a letter is left or the path has ended: the reading that ends here, and then each pair that may come next. Where the path can only end, it does
 // so without a call; where an entry may open, `open` goes on.
-#[cycle(open_open_each_open_listed_pair_pair_each)]
+#[cycle(walk)]
 pub fn pair_each(
     image: &[u8],
     index: &[u8],
