@@ -27,7 +27,7 @@ pub fn analyse(image: &[u8], index: &[u8], h: Header, word: &[u8], out: &mut [u8
 }
 
 // What a search that may give up comes to.
-#[derive(Drop)]
+#[derive(Clone, Copy)]
 pub enum Tried {
     Given(Reply),
     Long,

@@ -1,4 +1,7 @@
 // Analysis of a word and generation from a path: the image check, the call's own tests, the index, and the search.
+
+#![tactic(auto)]
+
 pub mod indexed;
 
 ghost use Rattle.std.specs.Prelude.{◌≡◌};

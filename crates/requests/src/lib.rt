@@ -1,4 +1,7 @@
 // What a call asks for: analysis the readings of a word, generation those of a path.
+
+#![tactic(auto)]
+
 pub mod own;
 
 ghost use Rattle.std.specs.Prelude.{◌≡◌};
@@ -19,7 +22,7 @@ use image::Header;
 use listing::asked::{Asked, PathAsked, WordAsked};
 
 // Which listing is asked for; with the call's bytes, `request_of` makes the model's request of it.
-#[derive(Drop)]
+#[derive(Clone, Copy)]
 pub enum Request {
     Analysis,
     Generation,

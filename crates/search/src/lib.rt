@@ -1,4 +1,7 @@
 // The search for readings, from the first lexicon on: tried first, and where that gives up once more, with dead ends remembered.
+
+#![tactic(auto)]
+
 pub mod sieve;
 
 ghost use Rattle.std.specs.Prelude.{◌≡◌, ℕ, ◌≤◌, length, replicate};
