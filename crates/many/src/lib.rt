@@ -1,5 +1,7 @@
 // Many words in one call: the image is checked and indexed once, for all of them.
 
+#![tactic(auto)]
+
 ghost use Rattle.std.specs.Prelude.{◌≡◌};
 ghost use Rattle.model.specs.Refusals.{accepted};
 ghost use Rattle.grammar.specs.Answers.{tables_verdict};
@@ -8,7 +10,7 @@ ghost use Rattle.many.specs.Answers.{many_of};
 
 use grammar::Verdict;
 
-#[derive(Drop)]
+#[derive(Clone, Copy)]
 pub enum Many {
     Words(usize),
     Refused(u8),

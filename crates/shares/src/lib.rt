@@ -1,4 +1,7 @@
 // Every word of an accepted and indexed image, each with a place for its reply and a share of the rows.
+
+#![tactic(auto)]
+
 mod word;
 
 ghost use Rattle.std.specs.Prelude.{◌≡◌, ◌*◌, ◌/◌, ◌≤◌, length};
