@@ -1,4 +1,7 @@
-// The C entry: every call on byte slices, every reply one number. `include/headwords.h` declares these functions.
+// The calls for C: every call on byte slices, every reply one number. `headwords_c` exports these functions, and `include/headwords.h` declares them.
+
+#![tactic(auto)]
+
 ghost use Rattle.std.specs.Prelude.{◌≡◌, length};
 ghost use Rattle.model.specs.Query.{analysis, generation};
 ghost use Rattle.model.specs.Refusals.{image_verdict};
@@ -18,16 +21,14 @@ use judge::Judgement;
 use many::Many;
 use spelling::Spelling;
 
-#[unsafe(no_mangle)]
-pub extern "C" fn headwords_analyse(image: &[u8], word: &[u8], out: &mut [u8]) -> u64
+pub fn headwords_analyse(image: &[u8], word: &[u8], out: &mut [u8]) -> u64
     ensures reply { result ≡ reply_number (listing_reply image.now (analysis word.now) (row_count out.old)) }
     ensures bytes { out.new ≡ after_listing image.now (analysis word.now) out.old }
 {
     rows::reply_number(analyser::analyse(image, word, out))
 }
 
-#[unsafe(no_mangle)]
-pub extern "C" fn headwords_analyse_words(
+pub fn headwords_analyse_words(
     image: &[u8],
     words: &[u8],
     replies: &mut [u8],
@@ -43,16 +44,14 @@ pub extern "C" fn headwords_analyse_words(
     }
 }
 
-#[unsafe(no_mangle)]
-pub extern "C" fn headwords_generate(image: &[u8], path: &[u8], out: &mut [u8]) -> u64
+pub fn headwords_generate(image: &[u8], path: &[u8], out: &mut [u8]) -> u64
     ensures reply { result ≡ reply_number (listing_reply image.now (generation path.now) (row_count out.old)) }
     ensures bytes { out.new ≡ after_listing image.now (generation path.now) out.old }
 {
     rows::reply_number(analyser::generate(image, path, out))
 }
 
-#[unsafe(no_mangle)]
-pub extern "C" fn headwords_check(image: &[u8]) -> u64
+pub fn headwords_check(image: &[u8]) -> u64
     ensures { result ≡ verdict_number (image_verdict image.now) }
 {
     match grammar::check(image) {
@@ -61,8 +60,7 @@ pub extern "C" fn headwords_check(image: &[u8]) -> u64
     }
 }
 
-#[unsafe(no_mangle)]
-pub extern "C" fn headwords_seal(image: &mut [u8]) -> u64
+pub fn headwords_seal(image: &mut [u8]) -> u64
     ensures reply { result ≡ sealing_number (sealing_reply image.old) }
     ensures bytes { image.new ≡ after_sealing image.old }
 {
@@ -72,22 +70,19 @@ pub extern "C" fn headwords_seal(image: &mut [u8]) -> u64
     }
 }
 
-#[unsafe(no_mangle)]
-pub extern "C" fn headwords_judge(image: &[u8], path: &[u8], pairing: &[u8]) -> u64
+pub fn headwords_judge(image: &[u8], path: &[u8], pairing: &[u8]) -> u64
     ensures { result ≡ judgement_number (judged image.now path.now pairing.now) }
 {
     judgement_number(judge::judge(image, path, pairing))
 }
 
-#[unsafe(no_mangle)]
-pub extern "C" fn headwords_judge_rules(image: &[u8], pairing: &[u8], text: &[u8]) -> u64
+pub fn headwords_judge_rules(image: &[u8], pairing: &[u8], text: &[u8]) -> u64
     ensures { result ≡ judgement_number (rules_judged image.now pairing.now text.now) }
 {
     judgement_number(written_rules::judge_rules(image, pairing, text))
 }
 
-#[unsafe(no_mangle)]
-pub extern "C" fn headwords_form(image: &[u8], entry: usize, out: &mut [u8]) -> u64
+pub fn headwords_form(image: &[u8], entry: usize, out: &mut [u8]) -> u64
     ensures reply { result ≡ form_number (length out.old) (form_reply image.now «entry») }
     ensures bytes { out.new ≡ after_form (viewed image.now «entry») out.old }
 {
@@ -97,14 +92,13 @@ pub extern "C" fn headwords_form(image: &[u8], entry: usize, out: &mut [u8]) -> 
             if out.len() < n {
                 return 4 * (n as u64) + 2;
             }
-            bytes::copy(grammar::form_part(image, entry, n), out);
+            out[..n].copy_from_slice(grammar::form_part(image, entry, n));
             4 * (n as u64) + 1
         }
     }
 }
 
-#[unsafe(no_mangle)]
-pub extern "C" fn headwords_spell(image: &[u8], points: &[u8], letters: &mut [u8]) -> u64
+pub fn headwords_spell(image: &[u8], points: &[u8], letters: &mut [u8]) -> u64
     ensures reply { result ≡ spelling_number (spelling_reply image.now points.now (length letters.old)) }
     ensures bytes { letters.new ≡ after_spelling image.now points.now letters.old }
 {
@@ -114,8 +108,7 @@ pub extern "C" fn headwords_spell(image: &[u8], points: &[u8], letters: &mut [u8
     }
 }
 
-#[unsafe(no_mangle)]
-pub extern "C" fn headwords_convert(image: &[u8], target: &mut [u8]) -> u64
+pub fn headwords_convert(image: &[u8], target: &mut [u8]) -> u64
     ensures reply { result ≡ conversion_number (conversion_reply image.now (length target.old)) }
     ensures bytes { target.new ≡ after_conversion image.now target.old }
 {
