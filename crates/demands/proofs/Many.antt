@@ -8,7 +8,7 @@ use lib.ListN.{length, drop}
 use lib.Dec.{T}
 use Rattle.model.specs.Lists.{part, within}
 use Rattle.model.specs.Query.{Request, analysis}
-use Rattle.model.specs.Refusals.{Verdict, accepted, refused, first_failing, image_tests, image_verdict, request_tests}
+use Rattle.model.specs.Refusals.{Verdict, accepted, first_failing, image_tests, image_verdict, request_tests}
 use Rattle.model.specs.Rows.{Reply, row_count, reply_number}
 use Rattle.model.specs.Demand.{reply_rows}
 use Rattle.model.specs.Calls.{listing_reply, after_listing}
