@@ -1,5 +1,8 @@
--- What C's read and write told, and what follows from it.
-use Rattle.std.specs.Prelude.{ℕ, zero, suc, ◌+◌, ◌<◌, ◌≤◌, min, ◌≡◌, ℤ, pos, negsuc}
+-- What std's read and write told, and what follows from it.
+use Rattle.std.specs.Prelude.{ℕ, zero, suc, ◌+◌, ◌<◌, ◌≤◌, min, ◌≡◌, ◌≢◌, List, length, take, Result, Ok, Err}
+use Rattle.std.specs.IoError.{error_kind}
+use Rattle.std.specs.declared.io.Error.{Error}
+use Rattle.std.specs.declared.io.ErrorKind.TheVariants as kind
 use Rattle.moving.specs.declared.Told.{Told}
 use Rattle.moving.specs.declared.Told.TheVariants as told
 use Rattle.moving.specs.declared.Onward.{Onward}
@@ -10,32 +13,32 @@ use Rattle.moving.specs.declared.Taken.TheVariants as taken
 use Rattle.moving.specs.declared.Given.{Given}
 use Rattle.moving.specs.declared.Given.TheVariants as given
 
--- an answer from 0 on counts bytes, of the `most` that were lent; another tells of no byte
-abbrev pub ToldBy : ℤ → ℕ → Told → Type 0
-ToldBy (pos k) most (told.Bytes n) = n ≡ min k most
-ToldBy (pos k) most told.Interrupted = ⊥
-ToldBy (pos k) most told.Failed = ⊥
-ToldBy (negsuc k) most (told.Bytes n) = ⊥
-ToldBy (negsuc k) most told.Interrupted = Unit
-ToldBy (negsuc k) most told.Failed = Unit
+-- an answer that is Ok counts bytes, of the `most` that were lent; an error tells of no byte, and whether a signal interrupted the call
+abbrev pub ToldBy : Result ℕ Error → ℕ → Told → Type 0
+ToldBy (Ok k) most (told.Bytes n) = n ≡ min k most
+ToldBy (Ok k) most told.Interrupted = ⊥
+ToldBy (Ok k) most (told.Failed e) = ⊥
+ToldBy (Err f) most (told.Bytes n) = ⊥
+ToldBy (Err f) most told.Interrupted = error_kind f ≡ kind.Interrupted
+ToldBy (Err f) most (told.Failed e) = (error_kind f ≢ kind.Interrupted) × (e ≡ f)
 
 abbrev pub bytes_told : Told → ℕ
 bytes_told (told.Bytes n) = n
 bytes_told told.Interrupted = 0
-bytes_told told.Failed = 0
+bytes_told (told.Failed e) = 0
 
 -- a call that moves no byte ends the reading or the writing; one that a signal interrupted does not
 abbrev pub onward_of : ℕ → Told → Onward
 onward_of done (told.Bytes zero) = onward.Ended
 onward_of done (told.Bytes (suc n)) = onward.On (done + suc n)
 onward_of done told.Interrupted = onward.On done
-onward_of done told.Failed = onward.Failed
+onward_of done (told.Failed e) = onward.Failed e
 
 -- "one that can't be read has length 0"
 abbrev pub image_length : ℕ → Onward → ℕ
 image_length done (onward.On n) = 0
 image_length done onward.Ended = done
-image_length done onward.Failed = 0
+image_length done (onward.Failed e) = 0
 
 -- no byte is the end of the input; a read that a signal interrupted is not, nor one that failed
 abbrev pub TakenBy : Told → Count → Taken → Type 0
@@ -47,10 +50,10 @@ TakenBy told.Interrupted before (taken.Bytes m all) = ⊥
 TakenBy told.Interrupted before taken.End = ⊥
 TakenBy told.Interrupted before taken.Nothing = Unit
 TakenBy told.Interrupted before taken.Failed = ⊥
-TakenBy told.Failed before (taken.Bytes m all) = ⊥
-TakenBy told.Failed before taken.End = ⊥
-TakenBy told.Failed before taken.Nothing = ⊥
-TakenBy told.Failed before taken.Failed = Unit
+TakenBy (told.Failed e) before (taken.Bytes m all) = ⊥
+TakenBy (told.Failed e) before taken.End = ⊥
+TakenBy (told.Failed e) before taken.Nothing = ⊥
+TakenBy (told.Failed e) before taken.Failed = Unit
 
 -- the count of all bytes that came in grows by those that came in now
 abbrev pub TakenIn : ℕ → Count → Taken → Type 0
@@ -63,3 +66,7 @@ TakenIn most before taken.Failed = Unit
 abbrev pub GivenOut : ℕ → Count → Given → Type 0
 GivenOut most before (given.All all) = all.bytes ≡ before.bytes + most
 GivenOut most before given.Failed = Unit
+
+-- so many bytes stand at the front of the buffer
+abbrev pub IsPrefixLen : ℕ → List ℕ → Type 0
+IsPrefixLen n xs = (n ≤ length xs) × (n ≡ length (take n xs))

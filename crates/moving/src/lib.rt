@@ -1,53 +1,59 @@
-// Bytes in and out by C's read and write: what each call told, what follows from it, and how many bytes have come in or gone out so far.
-ghost use Rattle.std.specs.Prelude.{◌≡◌, ◌+◌, ◌<◌, ◌≤◌, ◌^◌, length};
-ghost use Rattle.io.specs.Counts.{IsPrefixLen};
-ghost use Rattle.moving.specs.Told.{ToldBy, bytes_told, onward_of, image_length, TakenBy, TakenIn, GivenOut};
+// Bytes in and out by std's read and write: what each call told, what follows from it, and how many bytes have come in or gone out so far.
 
-use libc::{STDIN_FILENO, STDOUT_FILENO};
+#![tactic(auto)]
+
+ghost use Rattle.std.specs.Prelude.{◌≡◌, ◌+◌, ◌<◌, ◌≤◌, ◌^◌, length};
+ghost use Rattle.moving.specs.Told.{ToldBy, bytes_told, onward_of, image_length, TakenBy, TakenIn, GivenOut, IsPrefixLen};
+
+use std::io::{Cursor, ErrorKind, Read, Write};
+use std::rt::Files;
+use std::{fs, io, str};
 
 // What a call told: bytes moved, none since a signal came first, or that it failed.
-#[derive(Drop)]
+#[derive(Clone, Copy)]
 pub enum Told {
     Bytes(usize),
     Interrupted,
-    Failed,
+    Failed(io::Error),
 }
 
-// What C's answer says of a call that was lent `part`.
-fn told_by(answer: isize, part: &[u8]) -> Told
+// What std's answer says of a call that was lent `part`.
+fn told_by(answer: io::Result<usize>, part: &[u8]) -> Told
     ensures { ToldBy answer (length part.now) result }
 {
-    if answer < 0 {
-        if os::errno() == libc::EINTR {
-            return Told::Interrupted;
+    match answer {
+        Ok(n) => Told::Bytes(n.min(part.len())),
+        Err(e) => {
+            if e.kind() == ErrorKind::Interrupted {
+                return Told::Interrupted;
+            }
+            Told::Failed(e)
         }
-        return Told::Failed;
     }
-    Told::Bytes(io::count(answer, part))
 }
 
 // One read into the lent part.
-fn read_some(file: i32, part: &mut [u8]) -> Told
+fn read_some<I: Read>(input: &mut I, part: &mut [u8]) -> Told
     ensures { bytes_told result ≤ length part.old }
 {
-    let answer = libc::read(file, part);
+    let answer = input.read(part);
     told_by(answer, part)
 }
 
 // One write of the lent part to standard output.
-fn write_some(part: &[u8]) -> Told
+fn write_some<R: Print>(rt: &R, part: &[u8]) -> Told
     ensures { bytes_told result ≤ length part.now }
 {
-    let answer = libc::write(STDOUT_FILENO, part);
+    let answer = rt.write_some(part);
     told_by(answer, part)
 }
 
 // What follows: another call, after so many bytes in all; or nothing more comes; or a call failed.
-#[derive(Drop)]
+#[derive(Clone, Copy)]
 pub enum Onward {
     On(usize),
     Ended,
-    Failed,
+    Failed(io::Error),
 }
 
 fn after(done: usize, told: Told) -> Onward
@@ -55,7 +61,7 @@ fn after(done: usize, told: Told) -> Onward
     ensures { result ≡ onward_of done told }
 {
     match told {
-        Told::Failed => Onward::Failed,
+        Told::Failed(e) => Onward::Failed(e),
         Told::Interrupted => Onward::On(done),
         Told::Bytes(n) => {
             if n == 0 {
@@ -73,12 +79,12 @@ fn image_length(done: usize, last: Onward) -> usize
     match last {
         Onward::On(_) => 0,
         Onward::Ended => done,
-        Onward::Failed => 0,
+        Onward::Failed(_) => 0,
     }
 }
 
 // Reads a file into the buffer until it ends or the buffer is full.
-fn read_image(file: i32, image: &mut [u8]) -> usize
+fn read_image<R: Eprint, I: Read>(rt: &R, file: &mut I, image: &mut [u8]) -> usize
     ensures { IsPrefixLen result image.new }
 {
     let most = image.len();
@@ -97,8 +103,8 @@ fn read_image(file: i32, image: &mut [u8]) -> usize
             Onward::Ended => {
                 return image_length(done, last);
             }
-            Onward::Failed => {
-                tell_image();
+            Onward::Failed(e) => {
+                tell_image(rt, e);
                 return image_length(done, last);
             }
         }
@@ -107,29 +113,41 @@ fn read_image(file: i32, image: &mut [u8]) -> usize
     0
 }
 
+// Says on standard error what failed, and why in the system's words, without the number that std writes after them.
+fn tell<R: Eprint>(rt: &R, what: &str, e: io::Error) {
+    let mut room = Cursor::new([0u8; 512]);
+    let _written = write!(room, "{e}");
+    let bytes = room.into_inner();
+    let text = str::from_utf8(&bytes).unwrap_or("");
+    let words = match text.split_once(" (os error ") {
+        Some((words, _)) => words,
+        None => text.trim_end_matches('\0'),
+    };
+    let _told = eprintln!(rt; "{what}: {words}");
+}
+
 // Says on standard error why the image can't be read.
-fn tell_image() {
-    os::fail(b"grammar.img");
+fn tell_image<R: Eprint>(rt: &R, e: io::Error) {
+    tell(rt, "grammar.img", e);
 }
 
 // Puts the image into the buffer and answers its length: 0 where it can't be read. The buffer has one byte more than an image may have, so that a
 // longer file is refused.
-pub fn load_image(image: &mut [u8]) -> usize
+pub fn load_image<R: Files + Eprint>(rt: &R, image: &mut [u8]) -> usize
     requires { length image.old ≡ 65537 }
     ensures { IsPrefixLen result image.new }
 {
-    let file = os::open_read(b"grammar.img");
-    if file < 0 {
-        tell_image();
-        return 0;
+    match fs::open(rt, "grammar.img") {
+        Ok(mut file) => read_image(rt, &mut file, image),
+        Err(e) => {
+            tell_image(rt, e);
+            0
+        }
     }
-    let n = read_image(file, image);
-    libc::close(file);
-    n
 }
 
-// How many bytes have come in, or gone out, as C's calls told. Only the calls here make one.
-#[derive(Drop)]
+// How many bytes have come in, or gone out, as the calls told. Only the calls here make one.
+#[derive(Clone, Copy)]
 pub struct Count {
     bytes: usize,
 }
@@ -150,7 +168,7 @@ fn counted(before: Count, n: usize) -> Count
 }
 
 // What came in: so many bytes, and how many in all; the end of the input; nothing this time; or a failure.
-#[derive(Drop)]
+#[derive(Clone, Copy)]
 pub enum Taken {
     Bytes(usize, Count),
     End,
@@ -159,12 +177,12 @@ pub enum Taken {
 }
 
 // What came in by what a read told.
-fn taken_by(told: Told, before: Count) -> Taken
+fn taken_by<R: Eprint>(rt: &R, told: Told, before: Count) -> Taken
     requires { before.bytes + bytes_told told < 2 ^ 64 }
     ensures { TakenBy told before result }
 {
     match told {
-        Told::Failed => input_failed(),
+        Told::Failed(e) => input_failed(rt, e),
         Told::Interrupted => Taken::Nothing,
         Told::Bytes(n) => {
             if n == 0 {
@@ -175,31 +193,31 @@ fn taken_by(told: Told, before: Count) -> Taken
     }
 }
 
-// One read of standard input.
-pub fn take_in(chunk: &mut [u8], before: Count) -> Taken
+// One read of standard input, which `input` stands for.
+pub fn take_in<R: Eprint, I: Read>(rt: &R, input: &mut I, chunk: &mut [u8], before: Count) -> Taken
     requires { before.bytes + length chunk.old < 2 ^ 64 }
     ensures { TakenIn (length chunk.old) before result }
 {
-    let told = read_some(STDIN_FILENO, chunk);
-    taken_by(told, before)
+    let told = read_some(input, chunk);
+    taken_by(rt, told, before)
 }
 
-fn input_failed() -> Taken
+fn input_failed<R: Eprint>(rt: &R, e: io::Error) -> Taken
     ensures { result ≡ Taken.Failed }
 {
-    os::fail(b"standard input");
+    tell(rt, "standard input", e);
     Taken::Failed
 }
 
 // What became of a text: all of it has gone out, or a call failed.
-#[derive(Drop)]
+#[derive(Clone, Copy)]
 pub enum Given {
     All(Count),
     Failed,
 }
 
 // Hands a text to standard output.
-pub fn give(text: &[u8], before: Count) -> Given
+pub fn give<R: Print + Eprint>(rt: &R, text: &[u8], before: Count) -> Given
     requires { before.bytes + length text.now < 2 ^ 64 }
     ensures { GivenOut (length text.now) before result }
 {
@@ -210,27 +228,32 @@ pub fn give(text: &[u8], before: Count) -> Given
         if most == done {
             return Given::All(counted(before, done));
         }
-        let told = write_some(&text[done..]);
+        let told = write_some(rt, &text[done..]);
         let next = after(done, told);
         match next {
             Onward::On(n) => {
                 done = n;
             }
             Onward::Ended => {
-                return output_failed();
+                let no_byte = io::Error::new(ErrorKind::WriteZero, "failed to write whole buffer");
+                return output_failed(rt, no_byte);
             }
-            Onward::Failed => {
-                return output_failed();
+            Onward::Failed(e) => {
+                return output_failed(rt, e);
             }
         }
         left -= 1;
     }
-    output_failed()
+    let too_many = io::Error::new(ErrorKind::TimedOut, "gave up after 2^64 writes");
+    output_failed(rt, too_many)
 }
 
-fn output_failed() -> Given
+// A reader that goes away is told of by no word: it wants no more.
+fn output_failed<R: Eprint>(rt: &R, e: io::Error) -> Given
     ensures { result ≡ Given.Failed }
 {
-    os::fail(b"standard output");
+    if e.kind() != ErrorKind::BrokenPipe {
+        tell(rt, "standard output", e);
+    }
     Given::Failed
 }
