@@ -1,9 +1,9 @@
 -- The rows of a listing as text: each row holds its reading, so the rows printed are those of the readings listed.
-use Prim.Native.Nat.{ℕ, zero, suc, ◌+◌, ◌/◌, ◌<◌, ◌≤◌}
+use Prim.Native.Nat.{ℕ, zero, suc, ◌/◌, ◌<◌, ◌≤◌}
 use native.Mathlib.Omega.{arith}
 use mathlib.Core.Bool.{Bool, true, false, cond}
 use mathlib.Core.Path.{◌≡◌, refl, sym, ap, ◌∙◌, subst}
-use mathlib.Core.List.{List, [], ◌∷◌, ◌++◌, map, Memᴰ}
+use mathlib.Core.List.{List, [], ◌∷◌, ◌++◌, Memᴰ}
 use lib.ListN.{length, get_or, take, length-take}
 use lib.Seq.{take_all, take-nil}
 use lib.Dec.{leb}
@@ -74,6 +74,8 @@ told_count (Verdict.refused k) n l = refl
 
 -- those taken from the front are among all
 taken_from : (n : ℕ) (l : List Reading) (r : Reading) → Memᴰ r (take n l) → Memᴰ r l
+taken_from zero l r x = elim x [ ]
+taken_from (suc n) [] r x = elim x [ ]
 taken_from (suc n) (s ∷ l) r (Memᴰ.head e) = Memᴰ.head e
 taken_from (suc n) (s ∷ l) r (Memᴰ.tail m) = Memᴰ.tail (taken_from n l r m)
 
@@ -87,6 +89,7 @@ module _ (image word : List ℕ) (accepts : image_verdict image ≡ accepted) wh
 
   all_small : (v : Verdict) → AllSmall (rows_after v 64 (all_readings image (analysis word)))
   unfolding all_readings grammar_of
+  all_small (Verdict.refused k) r m = elim m [ ]
   all_small Verdict.accepted r m =
       let limits = (accepted_image image accepts).laid.limits in
       reading_small (grammar_of image) (omega (arith, limits.entries_most)) (omega (arith, limits.pairs_most)) r ((listing (grammar_of image) (query_of (analysis word))).only r (taken_from 64 (readings (grammar_of image) (query_of (analysis word))) r m)).0

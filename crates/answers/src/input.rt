@@ -11,14 +11,14 @@ use crate::line::Answered;
 use prepare::Prepared;
 
 // How far the input is read: bytes of the line begun that are kept, and where the text ends.
-#[derive(Drop)]
+#[derive(Clone, Copy)]
 pub struct Reached {
     pub kept: usize,
     pub end: usize,
 }
 
 // After a byte: how far the input is read, or that the byte ends a line that waits, and is not read.
-#[derive(Drop)]
+#[derive(Clone, Copy)]
 pub enum Onward {
     To(Reached),
     Waits,
@@ -69,7 +69,7 @@ fn read_byte(
 }
 
 // The same after some bytes of a chunk.
-#[derive(Drop)]
+#[derive(Clone, Copy)]
 pub struct Read {
     pub at: usize,
     pub reached: Reached,

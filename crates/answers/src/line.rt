@@ -30,7 +30,7 @@ fn told_rows(r: Reply) -> usize
 }
 
 // What an answer comes to: where the text put ends, or that the line waits.
-#[derive(Drop)]
+#[derive(Clone, Copy)]
 pub enum Answered {
     Put(usize),
     Waits,

@@ -1,11 +1,24 @@
 // The line program: words from standard input, a line of letter numbers each, by the grammar in grammar.img; the readings on standard output.
-fn main() {
+
+#![tactic(auto)]
+
+fn main(rt: HostRuntime) {
     let mut image = [0u8; 65537];
-    let n = moving::load_image(&mut image);
+    let n = moving::load_image(&rt, &mut image);
     let mut index = [0u8; 186112];
     let run = prepare::for_run(&image[..n], &mut index);
     let mut chunk = [0u8; 65536];
     let mut line = [0u8; 256];
     let mut out = [0u8; 65536];
-    steps::answer_input(&image[..n], &index, run, &mut chunk, &mut line, &mut out);
+    let mut input = rt.stdin();
+    steps::answer_input(
+        &rt,
+        &mut input,
+        &image[..n],
+        &index,
+        run,
+        &mut chunk,
+        &mut line,
+        &mut out,
+    );
 }

@@ -1,10 +1,13 @@
 // A line of letter numbers as a word: its fields, split by single spaces, and the number that each is.
+
+#![tactic(auto)]
+
 ghost use Rattle.std.specs.Prelude.{◌≡◌, List, ◌++◌, ◌∷◌, [], ℕ, ◌+◌, ◌-◌, ◌≤◌, ◌<◌, length, take, drop};
 ghost use Rattle.model.specs.Lines.{line_of};
 ghost use Rattle.parse.specs.Fields.{Begun, EndsField, ValueTold, line_after, word_after, line_with, letter_count};
 
 // The letters of a word in a lent buffer, or a line that holds none.
-#[derive(Drop)]
+#[derive(Clone, Copy)]
 pub enum Line {
     Letters(usize),
     Unread,

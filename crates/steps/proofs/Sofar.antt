@@ -2,12 +2,11 @@
 use Prim.Native.Nat.{ℕ, ◌+◌, ◌*◌, ◌-◌, ◌<◌, ◌≤◌, ◌^◌}
 use native.Mathlib.Omega.{arith}
 use mathlib.Core.Path.{◌≡◌, refl, sym, ap, ap₂, ◌∙◌, subst}
-use mathlib.Core.List.{List, [], ◌∷◌, ◌++◌, append_assoc, append-nil}
-use lib.ListN.{length, take, drop, length-append, length-take, length-drop, take-append-drop}
+use mathlib.Core.List.{List, [], ◌++◌, append_assoc, append-nil}
+use lib.ListN.{length, take, drop, length-append, length-drop, take-append-drop}
 use lib.Seq.{take_all, drop-drop, length-take-le, drop-append-le, take-append-le}
 use Rattle.model.specs.Lines.{printed}
 use Rattle.parse.specs.Fields.{Begun}
-use Rattle.print.specs.Text.{Put}
 use Rattle.moving.specs.declared.Count.{Count}
 use Rattle.steps.specs.declared.Stand.{Stand}
 use Rattle.answers.specs.Input.{begun_after, text_after, last_text}

@@ -37,7 +37,7 @@ pub record Sofar (image given handed chunk line : List ℕ) (s : Stand) : Type 0
   pub handed_count : s.handed.bytes ≡ length handed
 
 -- what a step does, whatever came in and went out before: what its read gave stands at the front of the chunk, and what it handed to its writes at
--- the front of `out`, as many bytes as C's calls told. After the last step all that was handed over is what the model prints for all that was given.
+-- the front of `out`, as many bytes as std's calls told. After the last step all that was handed over is what the model prints for all that was given.
 module _ (image chunk chunk' line line' out' : List ℕ) (s : Stand) where
   pub record WentOn (s' : Stand) : Type 0 where
     pub sofar : (given handed : List ℕ) → Sofar image given handed chunk line s

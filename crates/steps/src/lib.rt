@@ -1,4 +1,7 @@
 // The line program step by step: a chunk of the input taken in, its lines answered, the answers handed over, up to the end of the input.
+
+#![tactic(auto)]
+
 ghost use Rattle.std.specs.Prelude.{◌≡◌, List, ℕ, length};
 ghost use Rattle.image.specs.Header.{header_of};
 ghost use Rattle.grammar.specs.Answers.{verdict_of};
@@ -8,10 +11,11 @@ ghost use Rattle.steps.specs.Sofar.{Rooms, Within, Stepped, Ended};
 use answers::input::Reached;
 use moving::{Count, Given, Taken};
 use prepare::Prepared;
+use std::io::Read;
 
 // Where the program stands: how many bytes are kept of the line begun; the bytes of the chunk, from `at` to `n`, that are not answered yet; how many
 // bytes have come in and gone out.
-#[derive(Drop)]
+#[derive(Clone, Copy)]
 pub struct Stand {
     pub kept: usize,
     pub at: usize,
@@ -21,7 +25,7 @@ pub struct Stand {
 }
 
 // After a step: go on, all is answered, or a call failed.
-#[derive(Drop)]
+#[derive(Clone, Copy)]
 pub enum Step {
     On(Stand),
     Over(Count),
@@ -29,7 +33,8 @@ pub enum Step {
 }
 
 // Answers bytes of the chunk that wait, as many as `out` has room for and up to a line that is long to search, and hands the answers over.
-fn answer_part(
+fn answer_part<R: Print + Eprint>(
+    rt: &R,
     image: &[u8],
     index: &[u8],
     run: Prepared,
@@ -54,7 +59,7 @@ fn answer_part(
     let end = reached.end;
     let taken = s.taken;
     let handed = s.handed;
-    let given = moving::give(&out[..end], handed);
+    let given = moving::give(rt, &out[..end], handed);
     match given {
         Given::Failed => Step::Stopped,
         Given::All(count) => Step::On(Stand {
@@ -68,7 +73,8 @@ fn answer_part(
 }
 
 // Answers a last line without its end, where there is one.
-fn answer_last(
+fn answer_last<R: Print + Eprint>(
+    rt: &R,
     image: &[u8],
     index: &[u8],
     run: Prepared,
@@ -83,7 +89,7 @@ fn answer_last(
 {
     let end = answers::input::read_end(image, index, run, line, out, s.kept);
     let handed = s.handed;
-    let gone = moving::give(&out[..end], handed);
+    let gone = moving::give(rt, &out[..end], handed);
     match gone {
         Given::Failed => Step::Stopped,
         Given::All(count) => Step::Over(count),
@@ -91,7 +97,9 @@ fn answer_last(
 }
 
 // Where nothing waits: a chunk more, or at the end of the input the last line.
-fn take_chunk(
+fn take_chunk<R: Print + Eprint, I: Read>(
+    rt: &R,
+    input: &mut I,
     image: &[u8],
     index: &[u8],
     run: Prepared,
@@ -106,11 +114,11 @@ fn take_chunk(
     ensures { Stepped image.now chunk.old chunk.new line.now line.now out.new s result }
 {
     let before = s.taken;
-    let came = moving::take_in(chunk, before);
+    let came = moving::take_in(rt, input, chunk, before);
     match came {
         Taken::Failed => Step::Stopped,
         Taken::Nothing => Step::On(s),
-        Taken::End => answer_last(image, index, run, line, out, s),
+        Taken::End => answer_last(rt, image, index, run, line, out, s),
         Taken::Bytes(n, count) => {
             let handed = s.handed;
             Step::On(Stand {
@@ -124,7 +132,9 @@ fn take_chunk(
     }
 }
 
-fn turn(
+fn turn<R: Print + Eprint, I: Read>(
+    rt: &R,
+    input: &mut I,
     image: &[u8],
     index: &[u8],
     run: Prepared,
@@ -141,20 +151,22 @@ fn turn(
     let at = s.at;
     let n = s.n;
     if at < n {
-        return answer_part(image, index, run, chunk, line, out, s);
+        return answer_part(rt, image, index, run, chunk, line, out, s);
     }
-    take_chunk(image, index, run, chunk, line, out, s)
+    take_chunk(rt, input, image, index, run, chunk, line, out, s)
 }
 
 // How it ended: the whole input is answered, with the counts of what came in and went out, or a call failed.
-#[derive(Drop)]
+#[derive(Clone, Copy)]
 pub enum Ending {
     Whole(Count, Count),
     Cut,
 }
 
 // Step after step. Their number is bounded so that the program ends on every input, and so that no count of bytes passes 64 bits.
-pub fn answer_input(
+pub fn answer_input<R: Print + Eprint, I: Read>(
+    rt: &R,
+    input: &mut I,
     image: &[u8],
     index: &[u8],
     run: Prepared,
@@ -175,7 +187,7 @@ pub fn answer_input(
     };
     let mut left: u64 = 140737488355328;
     while left > 0 {
-        let step = turn(image, index, run, chunk, line, out, s);
+        let step = turn(rt, input, image, index, run, chunk, line, out, s);
         match step {
             Step::On(next) => {
                 s = next;
