@@ -1,7 +1,12 @@
 // The t:c table of source document 001 example 2.1 with its columns in each of their 24 orders: the judge's answers are the same.
+
+#![tactic(auto)]
+
 ghost use Rattle.std.specs.Prelude.{◌<◌, ◌+◌};
 
-use libc::STDOUT_FILENO;
+use std::fs::File;
+use std::io;
+use std::io::Read;
 
 // The image with bytes `at` and `at + by` exchanged.
 fn exchanged(image: [u8; 3072], at: usize, by: usize) -> [u8; 3072]
@@ -24,27 +29,26 @@ fn turned(image: [u8; 3072], c: usize) -> [u8; 3072]
     exchanged(row2, 1561 + c, 1)
 }
 
-fn print_side(side: u8) {
-    io::write_all(STDOUT_FILENO, b" ");
-    io::print_decimal(STDOUT_FILENO, side as u64);
+fn print_side<R: Print>(rt: &R, side: u8) -> io::Result<()> {
+    print!(rt; " {side}")
 }
 
 // The columns as they stand, lexical side and surface side.
-fn print_columns(image: [u8; 3072]) {
-    io::write_all(STDOUT_FILENO, b"columns");
-    print_side(image[1542]);
-    print_side(image[1543]);
-    print_side(image[1544]);
-    print_side(image[1545]);
-    print_side(image[1546]);
-    print_side(image[1547]);
-    print_side(image[1548]);
-    print_side(image[1549]);
-    io::write_all(STDOUT_FILENO, b"\n");
+fn print_columns<R: Print>(rt: &R, image: [u8; 3072]) -> io::Result<()> {
+    print!(rt; "columns")?;
+    print_side(rt, image[1542])?;
+    print_side(rt, image[1543])?;
+    print_side(rt, image[1544])?;
+    print_side(rt, image[1545])?;
+    print_side(rt, image[1546])?;
+    print_side(rt, image[1547])?;
+    print_side(rt, image[1548])?;
+    print_side(rt, image[1549])?;
+    println!(rt;)
 }
 
 // The judgements on t:c i:i, t:t i:i, t:c alone and t:t alone, once the image is sealed.
-fn print_answers(image: [u8; 3072]) {
+fn print_answers<R: Print>(rt: &R, image: [u8; 3072]) -> io::Result<()> {
     let mut sealed = image;
     image::seal::seal(&mut sealed);
     let ti = [0u8, 0u8];
@@ -53,47 +57,41 @@ fn print_answers(image: [u8; 3072]) {
     let tt_i = [1u8, 2u8];
     let tc = [0u8];
     let tt = [1u8];
-    print_columns(sealed);
-    show::print_judgement(judge::judge(&sealed, &ti, &tc_i));
-    show::print_judgement(judge::judge(&sealed, &ti, &tt_i));
-    show::print_judgement(judge::judge(&sealed, &t, &tc));
-    show::print_judgement(judge::judge(&sealed, &t, &tt));
+    print_columns(rt, sealed)?;
+    show::print_judgement(rt, judge::judge(&sealed, &ti, &tc_i))?;
+    show::print_judgement(rt, judge::judge(&sealed, &ti, &tt_i))?;
+    show::print_judgement(rt, judge::judge(&sealed, &t, &tc))?;
+    show::print_judgement(rt, judge::judge(&sealed, &t, &tt))
 }
 
 // The next order, printed.
-fn next(image: [u8; 3072], c: usize) -> [u8; 3072]
+fn next<R: Print>(rt: &R, image: [u8; 3072], c: usize) -> io::Result<[u8; 3072]>
     requires { c < 3 }
 {
     let other = turned(image, c);
-    print_answers(other);
-    other
+    print_answers(rt, other)?;
+    Ok(other)
 }
 
 // The four orders in which one column goes through the others.
-fn pass(image: [u8; 3072], a: usize, b: usize, c: usize) -> [u8; 3072]
+fn pass<R: Print>(rt: &R, image: [u8; 3072], a: usize, b: usize, c: usize) -> io::Result<[u8; 3072]>
     requires { (a < 3) × (b < 3) × (c < 3) }
 {
-    let first = next(image, a);
-    let second = next(first, b);
-    next(second, c)
+    let first = next(rt, image, a)?;
+    let second = next(rt, first, b)?;
+    next(rt, second, c)
 }
 
 // Each order differs from the one before by an exchange of two neighbours.
-fn main() {
+fn main(rt: HostRuntime) -> io::Result<()> {
     let mut image = [0u8; 3072];
-    let path = b"tc.img";
-    let file = os::open_read(path);
-    if file < 0 {
-        os::fail(path);
-        return;
-    }
-    io::read_full(file, &mut image);
-    libc::close(file);
-    print_answers(image);
-    let six1 = next(pass(image, 2, 1, 0), 2);
-    let six2 = next(pass(six1, 0, 1, 2), 0);
-    let six3 = next(pass(six2, 2, 1, 0), 2);
-    let six4 = next(pass(six3, 0, 1, 2), 0);
-    let six5 = next(pass(six4, 2, 1, 0), 2);
-    pass(six5, 0, 1, 2);
+    File::open(&rt, "tc.img")?.read_exact(&mut image)?;
+    print_answers(&rt, image)?;
+    let six1 = next(&rt, pass(&rt, image, 2, 1, 0)?, 2)?;
+    let six2 = next(&rt, pass(&rt, six1, 0, 1, 2)?, 0)?;
+    let six3 = next(&rt, pass(&rt, six2, 2, 1, 0)?, 2)?;
+    let six4 = next(&rt, pass(&rt, six3, 0, 1, 2)?, 0)?;
+    let six5 = next(&rt, pass(&rt, six4, 2, 1, 0)?, 2)?;
+    pass(&rt, six5, 0, 1, 2)?;
+    Ok(())
 }

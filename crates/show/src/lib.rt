@@ -1,35 +1,26 @@
 // A verdict or a judgement on standard output, in document 01's words.
+
+#![tactic(auto)]
+
 use grammar::Verdict;
 use judge::Judgement;
-use libc::STDOUT_FILENO;
+use std::io;
 
-fn print_refused(k: u8) {
-    io::write_all(STDOUT_FILENO, b"refused ");
-    io::print_decimal(STDOUT_FILENO, k as u64);
-    io::write_all(STDOUT_FILENO, b"\n");
+fn print_refused<R: Print>(rt: &R, k: u8) -> io::Result<()> {
+    println!(rt; "refused {k}")
 }
 
-pub fn print_verdict(v: Verdict) {
+pub fn print_verdict<R: Print>(rt: &R, v: Verdict) -> io::Result<()> {
     match v {
-        Verdict::Accepted => {
-            io::write_all(STDOUT_FILENO, b"accepted\n");
-        }
-        Verdict::Refused(k) => {
-            print_refused(k);
-        }
+        Verdict::Accepted => println!(rt; "accepted"),
+        Verdict::Refused(k) => print_refused(rt, k),
     }
 }
 
-pub fn print_judgement(j: Judgement) {
+pub fn print_judgement<R: Print>(rt: &R, j: Judgement) -> io::Result<()> {
     match j {
-        Judgement::Holds => {
-            io::write_all(STDOUT_FILENO, b"holds\n");
-        }
-        Judgement::Fails => {
-            io::write_all(STDOUT_FILENO, b"fails\n");
-        }
-        Judgement::Refused(k) => {
-            print_refused(k);
-        }
+        Judgement::Holds => println!(rt; "holds"),
+        Judgement::Fails => println!(rt; "fails"),
+        Judgement::Refused(k) => print_refused(rt, k),
     }
 }
