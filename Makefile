@@ -6,7 +6,7 @@ PREFIX = /usr/local
 
 run:
 	@tools/need rt cargo cc
-	@tools/prove lines check_image headwords
+	@tools/prove lines check_image
 	@tools/command
 	@target/cargo/release/headwords read grammars/spanish.txt luz luces luzes rey reyes
 

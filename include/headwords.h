@@ -117,8 +117,9 @@ uint64_t headwords_analyse(const uint8_t *image, size_t image_length, const uint
  *     // 4 * 2 + 1; replies[0] is 4 * 1 + 1, with row 0; replies[1] is 4 * 2 + 1, with rows 8 and 9
  *
  * Image and lexicon are gone through once a call, and with more than a few words in such a way that each opens few entries:
- * by the Spanish sample and 1,000 words a call a word with a reading takes 9,300 instructions, where headwords_analyse takes
- * 440,000. A call of one word costs what headwords_analyse does. A word that is long to search holds up all others. */
+ * by the Spanish sample and 1,000 words a call a word with a reading took 9,300 instructions, where headwords_analyse took
+ * 440,000, on a build by an older Rattle. A call of one word costs what headwords_analyse does. A word that is long to search
+ * holds up all others. */
 uint64_t headwords_analyse_words(const uint8_t *image, size_t image_length, const uint8_t *words, size_t words_length, uint8_t *replies, size_t replies_length, uint8_t *rows, size_t rows_length);
 
 /* The letters of a word as it is written, which is given as code points, two bytes each, the low byte first.
