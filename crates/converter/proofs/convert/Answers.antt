@@ -78,10 +78,10 @@ pub block_total-total-requires : goal.block_total-total-requires
 block_total-total-requires c = subst Counted (sym c.other_header-o.ensures) (other_counted _ (read_laid (goal.at.block_total-total-requires c).After-read_header-h).limits)
 
 module _ (c : After-block_total-total) where
-  total_is : c.block_total-total.result ≡ converted_blocks (image c.before.before.before.before.before.before)
+  total_is : c.block_total-total.result ≡ converted_blocks c.args.image.now
   total_is = c.block_total-total.ensures ∙ ap block_total (o_is c.before.before)
 
-  one_way : one_ways (image c.before.before.before.before.before.before) ≡ true
+  one_way : one_ways c.args.image.now ≡ true
   one_way = fifteen c.before.before.before
 
 pub returns-then-total-gt128 : goal.returns-then-total-gt128

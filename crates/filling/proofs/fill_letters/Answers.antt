@@ -20,6 +20,10 @@ Plain-After-fill_rows = lts.After-fill_rows tie.the-claims reads.Pre reads.Post 
 abbrev Plain-After-fill_flags : Type 0
 Plain-After-fill_flags = lts.After-fill_flags tie.the-claims reads.Pre reads.Post tie.handed_clauses
 
+-- from a place to the ones before it
+abbrev fill_flags_from_fill_order : After-fill_order → Plain-After-fill_flags
+fill_flags_from_fill_order c = let half = c.before.before.before.before in half.before
+
 -- how far the parts reach
 most : (k : ℕ) → T (leb k 146688) → k ≤ 146688
 most k t = leb→le k 146688 t
@@ -53,13 +57,13 @@ abbrev order : After-fill_order → List ℕ
 order c = c.fill_order.new.row
 
 abbrev out3 : After-fill_order → List ℕ
-out3 c = put_mid 31104 128 (out2 c.before.before.before.before.before) (order c)
+out3 c = put_mid 31104 128 (out2 (fill_flags_from_fill_order c)) (order c)
 
-put3 : (c : After-fill_order) → Put (out2 c.before.before.before.before.before) (out3 c) 31104 128 (order c)
-put3 c = put_part (out2 c.before.before.before.before.before) (order c) 31104 128 (fits (31104 + 128) (long2 c.before.before.before.before.before) (most (31104 + 128) tt)) c.fill_order.ensures.long
+put3 : (c : After-fill_order) → Put (out2 (fill_flags_from_fill_order c)) (out3 c) 31104 128 (order c)
+put3 c = put_part (out2 (fill_flags_from_fill_order c)) (order c) 31104 128 (fits (31104 + 128) (long2 (fill_flags_from_fill_order c)) (most (31104 + 128) tt)) c.fill_order.ensures.long
 
 long3 : (c : After-fill_order) → length (out3 c) ≡ 146688
-long3 c = (put3 c).long ∙ long2 c.before.before.before.before.before
+long3 c = (put3 c).long ∙ long2 (fill_flags_from_fill_order c)
 
 pub returns : goal.returns
 returns c =

@@ -27,6 +27,16 @@ Plain-After-share = lts.After-share tie.the-claims reads.Pre reads.Post tie.hand
 abbrev Plain-After-fill_skips : Type 0
 Plain-After-fill_skips = lts.After-fill_skips tie.the-claims reads.Pre reads.Post tie.handed_clauses
 
+-- from a place to the ones before it
+abbrev hold_from_fill_skips : Plain-After-fill_skips → Plain-After-hold
+hold_from_fill_skips c = let half = c.before.before.before.before in let later = half.before.before.before.before in later.before
+
+abbrev fill_skips_from_copy : After-copy → Plain-After-fill_skips
+fill_skips_from_copy c = let half = c.before.before.before.before in half.before.before
+
+abbrev share_from_copy : After-copy → Plain-After-share
+share_from_copy c = let half = c.before.before.before.before in let later = half.before.before.before.before in later.before.before
+
 -- how far the parts reach
 most : (k : ℕ) → T (leb k 146688) → k ≤ 146688
 most k t = leb→le k 146688 t
@@ -51,16 +61,16 @@ abbrev skips : Plain-After-fill_skips → List ℕ
 skips c = c.fill_skips.new.skips
 
 abbrev out2 : Plain-After-fill_skips → List ℕ
-out2 c = put_mid 79104 67584 (out1 c.before.before.before.before.before.before.before.before.before) (skips c)
+out2 c = put_mid 79104 67584 (out1 (hold_from_fill_skips c)) (skips c)
 
-put2 : (c : Plain-After-fill_skips) → Put (out1 c.before.before.before.before.before.before.before.before.before) (out2 c) 79104 67584 (skips c)
-put2 c = put_part (out1 c.before.before.before.before.before.before.before.before.before) (skips c) 79104 67584 (fits (79104 + 67584) (long1 c.before.before.before.before.before.before.before.before.before) (most (79104 + 67584) tt)) c.fill_skips.ensures.long
+put2 : (c : Plain-After-fill_skips) → Put (out1 (hold_from_fill_skips c)) (out2 c) 79104 67584 (skips c)
+put2 c = put_part (out1 (hold_from_fill_skips c)) (skips c) 79104 67584 (fits (79104 + 67584) (long1 (hold_from_fill_skips c)) (most (79104 + 67584) tt)) c.fill_skips.ensures.long
 
 long2 : (c : Plain-After-fill_skips) → length (out2 c) ≡ 146688
-long2 c = (put2 c).long ∙ long1 c.before.before.before.before.before.before.before.before.before
+long2 c = (put2 c).long ∙ long1 (hold_from_fill_skips c)
 
-put3 : (c : After-copy) → Put (out2 c.before.before.before.before.before.before) c.copy.new.target 31232 2816 (shared c.before.before.before.before.before.before.before.before.before.before)
-put3 c = put_copied (shared c.before.before.before.before.before.before.before.before.before.before) (out2 c.before.before.before.before.before.before) c.copy.new.target 31232 2816 c.share.ensures.neighbours.long (fits (31232 + 2816) (long2 c.before.before.before.before.before.before) (most (31232 + 2816) tt)) c.copy.ensures
+put3 : (c : After-copy) → Put (out2 (fill_skips_from_copy c)) c.copy.new.target 31232 2816 (shared (share_from_copy c))
+put3 c = put_copied (shared (share_from_copy c)) (out2 (fill_skips_from_copy c)) c.copy.new.target 31232 2816 c.share.ensures.neighbours.long (fits (31232 + 2816) (long2 (fill_skips_from_copy c)) (most (31232 + 2816) tt)) c.copy.ensures
 
 few : {image : List ℕ} {h : Header} → Accepted image h → h.entries ≤ 2816
 few a = omega (arith, a.laid.limits.entries_most)

@@ -31,6 +31,10 @@ Plain-After-lowest-x = lts.After-lowest tie.the-claims reads.Pre reads.Post goal
 abbrev Plain-After-slice_known-in-loop-rest-1 : Type 0
 Plain-After-slice_known-in-loop-rest-1 = lts.After-slice_known2 tie.the-claims reads.Pre reads.Post goal.the-invariant-loop-rest goal.the-decreases-loop-rest tie.handed_clauses
 
+-- from a place to the ones before it
+abbrev lowest_x_from_many_eq65 : Else-many-eq65 → Plain-After-lowest-x
+lowest_x_from_many_eq65 c = let half = c.before.before.before.before in let later = half.before.before.before.before in later.before.before
+
 -- one position
 one_at : (i : ℕ) → i ≤ 32 → (1 * 2 ^ i) % 2 ^ 64 ≡ 2 ^ i
 one_at i h = shl_exact {a = 1} 1 i 64 (lit< tt) (omega arith) ∙ omega arith
@@ -117,10 +121,10 @@ module _ (c : Else-many-eq65) where
   many = c.among-many.result
 
   fits : many ≤ length c.args.list.now - c.loop-rest.n
-  fits = omega (arith, ⊎_elim (λ e. absurd (c.if-many-eq65.false e)) (λ r. r.0) c.among-many.ensures, room_is c.before.before.before.before.before.before.before.before.before.before)
+  fits = omega (arith, ⊎_elim (λ e. absurd (c.if-many-eq65.false e)) (λ r. r.0) c.among-many.ensures, room_is (lowest_x_from_many_eq65 c))
 
   part_long : length (part c.before.before) ≡ length c.args.list.now - c.loop-rest.n
-  part_long = c.among-many.auto.list ∙ room_is c.before.before.before.before.before.before.before.before.before.before
+  part_long = c.among-many.auto.list ∙ room_is (lowest_x_from_many_eq65 c)
 
   within : c.loop-rest.n + many ≤ length c.args.list.now
   within = omega (arith, fits, c.loop-rest.invariant.1.0)
@@ -146,12 +150,12 @@ module _ (c : Else-many-eq65) where
   left : Left ((1 * 2 ^ c.args.letters) % 2 ^ 64) → Left (2 ^ c.args.letters)
   left = subst Left (one_at c.args.letters c.requires.known.1.0)
 
-  grown : Chosen (c.loop-rest.rest - 2 ^ x c.before.before.before.before.before.before.before.before.before.before) (take c.loop-rest.n c.loop-rest.list ++ take many (part c.before.before))
+  grown : Chosen (c.loop-rest.rest - 2 ^ c.lowest-x.result) (take c.loop-rest.n c.loop-rest.list ++ take many (part c.before.before))
   grown =
       let a = c.args in
       let range = c.lexicon_range-range in
       choosing_more a.image.now a.masks.now (flags_in a.forms.now) a.reach.now (2 ^ a.letters) a.bits c.loop-rest.rest (take c.loop-rest.n c.loop-rest.list)
-      c.loop-rest.invariant.1.1 (known c.before.before.before.before.before.before.before.before.before.before) (x c.before.before.before.before.before.before.before.before.before.before)
+      c.loop-rest.invariant.1.1 (known (lowest_x_from_many_eq65 c)) c.lowest-x.result
       c.lowest-x.ensures.0 range.result.low range.result.high range.ensures.0 range.ensures.1 (take many (part c.before.before))
       (left (⊎_elim (λ e. absurd (c.if-many-eq65.false e)) (λ r. r.1) c.among-many.ensures))
 

@@ -24,6 +24,10 @@ Plain-At-loop-i = lts.At-loop tie.the-claims reads.Pre reads.Post goal.the-invar
 abbrev Plain-In-loop-i : Type 0
 Plain-In-loop-i = lts.In-loop tie.the-claims reads.Pre reads.Post goal.the-invariant-loop-i goal.the-decreases-loop-i tie.handed_clauses
 
+-- from a place to the ones before it
+abbrev loop_i_from_answer_word : After-answer_word → Plain-In-loop-i
+loop_i_from_answer_word c = let half = c.before.before.before.before in half.before
+
 module _ (c : Plain-At-loop-i) where
   abbrev image : List ℕ
   image = c.args.image.now
@@ -135,23 +139,23 @@ module _ (c : After-answer_word) where
   new_rows = c.answer_word.new.share
 
   -- by the record and the share that were lent
-  answered : (f : List ℕ → List ℕ → List ℕ) → f (take (33 * i c.before.before.before.before.before.before + 33 - 33 * i c.before.before.before.before.before.before) (drop (33 * i c.before.before.before.before.before.before) (words c.before.before.before.before.before.before))) (take (to c.before.before.before.before.before - c.loop-i.from) (drop c.loop-i.from c.loop-i.out)) ≡ f (part 33 (words c.before.before.before.before.before.before) (i c.before.before.before.before.before.before)) (part (116 * share c.before.before.before.before.before.before) (out c.before.before.before.before.before.before) (i c.before.before.before.before.before.before))
-  answered f = ap₂ f (lent_record c.before.before.before.before.before) (lent_rows c.before.before.before.before.before)
+  answered : (f : List ℕ → List ℕ → List ℕ) → f (take (33 * c.loop-i.i + 33 - 33 * c.loop-i.i) (drop (33 * c.loop-i.i) c.args.words.now)) (take ((c.loop-i.from + 116 * c.args.share) - c.loop-i.from) (drop c.loop-i.from c.loop-i.out)) ≡ f (part 33 c.args.words.now c.loop-i.i) (part (116 * c.args.share) c.args.out.now c.loop-i.i)
+  answered f = ap₂ f (lent_record (loop_i_from_answer_word c)) (lent_rows (loop_i_from_answer_word c))
 
-  place_is : new_place ≡ place c.before.before.before.before.before.before (i c.before.before.before.before.before.before)
+  place_is : new_place ≡ (place_at c.args.image.now c.args.words.now c.args.share) c.loop-i.i
   place_is =
       c.answer_word.ensures.reply
-      ∙ answered (λ asked share. low_first 8 (reply_number (record_reply (image c.before.before.before.before.before.before) asked (row_count share))))
-      ∙ ap (λ (k : ℕ). low_first 8 (reply_number (record_reply (image c.before.before.before.before.before.before) (part 33 (words c.before.before.before.before.before.before) (i c.before.before.before.before.before.before)) k))) (some_rows c.before.before.before.before.before)
+      ∙ answered (λ asked share. low_first 8 (reply_number (record_reply c.args.image.now asked (row_count share))))
+      ∙ ap (λ (k : ℕ). low_first 8 (reply_number (record_reply c.args.image.now (part 33 c.args.words.now c.loop-i.i) k))) (some_rows (loop_i_from_answer_word c))
 
-  rows_are : new_rows ≡ rows c.before.before.before.before.before.before (i c.before.before.before.before.before.before)
-  rows_are = c.answer_word.ensures.bytes ∙ answered (λ asked share. after_record (image c.before.before.before.before.before.before) asked share)
+  rows_are : new_rows ≡ (share_at c.args.image.now c.args.words.now c.args.share c.args.out.now) c.loop-i.i
+  rows_are = c.answer_word.ensures.bytes ∙ answered (λ asked share. after_record c.args.image.now asked share)
 
   place_kept : length new_place ≡ 8
-  place_kept = c.answer_word.auto.place ∙ ap length (lent_place c.before.before.before.before.before) ∙ long_place c.before.before.before.before.before
+  place_kept = c.answer_word.auto.place ∙ ap length (lent_place (loop_i_from_answer_word c)) ∙ long_place (loop_i_from_answer_word c)
 
-  rows_kept : length new_rows ≡ 116 * share c.before.before.before.before.before.before
-  rows_kept = c.answer_word.auto.share ∙ ap length (lent_rows c.before.before.before.before.before) ∙ long_rows c.before.before.before.before.before
+  rows_kept : length new_rows ≡ 116 * c.args.share
+  rows_kept = c.answer_word.auto.share ∙ ap length (lent_rows (loop_i_from_answer_word c)) ∙ long_rows (loop_i_from_answer_word c)
 
 pub loop-i-preserved : goal.loop-i-preserved
 loop-i-preserved c =

@@ -33,11 +33,11 @@ module _ (c : Start) where
 
 -- test 9 has passed
 module _ (c : Else-not-right_count) where
-  passed : test9 (image c.before.before.before.before.before.before) (points c.before.before.before.before.before.before) (out c.before.before.before.before.before.before) ≡ true
+  passed : test9 c.args.image.now c.args.points.now c.args.out.now ≡ true
   passed = sym c.right_count.ensures ∙ c.if-not-right_count.false
 
-  few : length (points c.before.before.before.before.before.before) / 2 ≤ 32
-  few = let n = length (points c.before.before.before.before.before.before) in (within_out 1 32 (n / 2) (and_out (eqb (n % 2) 0) (within 1 32 (n / 2)) (of_true (test9 (image c.before.before.before.before.before.before) (points c.before.before.before.before.before.before) (out c.before.before.before.before.before.before)) passed)).1).1
+  few : length c.args.points.now / 2 ≤ 32
+  few = let n = length c.args.points.now in (within_out 1 32 (n / 2) (and_out (eqb (n % 2) 0) (within 1 32 (n / 2)) (of_true (test9 c.args.image.now c.args.points.now c.args.out.now) passed)).1).1
 
 pub returns-then-not-right_count : goal.returns-then-not-right_count
 returns-then-not-right_count c =
@@ -62,11 +62,11 @@ module _ (c : After-spell_points) where
   abbrev found : List ℕ
   found = c.spell_points.new.word
 
-  found_is : found ≡ spelled c.before.before.before.before.before.before.before.before.before
+  found_is : found ≡ (word_spelled c.args.image.now c.args.points.now)
   found_is = c.spell_points.ensures.letters
 
-  found_long : length found ≡ length (points c.before.before.before.before.before.before.before.before.before) / 2
-  found_long = ap length found_is ∙ spelled_length (image c.before.before.before.before.before.before.before.before.before) (points c.before.before.before.before.before.before.before.before.before)
+  found_long : length found ≡ length c.args.points.now / 2
+  found_long = ap length found_is ∙ spelled_length c.args.image.now c.args.points.now
 
 pub slice_bounds-hand_over-end : goal.slice_bounds-hand_over-end
 slice_bounds-hand_over-end c = word_within (found (goal.at.slice_bounds-hand_over-end c).After-spell_points) _ _ (found_long (goal.at.slice_bounds-hand_over-end c).After-spell_points)

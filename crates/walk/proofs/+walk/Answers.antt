@@ -88,6 +88,28 @@ Plain-pair_each-After-candidate_count-many t = pair_each-lts.After-candidate_cou
 abbrev Plain-pair_each-In-loop-k : ℕ → Type 0
 Plain-pair_each-In-loop-k t = pair_each-lts.In-loop (goes_on-reads.Asked, goes_on-reads.Learnt, goal.open-below t, open-reads.Post, put_ended-reads.Asked, put_ended-reads.Learnt, next_letter-reads.Asked, next_letter-reads.Learnt, candidate_count-reads.Asked, candidate_count-reads.Learnt, candidate-reads.Asked, candidate-reads.Learnt, take-reads.Asked, take-reads.Learnt, goal.pair-below t, pair-reads.Post) (goal.pair_each-at t) pair_each-reads.Post goal.the-pair_each-invariant-loop-k goal.the-pair_each-decreases-loop-k (goal.the-clauses-pair_each t)
 
+-- from a place to the ones before it
+abbrev open_each_start_from_first_letter_letter : (t : ℕ) → Plain-open_each-After-first_letter-letter t → open_each-Start t
+open_each_start_from_first_letter_letter t c = let half = c.before.before.before.before in let later = half.before.before.before.before in let next = later.before.before.before.before in next.before.before.before
+
+abbrev open_each_start_from_loop_e : (t : ℕ) → open_each-In-loop-e t → open_each-Start t
+open_each_start_from_loop_e t c = let half = c.before.before.before.before in let later = half.before.before.before.before in let next = later.before.before.before.before in next.before.before.before
+
+abbrev open_listed_start_from_loop_k : (t : ℕ) → Plain-open_listed-In-loop-k t → open_listed-Start t
+open_listed_start_from_loop_k t c = let half = c.before.before.before.before in let later = half.before.before.before.before in later.before.before.before.before
+
+abbrev open_listed_loop_k_from_pair_n : (t : ℕ) → open_listed-After-pair-n t → Plain-open_listed-In-loop-k t
+open_listed_loop_k_from_pair_n t c = let half = c.before.before.before.before in half.before.before
+
+abbrev open_listed_start_from_pair_n : (t : ℕ) → open_listed-After-pair-n t → open_listed-Start t
+open_listed_start_from_pair_n t c = let half = c.before.before.before.before in let later = half.before.before.before.before in let next = later.before.before.before.before in let earlier = next.before.before.before.before in earlier.before.before
+
+abbrev pair_start_from_pair_each_n : (t : ℕ) → pair-After-pair_each-n t → pair-Start t
+pair_start_from_pair_each_n t c = let half = c.before.before.before.before in let later = half.before.before.before.before in let next = later.before.before.before.before in let earlier = next.before.before.before.before in let first = earlier.before.before.before.before in first.before.before.before.before
+
+abbrev pair_each_place_from_candidate_count_many : (t : ℕ) → pair_each-After-candidate_count-many t → Plain-pair_each-Joined-place t
+pair_each_place_from_candidate_count_many t c = let half = c.before.before.before.before in half.before
+
 -- `open`: Where the path may end, that is offered first; then all entries that may open are, or those that the filter leaves.
 
 abbrev open_query : (t : ℕ) → open-Start t → Query
@@ -259,7 +281,7 @@ open_each-first_letter-letter-requires t c = record { accepted = (open_each_open
 
 -- what is known of its first letter
 open_each_letter_few : (t : ℕ) → (c : Plain-open_each-After-first_letter-letter t) → c.first_letter-letter.result.0 < 128
-open_each_letter_few t c = omega (arith, c.first_letter-letter.ensures.1, (open_each_opening t c.before.before.before.before.before.before.before.before.before.before.before.before.before.before.before).underway.accepted.laid.limits.letters_most)
+open_each_letter_few t c = omega (arith, c.first_letter-letter.ensures.1, (open_each_opening t (open_each_start_from_first_letter_letter t c)).underway.accepted.laid.limits.letters_most)
 
 pub open_each-bounds-known-at : goal.open_each-bounds-known-at
 open_each-bounds-known-at t c = open_each_letter_few t (goal.at.open_each-bounds-known-at t c).After-first_letter-letter.before
@@ -314,7 +336,7 @@ open_each_longer : (t : ℕ) → (c : open_each-In-loop-e t) → let a = c.args 
     }) (with_entry (reading_of
     a.trail) e) (a.trail.entries + 1) a.trail.pairs
 open_each_longer t c =
-    let o = open_each_opening t c.before.before.before.before.before.before.before.before.before.before.before.before.before.before.before in
+    let o = open_each_opening t (open_each_start_from_loop_e t c) in
     let a = c.args in
     let good = c.well_formed.1.1.1.1.1.1.1.1.1.1.0 in
     let spare = o.spare in
@@ -421,7 +443,7 @@ open_listed_named t c = get_or-take c.args.many c.args.list.now c.loop-k.k 0 c.l
 open_listed_may : (t : ℕ) → (c : Plain-open_listed-In-loop-k t) → let a = c.args in (open_listed_number t c < a.h.entries) × (may_enter a.image.now (query_by c.args.asked c.args.path.now c.args.word.now).entries a.place.last a.trail.entries (open_listed_number t c) ≡ true)
 open_listed_may t c =
     let a = c.args in
-    let m = c.requires.many_bound.1.may c.loop-k.k (omega (arith, c.loop-k-test.true, open_listed_many_are t c.before.before.before.before.before.before.before.before.before.before.before.before)) in
+    let m = c.requires.many_bound.1.may c.loop-k.k (omega (arith, c.loop-k-test.true, open_listed_many_are t (open_listed_start_from_loop_k t c))) in
     let n = open_listed_named t c in
     (omega (arith, m.0, n, ap (λ (g : Header). g.entries) c.requires.underway.accepted.laid.header_is), ap (may_enter a.image.now (query_by c.args.asked c.args.path.now c.args.word.now).entries a.place.last a.trail.entries) (sym n) ∙ m.1)
 
@@ -467,7 +489,7 @@ open_listed-overflow_add-longer t c = omega (arith, (open_listed_opening t (goal
 open_listed_longer : (t : ℕ) → (c : Plain-open_listed-In-loop-k t) → let a = c.args in let e = open_listed_number t c in
     Holds (record { path = set a.trail.path a.trail.entries e; entries = a.trail.entries + 1; pairing = a.trail.pairing; pairs = a.trail.pairs }) (with_entry (reading_of a.trail) e) (a.trail.entries + 1) a.trail.pairs
 open_listed_longer t c =
-    let o = open_listed_opening t c.before.before.before.before.before.before.before.before.before.before.before.before in
+    let o = open_listed_opening t (open_listed_start_from_loop_k t c) in
     let a = c.args in
     let good = c.well_formed.1.1.1.1.1.1.1.1.1.1.0 in
     let spare = o.spare in
@@ -488,10 +510,10 @@ open_listed-pair-n-requires t c =
 abbrev open_listed_f : (t : ℕ) → open_listed-After-pair-n t → ℕ → List Reading
 open_listed_f t m = let a = m.args in λ i. entry_one a.image.now (query_by m.args.asked m.args.path.now m.args.word.now) a.place a.trail (get_or (take a.many a.list.now) i 0)
 
-open_listed_turned : (t : ℕ) → (m : open_listed-After-pair-n t) → let a = m.args in found_at a.image.now (query_by m.args.asked m.args.path.now m.args.word.now) m.enter-next.result (record { path = set a.trail.path a.trail.entries (open_listed_number t m.before.before.before.before.before.before); entries = a.trail.entries + 1; pairing = a.trail.pairing; pairs = a.trail.pairs }) ≡ open_listed_f t m m.loop-k.k
+open_listed_turned : (t : ℕ) → (m : open_listed-After-pair-n t) → let a = m.args in found_at a.image.now (query_by m.args.asked m.args.path.now m.args.word.now) m.enter-next.result (record { path = set a.trail.path a.trail.entries (open_listed_number t (open_listed_loop_k_from_pair_n t m)); entries = a.trail.entries + 1; pairing = a.trail.pairing; pairs = a.trail.pairs }) ≡ open_listed_f t m m.loop-k.k
 open_listed_turned t m =
     let a = m.args in
-    open_turn (open_listed_opening t m.before.before.before.before.before.before.before.before.before.before.before.before.before.before.before.before.before.before) (open_listed_number t m.before.before.before.before.before.before) (open_listed_longer t m.before.before.before.before.before.before) m.enter-next.result m.enter-next.ensures.go (query_by m.args.asked m.args.path.now m.args.word.now) (open_listed_may t m.before.before.before.before.before.before).1 ∙ ap (entry_one a.image.now (query_by m.args.asked m.args.path.now m.args.word.now) a.place a.trail) (sym (open_listed_named t m.before.before.before.before.before.before))
+    open_turn (open_listed_opening t (open_listed_start_from_pair_n t m)) (open_listed_number t (open_listed_loop_k_from_pair_n t m)) (open_listed_longer t (open_listed_loop_k_from_pair_n t m)) m.enter-next.result m.enter-next.ensures.go (query_by m.args.asked m.args.path.now m.args.word.now) (open_listed_may t (open_listed_loop_k_from_pair_n t m)).1 ∙ ap (entry_one a.image.now (query_by m.args.asked m.args.path.now m.args.word.now) a.place a.trail) (sym (open_listed_named t (open_listed_loop_k_from_pair_n t m)))
 
 open_listed_done : (t : ℕ) → (m : open_listed-After-pair-n t) → let a = m.args in
     Offered a.capacity (m.loop-k.out, m.loop-k.n) (open_listed_f t m m.loop-k.k) (m.pair-n.new.out, m.pair-n.result) (length a.table.now)
@@ -584,7 +606,7 @@ pair-pair_each-n-requires t c =
 -- what was to be found has been offered
 pair_found_there : (t : ℕ) → (made : pair-After-pair_each-n t) → let a = made.args in
     Offered a.capacity (a.out.now, a.found) (found_at a.image.now (query_by made.args.asked made.args.path.now made.args.word.now) a.place a.trail) (made.pair_each-n.new.out, made.pair_each-n.result) (length a.table.now)
-pair_found_there t made = offered_same ((made.lead-led.ensures (pair_path t made.before.before.before.before.before.before.before.before.before.before.before.before.before.before.before.before.before.before.before.before.before.before.before.before)).goes made.if-over.false) made.count.auto.table made.pair_each-n.ensures.rows
+pair_found_there t made = offered_same ((made.lead-led.ensures (pair_path t (pair_start_from_pair_each_n t made))).goes made.if-over.false) made.count.auto.table made.pair_each-n.ensures.rows
 
 -- nothing was found
 pub pair-remember-requires : goal.pair-remember-requires
@@ -701,13 +723,13 @@ pair_each-loop-k-init t c = ((refl, c.requires.in_bounds.1), (search rules, ((re
 
 -- what the candidates offer comes after it
 pair_each_whole : (t : ℕ) → (w : pair_each-After-candidate_count-many t) {state : List ℕ × ℕ} {places : ℕ} →
-    Offered w.args.capacity (w.if-place.out, w.if-place.n) (flat_map (candidate_one w.args.image.now (query_by w.args.asked w.args.path.now w.args.word.now) (pair_each_here t w.before.before.before.before.before) w.args.trail (pair_each_letter t w.before)) (below (length (candidates w.args.image.now (pair_each_letter t w.before))))) state places
+    Offered w.args.capacity (w.if-place.out, w.if-place.n) (flat_map (candidate_one w.args.image.now (query_by w.args.asked w.args.path.now w.args.word.now) (pair_each_here t (pair_each_place_from_candidate_count_many t w)) w.args.trail (pair_each_letter t w.before)) (below (length (candidates w.args.image.now (pair_each_letter t w.before))))) state places
     → Offered w.args.capacity (w.args.out.now, w.args.found) (found_at w.args.image.now (query_by w.args.asked w.args.path.now w.args.word.now) w.args.place w.args.trail) state places
 pair_each_whole t w o =
-    let same = (pair_each_settled t w.before.before.before.before.before).same (query_by w.args.asked w.args.path.now w.args.word.now) in
+    let same = (pair_each_settled t (pair_each_place_from_candidate_count_many t w)).same (query_by w.args.asked w.args.path.now w.args.word.now) in
     ⊎_elim
-    (λ e. inl (pair_offered (pair_each_pairing t w.before) (query_by w.args.asked w.args.path.now w.args.word.now) (put w.args.capacity) (w.args.out.now, w.args.found) (pair_each_ending t w.before.before.before.before.before) e ∙ ap (offer_all (put w.args.capacity) (w.args.out.now, w.args.found)) same))
-    (λ g. inr (gave_same (sym (pair_found (pair_each_pairing t w.before) (query_by w.args.asked w.args.path.now w.args.word.now)) ∙ same) (gave_next _ (pair_each_ending t w.before.before.before.before.before) g)))
+    (λ e. inl (pair_offered (pair_each_pairing t w.before) (query_by w.args.asked w.args.path.now w.args.word.now) (put w.args.capacity) (w.args.out.now, w.args.found) (pair_each_ending t (pair_each_place_from_candidate_count_many t w)) e ∙ ap (offer_all (put w.args.capacity) (w.args.out.now, w.args.found)) same))
+    (λ g. inr (gave_same (sym (pair_found (pair_each_pairing t w.before) (query_by w.args.asked w.args.path.now w.args.word.now)) ∙ same) (gave_next _ (pair_each_ending t (pair_each_place_from_candidate_count_many t w)) g)))
     o
 
 -- the candidate of a turn

@@ -26,6 +26,10 @@ Plain-After-pairing_right = lts.After-pairing_right tie.the-claims reads.Pre rea
 abbrev Plain-After-pairs_known : Type 0
 Plain-After-pairs_known = lts.After-pairs_known tie.the-claims reads.Pre reads.Post tie.handed_clauses
 
+-- from a place to the ones before it
+abbrev start_from_pairs_known : Plain-After-pairs_known → Plain-Start
+start_from_pairs_known c = let half = c.before.before.before.before in half.before.before.before.before
+
 -- past each test, it holds; the header is the image's own
 same_pairs : (s : Plain-Start) → s.args.h.pairs ≡ (header s.args.image.now).pairs
 same_pairs s = ap (λ (h : Header). h.pairs) s.requires.laid.header_is
@@ -40,7 +44,7 @@ text_right : (c : Else-not-is_text) → is_text c.args.text.now ≡ true
 text_right c = sym c.is_text.ensures ∙ c.if-not-is_text.false
 
 pairs_told : (c : Plain-After-pairs_known) → let a = c.args in c.pairs_known.result ≡ test20 a.image.now a.pairing.now a.text.now
-pairs_told c = let a = c.args in c.pairs_known.ensures ∙ ap (λ (n : ℕ). pairs_known n a.text.now) (same_pairs c.before.before.before.before.before.before.before.before)
+pairs_told c = let a = c.args in c.pairs_known.ensures ∙ ap (λ (n : ℕ). pairs_known n a.text.now) (same_pairs (start_from_pairs_known c))
 
 pairs_right : (c : Else-not-pairs_known) → let a = c.args in test20 a.image.now a.pairing.now a.text.now ≡ true
 pairs_right c = sym (pairs_told c.before.before) ∙ c.if-not-pairs_known.false

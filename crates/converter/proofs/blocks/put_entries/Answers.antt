@@ -31,6 +31,10 @@ use Rattle.converter.proofs.blocks.put_entries.Reads as reads
 abbrev Plain-After-records_at-n : Type 0
 Plain-After-records_at-n = lts.After-records_at tie.the-claims reads.Pre reads.Post goal.the-invariant-loop-i goal.the-decreases-loop-i tie.handed_clauses
 
+-- from a place to the ones before it
+abbrev records_at_n_from_loop_i : In-loop-i → Plain-After-records_at-n
+records_at_n_from_loop_i c = let half = c.before.before.before.before in half.before.before.before
+
 made_none : (image : List ℕ) (o : Header) (k wide n : ℕ) → 0 ∷ 0 ∷ 6 ∷ n ∷ zeros 508 ≡ madeTo image o k wide n 0
 unfolding parts_to
 made_none image o k wide n = let e : 4 ≡ 4 + wide * 0 = omega arith in ap (λ (m : ℕ). 0 ∷ 0 ∷ 6 ∷ n ∷ (drop m (0 ∷ 0 ∷ 6 ∷ n ∷ zeros 508))) e
@@ -104,7 +108,7 @@ module _ (t : In-loop-i) where
   i = t.loop-i.i
 
   abbrev from : ℕ
-  from = 4 + wide t.before.before.before.before.before.before.before * i
+  from = 4 + t.width-wide.result * i
 
   abbrev block : List ℕ
   block = t.loop-i.block
@@ -112,8 +116,8 @@ module _ (t : In-loop-i) where
   block_long : length block ≡ 512
   block_long = t.loop-i.invariant.1.0
 
-  here : wide t.before.before.before.before.before.before.before * i + wide t.before.before.before.before.before.before.before ≤ 506
-  here = fits_one t.before.before.before.before.before.before.before i t.loop-i-test.true
+  here : t.width-wide.result * i + t.width-wide.result ≤ 506
+  here = fits_one (records_at_n_from_loop_i t) i t.loop-i-test.true
 
 pub first_block-requires : goal.first_block-requires
 first_block-requires c = record { counted = counted _ (o_limits c.requires.converting); kind = (omega arith, omega arith) }

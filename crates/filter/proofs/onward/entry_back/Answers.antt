@@ -12,6 +12,10 @@ use Rattle.filter.proofs.Unions.{backed_none, backed_more, backed_all, slot_mean
 use Rattle.filter.proofs.onward.entry_back.Goals as goal
 use Rattle.filter.proofs.onward.entry_back.Goals.{In-loop-d, Start}
 
+-- from a place to the ones before it
+abbrev start_from_loop_d : In-loop-d → Start
+start_from_loop_d c = let half = c.before.before.before.before in let later = half.before.before.before.before in later.before.before
+
 -- the slot's bytes
 module _ (s : Start) where
   abbrev form : List ℕ
@@ -32,7 +36,7 @@ module _ (c : In-loop-d) where
   some = c.loop-d-test.true
 
   within : c.loop-d.d - 1 < slot_length c.args.slots.now c.args.i
-  within = omega (arith, c.loop-d.invariant.place, size c.before.before.before.before.before.before.before.before.before.before, some)
+  within = omega (arith, c.loop-d.invariant.place, size (start_from_loop_d c), some)
 
 pub after_slot-m-requires : goal.after_slot-m-requires
 after_slot-m-requires c = record { accepted = c.requires.accepted; reached = (c.requires.reached, c.requires.i_lt_high.1) }

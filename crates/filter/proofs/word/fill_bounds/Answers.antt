@@ -57,7 +57,7 @@ module _ (c : After-byte_at-high) where
   abbrev high : ℕ
   high = c.byte_at-high.result
 
-  more : i c.before.before.before.before < length (bounds c.before.before.before.before.before.before.before.before) / 2
+  more : i c.before.before.before.before < length c.args.bounds.now / 2
   more = c.loop-i-test.true
 
   low_in : low ≤ 120
