@@ -11,7 +11,9 @@ use lib.Dec.{eqb}
 use Rattle.model.specs.Lists.{sum, byte}
 use Rattle.model.specs.Blocks.{Header, Kind, fitting, filled, entry_width, kinds, row_of, blocks_before, in_all, record_width, per_block, first_block, record_start, block_total, record_at}
 use Rattle.image.specs.Laid.{Counted, Limited, Laid}
-use Rattle.image.specs.Kinds.{IsKind, place_of}
+use Rattle.image.specs.declared.kinds.Kind.TheVariants as kind
+use Rattle.image.specs.declared.kinds.Kind as code
+use Rattle.image.specs.Kinds.{IsKind, kind_number, place_of}
 
 -- a row whose records have room in its blocks
 pub record Fitted (r : Kind) : Type 0 where
@@ -203,6 +205,16 @@ module _ {image : List ℕ} {h : Header} (laid : Laid image h) (kind i : ℕ) wh
   -- a byte of a record is that byte of the image
   pub record_byte : (j : ℕ) → j < record_width h kind → byte (record_at image kind i) j ≡ byte image (record_start h kind i + j)
   record_byte j k = ap (λ (l : List ℕ). byte l j) record_part ∙ get_or-take (record_width h kind) (drop (record_start h kind i) image) j 0 k ∙ get_or-drop (record_start h kind i) image j 0
+
+-- every kind has a place in the tables of the code
+pub known : (k : code.Kind) → IsKind (kind_number k)
+known kind.Header = (omega arith, omega arith)
+known kind.Letters = (omega arith, omega arith)
+known kind.Pairs = (omega arith, omega arith)
+known kind.Tables = (omega arith, omega arith)
+known kind.Lexicons = (omega arith, omega arith)
+known kind.Entries = (omega arith, omega arith)
+known kind.Sets = (omega arith, omega arith)
 
 -- a table with a place for each kind, read by kind; place 0 is no kind's
 pub by_kind : (f : ℕ → ℕ) (none kind : ℕ) → IsKind kind → get_or (none ∷ f 1 ∷ f 2 ∷ f 3 ∷ f 4 ∷ f 5 ∷ f 6 ∷ f 7 ∷ []) kind 0 ≡ f kind

@@ -4,11 +4,31 @@ ghost use Rattle.std.specs.Prelude.{◌≡◌, ◌+◌, ◌*◌, ◌-◌, ◌/�
 ghost use Rattle.model.specs.Blocks.{filling, in_all, record_width, per_block, first_block, record_start};
 ghost use Rattle.image.specs.Header.{header_of};
 ghost use Rattle.image.specs.Laid.{Counted, Limited};
-ghost use Rattle.image.specs.Kinds.{IsKind, place_of};
+ghost use Rattle.image.specs.Kinds.{IsKind, kind_number, place_of};
 
 use crate::Header;
 
-// By kind, of form 1; the last place is that of the entries of form 2.
+// What a record is of. A block bears its kind's number.
+#[derive(Clone, Copy, PartialEq, Eq)]
+pub enum Kind {
+    Header = 1,
+    Letters = 2,
+    Pairs = 3,
+    Tables = 4,
+    Lexicons = 5,
+    Entries = 6,
+    Sets = 7,
+}
+
+impl Kind {
+    pub fn number(self) -> usize
+        ensures { (result ≡ kind_number self) × IsKind result }
+    {
+        self as usize
+    }
+}
+
+// By kind's number, of form 1; the last place is that of the entries of form 2.
 const WIDTH: [usize; 9] = [0, 14, 2, 2, 506, 2, 16, 16, 24];
 
 const PER_BLOCK: [usize; 9] = [0, 36, 253, 253, 1, 253, 31, 31, 21];
@@ -34,41 +54,41 @@ pub const PAIRS_START: usize = 2 * 512 + 4;
 const SETS_BLOCK: usize = 3;
 
 // The place of a kind in the two tables.
-fn place_of(h: Header, kind: usize) -> usize
-    requires { IsKind kind }
-    ensures { (result ≡ place_of h.form kind) × (result < 9) }
+fn place_of(h: Header, kind: Kind) -> usize
+    ensures { (result ≡ place_of h.form (kind_number kind)) × (result < 9) }
 {
-    if h.form == 2 {
-        if kind == 6 {
-            return 8;
-        }
+    if h.form == 2 && kind == Kind::Entries {
+        8
+    } else {
+        kind.number()
     }
-    kind
 }
 
-pub fn width(h: Header, kind: usize) -> usize
-    requires { IsKind kind }
-    ensures { result ≡ record_width (header_of h) kind }
+pub fn width(h: Header, kind: Kind) -> usize
+    ensures { result ≡ record_width (header_of h) (kind_number kind) }
 {
     WIDTH[place_of(h, kind)]
 }
 
-pub fn per_block(h: Header, kind: usize) -> usize
-    requires { IsKind kind }
-    ensures { result ≡ per_block (header_of h) kind }
+pub fn per_block(h: Header, kind: Kind) -> usize
+    ensures { result ≡ per_block (header_of h) (kind_number kind) }
 {
     PER_BLOCK[place_of(h, kind)]
 }
 
 // How many records of a kind an image has.
-pub fn in_all(h: Header, kind: usize) -> usize
-    requires { IsKind kind }
-    ensures { result ≡ in_all (header_of h) kind }
+pub fn in_all(h: Header, kind: Kind) -> usize
+    ensures { result ≡ in_all (header_of h) (kind_number kind) }
 {
-    let counts = [
-        0, 1, h.letters, h.pairs, h.rules, h.lexicons, h.entries, h.sets,
-    ];
-    counts[kind]
+    match kind {
+        Kind::Header => 1,
+        Kind::Letters => h.letters,
+        Kind::Pairs => h.pairs,
+        Kind::Tables => h.rules,
+        Kind::Lexicons => h.lexicons,
+        Kind::Entries => h.entries,
+        Kind::Sets => h.sets,
+    }
 }
 
 // The blocks of sets: one, where there are any.
@@ -76,23 +96,24 @@ fn set_blocks(h: Header) -> usize
     requires { Counted (header_of h) }
     ensures { (result ≡ filling 16 h.sets) × (result ≤ 1) }
 {
-    if h.sets == 0 {
-        return 0;
-    }
-    1
+    h.sets.min(1)
 }
 
 // The first block of a kind.
-pub fn first_block(h: Header, kind: usize) -> usize
-    requires counted { Counted (header_of h) }
-    requires kind { IsKind kind }
-    ensures { result ≡ first_block (header_of h) kind }
+pub fn first_block(h: Header, kind: Kind) -> usize
+    requires { Counted (header_of h) }
+    ensures { result ≡ first_block (header_of h) (kind_number kind) }
 {
     let rules = SETS_BLOCK + set_blocks(h);
-    let lexicons = rules + h.rules;
-    let entries = lexicons + 1;
-    let blocks = [0, 0, 1, 2, rules, lexicons, entries, SETS_BLOCK];
-    blocks[kind]
+    match kind {
+        Kind::Header => 0,
+        Kind::Letters => 1,
+        Kind::Pairs => 2,
+        Kind::Sets => SETS_BLOCK,
+        Kind::Tables => rules,
+        Kind::Lexicons => rules + h.rules,
+        Kind::Entries => rules + h.rules + 1,
+    }
 }
 
 // What is added up where records of one width stand so many to a block, the first of them in block `first`.
@@ -106,17 +127,14 @@ fn added(first: usize, wide: usize, most: usize, i: usize) -> usize
 
 // Where record i of a kind begins. With the kind a constant, so is all that the table says of it, in either form by itself: so no division is by a number that
 // the compiler does not know.
-pub fn record_start(h: Header, kind: usize, i: usize) -> usize
+pub fn record_start(h: Header, kind: Kind, i: usize) -> usize
     requires limited { Limited (header_of h) }
-    requires kind { IsKind kind }
-    requires i_bound { i < in_all (header_of h) kind }
-    ensures { (result ≡ record_start (header_of h) kind i) × (result < 65536) }
+    requires i_bound { i < in_all (header_of h) (kind_number kind) }
+    ensures { (result ≡ record_start (header_of h) (kind_number kind) i) × (result < 65536) }
 {
     let first = first_block(h, kind);
     if place_of(h, kind) == 8 {
         return added(first, WIDE_ENTRY, WIDE_ENTRIES, i);
     }
-    let most = per_block(h, kind);
-    let wide = width(h, kind);
-    added(first, wide, most, i)
+    added(first, width(h, kind), per_block(h, kind), i)
 }

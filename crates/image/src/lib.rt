@@ -15,7 +15,7 @@ pub fn byte_at(bytes: &[u8], at: usize) -> usize
     requires { at < length bytes.now }
     ensures { (result ≡ byte bytes.now at) × (result < 256) }
 {
-    bytes[at] as usize
+    usize::from(bytes[at])
 }
 
 // A two-byte number, the low byte first.
@@ -23,20 +23,14 @@ pub fn number_at(bytes: &[u8], at: usize) -> usize
     requires { at + 1 < length bytes.now }
     ensures { (result ≡ number bytes.now at) × (result < 65536) }
 {
-    byte_at(bytes, at) + 256 * byte_at(bytes, at + 1)
+    usize::from(u16::from_le_bytes([bytes[at], bytes[at + 1]]))
 }
 
 // Whether so many bytes are whole two-byte numbers, from 1 of them to `most`.
 pub fn right_count(bytes: usize, most: usize) -> bool
     ensures { result ≡ (eqb (bytes % 2) 0 && within 1 most (bytes / 2)) }
 {
-    if bytes % 2 != 0 {
-        return false;
-    }
-    if bytes < 2 {
-        return false;
-    }
-    bytes / 2 <= most
+    bytes % 2 == 0 && (1..=most).contains(&(bytes / 2))
 }
 
 // Whether each byte from `from` up to `end` is 0, as in the rest of a block. Every byte is looked at, so that the compiler takes many at once.
@@ -45,12 +39,11 @@ pub fn is_blank(block: &[u8], from: usize, end: usize) -> bool
     ensures { result ≡ every is_zero (drop from (take end block.now)) }
 {
     let mut blank = true;
-    let mut i = from;
-    while i < end {
-        if byte_at(block, i) != 0 {
+    // An index: `from` may lie past `end`, where a slice may not.
+    for i in from..end {
+        if block[i] != 0 {
             blank = false;
         }
-        i += 1;
     }
     blank
 }

@@ -5,23 +5,13 @@ ghost use Rattle.model.specs.Blocks.{sealed_block};
 ghost use Rattle.model.specs.Calls.{sealing_reply, after_sealing};
 ghost use Rattle.image.specs.Sealing.{sealing_of};
 
-#[derive(Clone, Copy)]
-pub enum Sealing {
-    Sealed,
-    Refused(u8),
-}
+use refusal::Refusal;
 
 // Test 1: an image's length.
 pub fn right_length(n: usize) -> bool
     ensures { result ≡ (within 1 65536 n && eqb (n % 512) 0) }
 {
-    if n < 1 {
-        return false;
-    }
-    if 65536 < n {
-        return false;
-    }
-    n % 512 == 0
+    (1..=65536).contains(&n) && n % 512 == 0
 }
 
 // A number in two bytes.
@@ -43,19 +33,16 @@ pub fn seal_block(block: &mut [u8], k: usize)
 }
 
 // A refusal writes nothing.
-pub fn seal(image: &mut [u8]) -> Sealing
+pub fn seal(image: &mut [u8]) -> Result<(), Refusal>
     ensures { (sealing_of result ≡ sealing_reply image.old) × (image.new ≡ after_sealing image.old) }
 {
     if !right_length(image.len()) {
-        return Sealing::Refused(1);
+        return Err(Refusal::ImageLength);
     }
-    let blocks = image.len() / 512;
-    let mut k: usize = 0;
-    while k < blocks {
+    // An index: of chunks that were lent out, a proof keeps the length and not what was written.
+    for k in 0..image.len() / 512 {
         let from = 512 * k;
-        let to = from + 512;
-        seal_block(&mut image[from..to], k);
-        k += 1;
+        seal_block(&mut image[from..from + 512], k);
     }
-    Sealing::Sealed
+    Ok(())
 }

@@ -1,12 +1,10 @@
 -- From tests 1 and 3 to facts: the limits, and that an image is laid out.
 use Prim.Native.Nat.{ℕ, ◌*◌, ◌≤◌}
 use native.Mathlib.Omega.{arith}
-use native.Mathlib.Decide.{dec_le}
-use mathlib.Core.Bool.{Bool, true, false, ◌&&◌}
-use mathlib.Core.Path.{◌≡◌, refl, sym, ap, ◌∙◌}
+use mathlib.Core.Bool.{Bool, true, ◌&&◌}
+use mathlib.Core.Path.{◌≡◌, refl, ap, ◌∙◌}
 use mathlib.Core.List.{List}
-use lib.Dec.{leb, eqb, eqb→eq}
-use borrow.Author.Tests.{eq-eqb, ne_eqb, le-leb, lt-leb}
+use lib.Dec.{eqb, eqb→eq}
 use Rattle.model.specs.Lists.{below, every, within}
 use Rattle.model.specs.Blocks.{Header, header, block, block_count, block_total, within_limits, laid_out}
 use Rattle.model.specs.Refusals.{right_length, right_layout}
@@ -29,9 +27,20 @@ counted_of h e =
     let d = within_out 1 64 h.lexicons t.3 in
     let f = within_out 1 2800 h.entries t.4 in
     let g = within_out 0 31 h.sets u.1 in
-    record { letters_least = a.0; letters_most = a.1; pairs_least = b.0; pairs_most = b.1; rules_most = c.1; lexicons_least = d.0; lexicons_most = d.1; entries_least = f.0; entries_most = f.1; sets_most = g.1 }
+    record {
+      letters_least = a.0;
+      letters_most = a.1;
+      pairs_least = b.0;
+      pairs_most = b.1;
+      rules_most = c.1;
+      lexicons_least = d.0;
+      lexicons_most = d.1;
+      entries_least = f.0;
+      entries_most = f.1;
+      sets_most = g.1;
+    }
 
--- and back: counts that keep the limits pass, and a limit that is not kept fails
+-- and back: counts that keep the limits pass
 module _ (h : Header) where
   pub limits_kept : Counted h → within_limits h ≡ true
   unfolding within_limits
@@ -45,42 +54,6 @@ module _ (h : Header) where
       (within_in 1 64 h.lexicons l.lexicons_least l.lexicons_most)
       (within_in 1 2800 h.entries l.entries_least l.entries_most))
       (within_in 0 31 h.sets (omega arith) l.sets_most))
-
-  pub limits_broken : (Counted h → ⊥) → within_limits h ≡ false
-  limits_broken f = go (within_limits h) refl
-    where
-      go : (b : Bool) → within_limits h ≡ b → within_limits h ≡ false
-      go true e = absurd (f (counted_of h e))
-      go false e = e
-
-  -- where every other limit is kept, the last decides
-  pub limits_last : (h.entries ≤ 2800 → Counted h) → within_limits h ≡ leb h.entries 2800
-  limits_last f = go (dec_le h.entries 2800)
-    where
-      go : Dec (h.entries ≤ 2800) → within_limits h ≡ leb h.entries 2800
-      go (yes m) = limits_kept (f m) ∙ sym (le-leb h.entries 2800 m)
-      go (no n) = limits_broken (λ l. n l.entries_most) ∙ sym (lt-leb h.entries 2800 (omega arith))
-
--- the four parts of test 3, in the order of the tests, for a header that was read
-module _ (image : List ℕ) (h : Header) (e : h ≡ header image) where
-  abbrev blocks : Header → Bool
-  blocks h = every (λ k. laid_out h k (block image k)) (below (block_count image))
-
-  layout_is : right_layout image ≡ (within 1 2 h.form && within_limits h && eqb (block_count image) (block_total h) && blocks h)
-  unfolding right_layout
-  layout_is = ap (λ (g : Header). within 1 2 g.form && within_limits g && eqb (block_count image) (block_total g) && blocks g) (sym e)
-
-  pub layout_form : within 1 2 h.form ≡ false → right_layout image ≡ false
-  layout_form f = layout_is ∙ rw f refl
-
-  pub layout_limits : within 1 2 h.form ≡ true → within_limits h ≡ false → right_layout image ≡ false
-  layout_limits f l = layout_is ∙ rw (f, l) refl
-
-  pub layout_total : within 1 2 h.form ≡ true → within_limits h ≡ true → (block_count image ≡ block_total h → ⊥) → right_layout image ≡ false
-  layout_total f l t = layout_is ∙ rw (f, l, ne_eqb (block_count image) (block_total h) t) refl
-
-  pub layout_blocks : within 1 2 h.form ≡ true → within_limits h ≡ true → block_count image ≡ block_total h → right_layout image ≡ blocks h
-  layout_blocks f l t = layout_is ∙ rw (f, l, eq-eqb (block_count image) (block_total h) t) refl
 
 -- counts within their limits, a form and a total of blocks that are right
 pub limited : (h : Header) → Counted h → within 1 2 h.form ≡ true → block_total h ≤ 128 → Limited h

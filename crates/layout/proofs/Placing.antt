@@ -1,14 +1,12 @@
 -- Which kind block k has, and the parts of a block's layout.
-use Prim.Native.Nat.{ℕ, ◌+◌, ◌*◌, ◌<◌, ◌≤◌}
+use Prim.Native.Nat.{ℕ, ◌+◌, ◌<◌, ◌≤◌}
 use native.Mathlib.Omega.{arith}
 use mathlib.Core.Bool.{Bool, true, false, cond}
 use mathlib.Core.Path.{◌≡◌, refl, sym, ap, ◌∙◌}
 use mathlib.Core.List.{List, [], ◌∷◌}
-use lib.ListN.{take, drop}
 use lib.Dec.{eqb, ltb}
-use borrow.Author.Tests.{lt-ltb, le-ltb, eq-eqb, ne_eqb, eqb-true}
-use Rattle.model.specs.Blocks.{Header, Kind, kinds, row_of, blocks_before, kind_from, kind_at, records_at, record_width, first_block, laid_out}
-use Rattle.model.specs.Lists.{every, is_zero, byte}
+use borrow.Author.Tests.{lt-ltb, le-ltb, eqb-true}
+use Rattle.model.specs.Blocks.{Header, Kind, kinds, row_of, blocks_before, kind_from, kind_at, first_block}
 use Rattle.image.specs.Kinds.{IsKind}
 use Rattle.layout.specs.Placed.{Placed}
 
@@ -38,17 +36,3 @@ module _ (kind k : ℕ) where
 pub placed : (h : Header) (k kind : ℕ) → IsKind kind → first_block h kind ≤ k → k < first_block h kind + (row_of kind (kinds h)).blocks → Placed h k kind
 unfolding kind_at
 placed h k kind is least most = record { kind_is = sym (kind_among kind k (kinds h) 0 least most); is_kind = is; begun = least }
-
--- the three parts of a block's layout, in the order of the tests
-module _ (h : Header) (k : ℕ) (b : List ℕ) where
-  pub laid_kind : (byte b 2 ≡ kind_at h k → ⊥) → laid_out h k b ≡ false
-  unfolding laid_out
-  laid_kind f = rw (ne_eqb (byte b 2) (kind_at h k) f) refl
-
-  pub laid_count : byte b 2 ≡ kind_at h k → (byte b 3 ≡ records_at h k → ⊥) → laid_out h k b ≡ false
-  unfolding laid_out
-  laid_count e f = rw (eq-eqb (byte b 2) (kind_at h k) e, ne_eqb (byte b 3) (records_at h k) f) refl
-
-  pub laid_rest : byte b 2 ≡ kind_at h k → byte b 3 ≡ records_at h k → laid_out h k b ≡ every is_zero (drop (4 + record_width h (kind_at h k) * records_at h k) (take 510 b))
-  unfolding laid_out
-  laid_rest e f = rw (eq-eqb (byte b 2) (kind_at h k) e, eq-eqb (byte b 3) (records_at h k) f) refl

@@ -1,8 +1,8 @@
 -- Laws of sums: of equal, greater and added terms, by rows and by columns, and running sums from the last term down.
-use Prim.Native.Nat.{ℕ, zero, suc, ◌+◌, ◌*◌, ◌<◌, ◌≤◌}
+use Prim.Native.Nat.{ℕ, zero, suc, ◌+◌, ◌-◌, ◌*◌, ◌<◌, ◌≤◌}
 use native.Mathlib.Nat.{mul-le-mul, mul-add, add-mul, mul_assoc, mul-suc, mul-zero, add-zero, zero-add, add-suc}
 use native.Mathlib.Omega.{arith}
-use mathlib.Core.Path.{◌≡◌, refl, sym, ap, ap₂, ◌∙◌}
+use mathlib.Core.Path.{◌≡◌, refl, sym, ap, ap₂, ◌∙◌, subst}
 use Rattle.sum.specs.Sums.{total, by_number}
 
 -- equal terms
@@ -66,7 +66,8 @@ pub column_twice : (m c n : ℕ) (f : ℕ → ℕ) → total n (λ r. suc (m * r
 unfolding total
 column_twice m c zero f = omega arith
 column_twice m c (suc n) f =
-    let last : suc (m * n + c) * f n ≡ m * (n * f n) + suc c * f n = ap (λ (k : ℕ). k * f n) (sym (add-suc (m * n) c)) ∙ add-mul (m * n) (suc c) (f n) ∙ ap (λ (k : ℕ). k + suc c * f n) (mul_assoc m n (f n)) in
+    let last : suc (m * n + c) * f n ≡ m * (n * f n) + suc c * f n =
+    ap (λ (k : ℕ). k * f n) (sym (add-suc (m * n) c)) ∙ add-mul (m * n) (suc c) (f n) ∙ ap (λ (k : ℕ). k + suc c * f n) (mul_assoc m n (f n)) in
     omega (arith, column_twice m c n f, last, mul-add m (total n (by_number f)) (n * f n), mul-add (suc c) (total n f) (f n))
 
 module _ (n : ℕ) (f : ℕ → ℕ) where
@@ -77,13 +78,18 @@ module _ (n : ℕ) (f : ℕ → ℕ) where
   pub added_none : Added n 0
   added_none = zero-add (total n f)
 
-  pub added_one : (r sum : ℕ) → Added (suc r) sum → Added r (sum + f r)
-  unfolding total
-  added_one r sum e = omega (arith, e)
+  module _ {r : ℕ} (sum : ℕ) (s : Added r sum) where
+    -- with the term that comes next
+    added_next : 0 < r → Added (suc (r - 1)) sum
+    added_next h = let e : r ≡ suc (r - 1) = omega arith in subst (λ (k : ℕ). Added k sum) e s
 
-  pub added_all : (sum : ℕ) → Added 0 sum → sum ≡ total n f
-  unfolding total
-  added_all sum e = omega (arith, e)
+    pub added_one : (x : ℕ) → 0 < r → x ≡ f (r - 1) → Added (r - 1) (sum + x)
+    unfolding total
+    added_one x h e = omega (arith, added_next h, e)
+
+    pub added_all : r ≡ 0 → sum ≡ total n f
+    unfolding total
+    added_all none = let all : Added 0 sum = subst (λ (k : ℕ). Added k sum) none s in omega (arith, all)
 
   -- and, each time before one more was added, the sum so far
   pub record Run (r sum weighted : ℕ) : Type 0 where
@@ -93,14 +99,19 @@ module _ (n : ℕ) (f : ℕ → ℕ) where
   pub run_none : Run n 0 0
   run_none = record { sum_is = added_none; weighted_is = omega arith }
 
-  module _ {r sum weighted : ℕ} (s : Run (suc r) sum weighted) where
-    pub run_one : Run r (sum + f r) (weighted + sum)
+  module _ {r sum weighted : ℕ} (s : Run r sum weighted) where
+    run_next : 0 < r → Run (suc (r - 1)) sum weighted
+    run_next h = let e : r ≡ suc (r - 1) = omega arith in subst (λ (k : ℕ). Run k sum weighted) e s
+
+    pub run_one : (x : ℕ) → 0 < r → x ≡ f (r - 1) → Run (r - 1) (sum + x) (weighted + sum)
     unfolding total
-    run_one = record { sum_is = added_one r sum s.sum_is; weighted_is = omega (arith, s.weighted_is, mul-add r sum (f r)) }
+    run_one x h e =
+        let times : (r - 1) * x ≡ (r - 1) * f (r - 1) = ap (λ (k : ℕ). (r - 1) * k) e in
+        record { sum_is = added_one sum s.sum_is x h e; weighted_is = omega (arith, (run_next h).weighted_is, times, mul-add (r - 1) sum x) }
 
-    pub run_most : weighted + sum ≤ total n (by_number f)
-    run_most = omega (arith, s.weighted_is)
+    pub run_most : 0 < r → weighted + sum ≤ total n (by_number f)
+    run_most h = omega (arith, (run_next h).weighted_is)
 
-  pub run_all : {sum weighted : ℕ} → Run 0 sum weighted → (sum ≡ total n f) × (weighted ≡ total n (by_number f))
-  unfolding total
-  run_all {sum} s = (added_all sum s.sum_is, omega (arith, s.weighted_is))
+    pub run_all : r ≡ 0 → (sum ≡ total n f) × (weighted ≡ total n (by_number f))
+    unfolding total
+    run_all none = let all : Run 0 sum weighted = subst (λ (k : ℕ). Run k sum weighted) none s in (added_all sum s.sum_is none, omega (arith, all.weighted_is))

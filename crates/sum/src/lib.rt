@@ -21,17 +21,11 @@ fn strip(block: &[u8], from: usize) -> StripSums
 {
     let mut sum: u16 = 0;
     let mut rows: u16 = 0;
-    let mut q: usize = 9;
-    while 0 < q {
-        q -= 1;
-        let byte = block[8 * q + from] as u16;
+    for q in (0..9).rev() {
         rows += sum;
-        sum += byte;
+        sum += u16::from(block[8 * q + from]);
     }
-    StripSums {
-        sum: sum,
-        rows: rows,
-    }
+    StripSums { sum, rows }
 }
 
 // Of a column's bytes: their sum, that of each times the number of its row in its strip, and that of each times the number of its strip.
@@ -49,21 +43,16 @@ fn column(block: &[u8], c: usize) -> ColumnSums
     let mut sum: u16 = 0;
     let mut rows: u16 = 0;
     let mut strips: u16 = 0;
-    let mut p: usize = 7;
-    while 0 < p {
-        p -= 1;
+    for p in (0..7).rev() {
         let s = strip(block, 72 * p + c);
         strips += sum;
         sum += s.sum;
         rows += s.rows;
     }
-    ColumnSums {
-        sum: sum,
-        rows: rows,
-        strips: strips,
-    }
+    ColumnSums { sum, rows, strips }
 }
 
+// Of all columns. Three arrays, one for each sum: so the machine takes eight columns at once.
 #[derive(Drop)]
 struct BlockSums {
     sums: [u16; 8],
@@ -78,37 +67,30 @@ fn columns(block: &[u8]) -> BlockSums
     let mut sums = [0u16; 8];
     let mut rows = [0u16; 8];
     let mut strips = [0u16; 8];
-    let mut c: usize = 0;
-    while c < 8 {
+    // An index: each turn writes one place of three arrays.
+    for c in 0..8 {
         let k = column(block, c);
         sums[c] = k.sum;
         rows[c] = k.rows;
         strips[c] = k.strips;
-        c += 1;
     }
-    BlockSums {
-        sums: sums,
-        rows: rows,
-        strips: strips,
-    }
+    BlockSums { sums, rows, strips }
 }
 
 // The columns together, by a running sum from the last down.
-fn sum_of_columns(sums: &[u16], rows: &[u16], strips: &[u16]) -> u32
-    requires { (length sums.now ≡ 8) × ((length rows.now ≡ 8) × (length strips.now ≡ 8)) }
-    ensures { result ≡ of_columns (λ c. get_or sums.now c 0) (λ c. get_or rows.now c 0) (λ c. get_or strips.now c 0) }
+fn sum_of_columns(k: &BlockSums) -> u32
+    ensures { result ≡ of_columns (λ c. get_or k.now.sums c 0) (λ c. get_or k.now.rows c 0) (λ c. get_or k.now.strips c 0) }
 {
     let mut sum: u32 = 0;
     let mut by_column: u32 = 0;
     let mut by_row: u32 = 0;
     let mut by_strip: u32 = 0;
-    let mut c: usize = 8;
-    while 0 < c {
-        c -= 1;
+    // An index: each turn reads one place of three arrays.
+    for c in (0..8).rev() {
         by_column += sum;
-        sum += sums[c] as u32;
-        by_row += rows[c] as u32;
-        by_strip += strips[c] as u32;
+        sum += u32::from(k.sums[c]);
+        by_row += u32::from(k.rows[c]);
+        by_strip += u32::from(k.strips[c]);
     }
     by_column + sum + 8 * by_row + 72 * by_strip
 }
@@ -118,11 +100,7 @@ fn sum_of_rows(block: &[u8]) -> u32
     requires { 504 ≤ length block.now }
     ensures { result ≡ weighted_sum 0 (take 504 block.now) }
 {
-    let k = columns(block);
-    let sums = k.sums;
-    let rows = k.rows;
-    let strips = k.strips;
-    sum_of_columns(&sums, &rows, &strips)
+    sum_of_columns(&columns(block))
 }
 
 // The sum of its first 510. With the 1 of the check it is at most 33,227,776: 32 bits hold it, and no remainder is taken on the way.
@@ -131,10 +109,8 @@ pub fn weighted_sum(block: &[u8]) -> u32
     ensures { (result ≡ weighted_sum 0 (take 510 block.now)) × (1 + result ≤ 33227776) }
 {
     let mut sum = sum_of_rows(block);
-    let mut i: usize = 504;
-    while i < 510 {
-        sum += (i + 1) as u32 * block[i] as u32;
-        i += 1;
+    for i in 504..510 {
+        sum += (i + 1) as u32 * u32::from(block[i]);
     }
     sum
 }

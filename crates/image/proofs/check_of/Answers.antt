@@ -6,9 +6,6 @@ use Prim.Native.Nat.{ℕ, ◌+◌, ◌%◌}
 use Rattle.model.specs.Blocks.{check_of}
 use Rattle.image.proofs.check_of.Goals as goal
 
-pub overflow_cast-result : goal.overflow_cast-result
-overflow_cast-result c = omega (arith, mod-lt (1 + c.weighted_sum.result) {m = 65521} (omega arith))
-
 pub returns : goal.returns
 unfolding check_of
 returns c = (ap (λ (n : ℕ). (1 + n) % 65521) c.weighted_sum.ensures.0, mod-lt (1 + c.weighted_sum.result) {m = 65521} (omega arith))

@@ -1,13 +1,22 @@
--- `block_total` meets its contract: the entries stand last.
+-- `block_total` meets its contract: the entries stand last, in as many blocks as their count asks for, rounded up.
 use native.Mathlib.Omega.{arith}
-use native.Mathlib.Nat.{div-le_self}
-use mathlib.Core.Path.{◌≡◌}
-use Prim.Native.Nat.{ℕ, ◌+◌, ◌-◌, ◌/◌, ◌≤◌}
+use native.Mathlib.Nat.{div-le_self, add-mul}
+use mathlib.Core.Path.{◌≡◌, sym, ap, ◌∙◌}
+use Prim.Native.Nat.{ℕ, ◌+◌, ◌-◌, ◌/◌, ◌%◌, ◌<◌, ◌≤◌, min}
+use Rattle.std.proofs.Math.Nat.{div-eq_of_lt-le}
+use Rattle.std.proofs.lemmas.Grind.{div_ceil_times}
 use Rattle.model.specs.Blocks.{Header, kinds, entry_width, per_block, first_block, block_total}
 use Rattle.image.specs.Laid.{Counted}
 use Rattle.image.specs.Header.{header_of}
 use Rattle.image.proofs.Records.{some_fit, entry_wide}
 use Rattle.layout.proofs.block_total.Goals as goal
+
+-- a quotient rounded up, without a remainder
+rounded : (a b : ℕ) → 0 < b → a / b + min 1 (a % b) ≡ (a + (b - 1)) / b
+rounded a b h =
+    let k = a / b + min 1 (a % b) in
+    let t = div_ceil_times a b h in
+    sym (div-eq_of_lt-le {k = k} b {m = a + (b - 1)} (omega (arith, t.1)) (omega (arith, t.0, add-mul k 1 b)))
 
 -- by what the table of kinds tells
 module _ (h : Header) (limits : Counted h) (most first : ℕ) (e1 : most ≡ per_block h 6) (e2 : first ≡ first_block h 6) where
@@ -30,30 +39,17 @@ module _ (h : Header) (limits : Counted h) (most first : ℕ) (e1 : most ≡ per
   unfolding kinds
   total_few = omega (arith, e2, few, div-le_self (h.entries + (most - 1)) most, limits.rules_most, limits.entries_most, limits.sets_most)
 
-module _ (c : goal.After-struct_known-1) where
-  abbrev most : ℕ
-  most = c.per_block-most.result
-
-  abbrev first : ℕ
-  first = c.first_block.result
-
-  abbrev Told : Type 0
-  Told = (most ≡ per_block (header_of c.args.h) 6) × (first ≡ first_block (header_of c.args.h) 6)
-
-  told : Told
-  told = (c.per_block-most.ensures, c.first_block.ensures)
-
-pub overflow_sub-result : goal.overflow_sub-result
-overflow_sub-result c = some (header_of c.args.h) c.requires c.per_block-most.result c.first_block.result c.per_block-most.ensures c.first_block.ensures
+pub div_ceil-requires : goal.div_ceil-requires
+div_ceil-requires c = some (header_of c.args.h) c.requires _ _ c.per_block.ensures c.first_block.ensures
 
 pub overflow_add-result : goal.overflow_add-result
-overflow_add-result c = omega (arith, few (header_of c.args.h) c.requires (most c) (first c) (told c).0 (told c).1, c.requires.entries_most)
-
-pub nonzero_div-result : goal.nonzero_div-result
-nonzero_div-result c = some (header_of c.args.h) c.requires (most c) (first c) (told c).0 (told c).1
-
-pub overflow_add-result-2 : goal.overflow_add-result-2
-overflow_add-result-2 c = omega (arith, total_few (header_of c.args.h) c.requires (most c) (first c) (told c).0 (told c).1)
+overflow_add-result c =
+    let h = header_of c.args.h in
+    let most = some h c.requires _ _ c.per_block.ensures c.first_block.ensures in
+    omega (arith, c.div_ceil.ensures, rounded h.entries c.per_block.result most, total_few h c.requires _ _ c.per_block.ensures c.first_block.ensures)
 
 pub returns : goal.returns
-returns c = total_is (header_of c.args.h) c.requires (most c) (first c) (told c).0 (told c).1
+returns c =
+    let h = header_of c.args.h in
+    let most = some h c.requires _ _ c.per_block.ensures c.first_block.ensures in
+    ap (λ (n : ℕ). c.first_block.result + n) (c.div_ceil.ensures ∙ rounded h.entries c.per_block.result most) ∙ total_is h c.requires _ _ c.per_block.ensures c.first_block.ensures

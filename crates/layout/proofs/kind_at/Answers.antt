@@ -1,5 +1,6 @@
 -- `kind_at` meets its contract: the blocks of each kind in the order of the table.
 use native.Mathlib.Omega.{arith}
+use mathlib.Core.Path.{◌≡◌}
 use Prim.Native.Nat.{ℕ, zero, suc, ◌+◌, ◌<◌}
 use Rattle.model.specs.Blocks.{Header, kinds, block_total}
 use Rattle.image.specs.Header.{header_of}
@@ -8,15 +9,21 @@ use Rattle.layout.proofs.Placing.{placed}
 use Rattle.layout.proofs.kind_at.Goals as goal
 
 -- the kinds of one block that stand first
-low : (h : Header) (k : ℕ) → k < 3 → Placed h k (k + 1)
+low : (h : Header) (k n : ℕ) → k ≡ n → n < 3 → Placed h k (n + 1)
 unfolding kinds
-low h zero a = placed h 0 1 (omega arith) (omega arith) (omega arith)
-low h (suc zero) a = placed h 1 2 (omega arith) (omega arith) (omega arith)
-low h (suc (suc zero)) a = placed h 2 3 (omega arith) (omega arith) (omega arith)
-low h (suc (suc (suc k))) a = absurd (omega arith)
+low h k zero e a = placed h k 1 (omega arith) (omega arith) (omega arith)
+low h k (suc zero) e a = placed h k 2 (omega arith) (omega arith) (omega arith)
+low h k (suc (suc zero)) e a = placed h k 3 (omega arith) (omega arith) (omega arith)
+low h k (suc (suc (suc n))) e a = absurd (omega arith)
 
-pub returns-then-k-lt3 : goal.returns-then-k-lt3
-returns-then-k-lt3 c = low (header_of c.args.h) c.args.k c.if-k-lt3.true
+pub returns-then-k-eq0 : goal.returns-then-k-eq0
+returns-then-k-eq0 c = low (header_of c.args.h) c.args.k 0 c.if-k-eq0.true (omega arith)
+
+pub returns-then-k-eq1 : goal.returns-then-k-eq1
+returns-then-k-eq1 c = low (header_of c.args.h) c.args.k 1 c.if-k-eq1.true (omega arith)
+
+pub returns-then-k-eq2 : goal.returns-then-k-eq2
+returns-then-k-eq2 c = low (header_of c.args.h) c.args.k 2 c.if-k-eq2.true (omega arith)
 
 pub returns-then-k-first_block : goal.returns-then-k-first_block
 unfolding kinds

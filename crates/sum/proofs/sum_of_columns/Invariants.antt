@@ -5,11 +5,7 @@ use Rattle.sum.proofs.sum_of_columns.Given as goal
 
 abbrev pub invariant-loop-c : goal.invariant-loop-c
 invariant-loop-c l =
-    (l.c ≤ 8)
-    × (Run 8 (λ i. get_or l.sums i 0) l.c l.sum l.by_column
-    × (Added 8 (λ i. get_or l.rows i 0) l.c l.by_row
-    × (Added 8 (λ i. get_or l.strips i 0) l.c l.by_strip
-    × ((l.sum + 65535 * l.c ≤ 524280) × ((l.by_column + 524280 * l.c ≤ 4194240) × ((l.by_row + 65535 * l.c ≤ 524280) × (l.by_strip + 65535 * l.c ≤ 524280)))))))
-
-abbrev pub decreases-loop-c : goal.decreases-loop-c
-decreases-loop-c l = l.c
+    Run 8 (λ i. get_or l.k.sums i 0) l.c l.sum l.by_column
+    × (Added 8 (λ i. get_or l.k.rows i 0) l.c l.by_row
+    × (Added 8 (λ i. get_or l.k.strips i 0) l.c l.by_strip
+    × ((l.sum + 65535 * l.c ≤ 524280) × ((l.by_column + 524280 * l.c ≤ 4194240) × ((l.by_row + 65535 * l.c ≤ 524280) × (l.by_strip + 65535 * l.c ≤ 524280))))))

@@ -6,7 +6,6 @@ use Rattle.sum.proofs.sum_of_rows.Goals as goal
 
 pub returns : goal.returns
 returns c =
-    let called = c.before.before.before.before.before.before.before.before in
-    let block = called.args.block.now in
-    let is = called.columns-k.ensures in
+    let block = c.args.block.now in
+    let is = c.columns.ensures in
     c.sum_of_columns.ensures ∙ columns_same block is.0 is.1.0 is.1.1 ∙ columns_sum block (omega arith)

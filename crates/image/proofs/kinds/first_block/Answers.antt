@@ -1,16 +1,33 @@
--- `first_block` meets its contract: before a kind's first block stand the blocks of the kinds before it.
+-- `first_block` meets its contract, kind by kind: before a kind's first block stand the blocks of the kinds before it.
+use mathlib.Core.Path.{refl, ap}
 use Prim.Native.Nat.{ℕ, ◌+◌}
-use mathlib.Core.List.{[], ◌∷◌}
-use mathlib.Core.Path.{ap, ◌∙◌}
-use lib.ListN.{get_or}
-use Rattle.model.specs.Blocks.{kinds, first_block}
-use Rattle.image.specs.Header.{header_of}
-use Rattle.image.proofs.Records.{by_kind}
+use Rattle.model.specs.Blocks.{kinds}
 use Rattle.image.proofs.kinds.first_block.Goals as goal
 
-pub returns : goal.returns
+pub returns-in-Header : goal.returns-in-Header
 unfolding kinds
-returns c =
-    let h = c.args.h in
-    ap (λ (n : ℕ). get_or (0 ∷ 0 ∷ 1 ∷ 2 ∷ (3 + n) ∷ (3 + n + h.rules) ∷ (3 + n + h.rules + 1) ∷ 3 ∷ []) c.args.kind 0) c.set_blocks-rules.ensures.0
-    ∙ by_kind (first_block (header_of h)) 0 c.args.kind c.requires.kind
+returns-in-Header c = rw c.in-Header.is refl
+
+pub returns-in-Letters : goal.returns-in-Letters
+unfolding kinds
+returns-in-Letters c = rw c.in-Letters.is refl
+
+pub returns-in-Pairs : goal.returns-in-Pairs
+unfolding kinds
+returns-in-Pairs c = rw c.in-Pairs.is refl
+
+pub returns-in-Sets : goal.returns-in-Sets
+unfolding kinds
+returns-in-Sets c = rw c.in-Sets.is refl
+
+pub returns-in-Tables : goal.returns-in-Tables
+unfolding kinds
+returns-in-Tables c = rw c.in-Tables.is (ap (λ (n : ℕ). 3 + n) c.set_blocks-rules.ensures.0)
+
+pub returns-in-Lexicons : goal.returns-in-Lexicons
+unfolding kinds
+returns-in-Lexicons c = rw c.in-Lexicons.is (ap (λ (n : ℕ). 3 + n + c.args.h.rules) c.set_blocks-rules.ensures.0)
+
+pub returns-in-Entries : goal.returns-in-Entries
+unfolding kinds
+returns-in-Entries c = rw c.in-Entries.is (ap (λ (n : ℕ). 3 + n + c.args.h.rules + 1) c.set_blocks-rules.ensures.0)
