@@ -1,5 +1,5 @@
 -- The pairs by their sides, each level by itself, and what a pass over them keeps for each pair.
-use Rattle.std.specs.Prelude.{ℕ, ◌+◌, ◌<◌, Bool, cond, List, map, ◌≡◌, length, ltb, eqb}
+use Rattle.std.specs.Prelude.{ℕ, ◌+◌, ◌<◌, Bool, cond, List, map, ◌≡◌, length, ltb, eqb, min}
 use Rattle.model.specs.Lists.{below, count, byte}
 use Rattle.model.specs.Blocks.{header}
 use Rattle.model.specs.RuleTables.{Pair, Sides, letter_sets, pairs_and_boundary, column_for}
@@ -18,15 +18,12 @@ module _ (lexical surface : List ℕ) where
 abbrev pub narrower : ℕ → ℕ → ℕ → ℕ → ℕ → ℕ
 narrower breadth c columns best least = cond (ltb breadth least) c (cond (eqb breadth least) columns best)
 
-abbrev pub lesser_of : ℕ → ℕ → ℕ
-lesser_of a b = cond (ltb a b) a b
-
 -- what is kept for the first pairs before a pass and after it, by which of them the column matches
 pub record Passed (matched : ℕ → Bool) (pairs breadth c columns : ℕ) (best least best' least' : List ℕ) : Type 0 where
   pub best_size : length best' ≡ length best
   pub least_size : length least' ≡ length least
   pub best_is : (p : ℕ) → p < pairs → byte best' p ≡ cond (matched p) (narrower breadth c columns (byte best p) (byte least p)) (byte best p)
-  pub least_is : (p : ℕ) → p < pairs → byte least' p ≡ cond (matched p) (lesser_of breadth (byte least p)) (byte least p)
+  pub least_is : (p : ℕ) → p < pairs → byte least' p ≡ cond (matched p) (min breadth (byte least p)) (byte least p)
 
 -- the same by letters, or by sets
 module _ (lexical surface : List ℕ) (pairs : ℕ) (column : Sides) where

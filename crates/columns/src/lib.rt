@@ -8,60 +8,70 @@ ghost use Rattle.model.specs.Lists.{every, count};
 ghost use Rattle.model.specs.RuleTables.{letter_sets, pairs_and_boundary, matches};
 ghost use Rattle.image.specs.Header.{header_of};
 ghost use Rattle.image.specs.Laid.{Laid};
+ghost use Rattle.letters.specs.Pairs.{pair_of};
 ghost use Rattle.sets.specs.Sides.{sides_of, meets};
 ghost use Rattle.columns.specs.Breadths.{Columned};
-ghost use Rattle.columns.specs.Passes.{pair_in, listed, narrower, lesser_of, Passed, PassedBy, Chosen, front};
+ghost use Rattle.columns.specs.Passes.{pair_in, listed, narrower, Passed, PassedBy, Chosen, front};
 
 use image::Header;
 use letters::{Lexical, Pair, Surface};
 use sets::sides;
 use sets::sides::Sides;
 
-// The sides of the pairs by number, each level by itself; the boundary pair has number P.
+// The sides of the pairs by number; the boundary pair has number P. Each level stands by itself, so that the compiler takes many pairs at once.
 #[derive(Clone, Copy)]
 struct PairSides {
     lexical: [u8; 256],
     surface: [u8; 256],
 }
 
+// What the passes have kept for each pair: the narrowest column that matches, C where there is none or two are narrowest, and its breadth. Each stands by itself,
+// and a number says that there is none, so that the compiler takes many pairs at once.
+#[derive(Clone, Copy)]
+struct Kept {
+    best: [u8; 256],
+    least: [u8; 256],
+}
+
+// Broader than any column: no breadth is over 251.
+const BROADEST: u8 = 252;
+
 fn pair_sides(image: &[u8], h: Header) -> PairSides
     requires { Laid image.now (header_of h) }
     ensures { listed result.lexical result.surface (h.pairs + 1) ≡ pairs_and_boundary image.now }
 {
-    let pairs = h.pairs;
     let mut lexical = [0u8; 256];
     let mut surface = [0u8; 256];
-    let mut p: usize = 0;
-    while p <= pairs {
+    for p in 0..h.pairs + 1 {
         let pair = sides::pair_at(image, h, p);
         lexical[p] = pair.lexical.0;
         surface[p] = pair.surface.0;
-        p += 1;
     }
-    PairSides {
-        lexical: lexical,
-        surface: surface,
+    PairSides { lexical, surface }
+}
+
+fn pair_of(pairs: &PairSides, p: usize) -> Pair
+    requires { p < 256 }
+    ensures { pair_of result ≡ pair_in pairs.now.lexical pairs.now.surface p }
+{
+    Pair {
+        lexical: Lexical(pairs.lexical[p]),
+        surface: Surface(pairs.surface[p]),
     }
 }
 
-// How many of the first pairs a column matches.
-fn breadth_of(lexical: &[u8; 256], surface: &[u8; 256], pairs: usize, column: Sides) -> u8
-    requires { pairs < 256 }
-    ensures { result ≡ count (meets (sides_of column)) (listed lexical.now surface.now pairs) }
+// How many of the first `n` pairs a column matches.
+fn breadth_of(pairs: &PairSides, n: usize, column: Sides) -> u8
+    requires { n < 256 }
+    ensures { result ≡ count (meets (sides_of column)) (listed pairs.now.lexical pairs.now.surface n) }
 {
-    let mut n: u8 = 0;
-    let mut p: usize = 0;
-    while p < pairs {
-        let pair = Pair {
-            lexical: Lexical(lexical[p]),
-            surface: Surface(surface[p]),
-        };
-        if sides::column_matches(column, pair) {
-            n += 1;
+    let mut breadth: u8 = 0;
+    for p in 0..n {
+        if sides::column_matches(column, pair_of(pairs, p)) {
+            breadth += 1;
         }
-        p += 1;
     }
-    n
+    breadth
 }
 
 // The column kept after column c of a breadth, which matches, where `best` was kept, of breadth `least`: C where two are narrowest.
@@ -69,139 +79,94 @@ fn narrower_of(breadth: u8, c: u8, columns: u8, best: u8, least: u8) -> u8
     ensures { result ≡ narrower breadth c columns best least }
 {
     if breadth < least {
-        return c;
+        c
+    } else if breadth == least {
+        columns
+    } else {
+        best
     }
-    if breadth == least {
-        return columns;
-    }
-    best
 }
 
-fn lesser(a: u8, b: u8) -> u8
-    ensures { result ≡ lesser_of a b }
-{
-    if a < b {
-        return a;
-    }
-    b
-}
-
+// A choice between two values that are both at hand. At a store an `if` becomes a store for some pairs alone, one pair at a time; this stays a store for all.
 fn either(first: bool, a: u8, b: u8) -> u8
     ensures { result ≡ cond first a b }
 {
-    if first {
-        return a;
-    }
-    b
+    if first { a } else { b }
 }
 
-// Column c kept for the first pairs that it is the narrowest for, so far. What is kept is written for every pair, so that the compiler takes many at once.
+// Column c kept for the first `n` pairs that it is the narrowest for, so far. What is kept is written for every pair, so that the compiler takes many at once.
 fn pass_column(
-    lexical: &[u8; 256],
-    surface: &[u8; 256],
-    pairs: usize,
+    pairs: &PairSides,
+    n: usize,
     column: Sides,
     breadth: u8,
     c: u8,
     columns: u8,
-    best: &mut [u8; 256],
-    least: &mut [u8; 256],
+    kept: &mut Kept,
 )
-    requires { (pairs < 256) × ((length best.old ≡ 256) × (length least.old ≡ 256)) }
-    ensures { Passed (λ p. meets (sides_of column) (pair_in lexical.now surface.now p)) pairs breadth c columns best.old least.old best.new least.new }
+    requires { n < 256 }
+    ensures { Passed (λ p. meets (sides_of column) (pair_in pairs.now.lexical pairs.now.surface p)) n breadth c columns kept.old.best kept.old.least kept.new.best kept.new.least }
 {
-    let mut p: usize = 0;
-    while p < pairs {
-        let pair = Pair {
-            lexical: Lexical(lexical[p]),
-            surface: Surface(surface[p]),
-        };
-        let matched = sides::column_matches(column, pair);
-        let was = best[p];
-        let broad = least[p];
-        best[p] = either(matched, narrower_of(breadth, c, columns, was, broad), was);
-        least[p] = either(matched, lesser(breadth, broad), broad);
-        p += 1;
+    for p in 0..n {
+        let matched = sides::column_matches(column, pair_of(pairs, p));
+        let best = kept.best[p];
+        let least = kept.least[p];
+        kept.best[p] = either(matched, narrower_of(breadth, c, columns, best, least), best);
+        kept.least[p] = either(matched, breadth.min(least), least);
     }
 }
 
 // A column, by the letters as its sides see them.
-fn keep_seen(
-    lexical: &[u8; 256],
-    surface: &[u8; 256],
-    pairs: usize,
-    column: Sides,
-    c: u8,
-    columns: u8,
-    best: &mut [u8; 256],
-    least: &mut [u8; 256],
-)
-    requires { (pairs < 256) × ((length best.old ≡ 256) × (length least.old ≡ 256)) }
-    ensures { PassedBy lexical.now surface.now pairs (sides_of column) meets c columns best.old least.old best.new least.new }
+fn keep_seen(pairs: &PairSides, n: usize, column: Sides, c: u8, columns: u8, kept: &mut Kept)
+    requires { n < 256 }
+    ensures { PassedBy pairs.now.lexical pairs.now.surface n (sides_of column) meets c columns kept.old.best kept.old.least kept.new.best kept.new.least }
 {
-    let breadth = breadth_of(lexical, surface, pairs, column);
-    pass_column(
-        lexical, surface, pairs, column, breadth, c, columns, best, least,
-    );
+    let breadth = breadth_of(pairs, n, column);
+    pass_column(pairs, n, column, breadth, c, columns, kept);
 }
 
 // A column, whose sides may name sets. Where neither does, they see the letters as they are.
 fn keep_column(
     image: &[u8],
     h: Header,
-    lexical: &[u8; 256],
-    surface: &[u8; 256],
-    pairs: usize,
+    pairs: &PairSides,
+    n: usize,
     column: Sides,
     c: u8,
     columns: u8,
-    best: &mut [u8; 256],
-    least: &mut [u8; 256],
+    kept: &mut Kept,
 )
     requires laid { Laid image.now (header_of h) }
-    requires pairs_bound { (pairs < 256) × ((length best.old ≡ 256) × (length least.old ≡ 256)) }
-    ensures { PassedBy lexical.now surface.now pairs (sides_of column) (matches (letter_sets image.now)) c columns best.old least.old best.new least.new }
+    requires n_bound { n < 256 }
+    ensures { PassedBy pairs.now.lexical pairs.now.surface n (sides_of column) (matches (letter_sets image.now)) c columns kept.old.best kept.old.least kept.new.best kept.new.least }
 {
     if !sets::has_set(column) {
-        keep_seen(lexical, surface, pairs, column, c, columns, best, least);
+        keep_seen(pairs, n, column, c, columns, kept);
         return;
     }
-    let lexical_seen = sets::seen(image, h, column.lexical.0, lexical, pairs);
-    let surface_seen = sets::seen(image, h, column.surface.0, surface, pairs);
-    keep_seen(
-        &lexical_seen,
-        &surface_seen,
-        pairs,
-        column,
-        c,
-        columns,
-        best,
-        least,
-    );
+    let seen = PairSides {
+        lexical: sets::seen(image, h, column.lexical.0, &pairs.lexical, n),
+        surface: sets::seen(image, h, column.surface.0, &pairs.surface, n),
+    };
+    keep_seen(&seen, n, column, c, columns, kept);
 }
 
-// The column that each pair takes, C where none matches or two are narrowest. No breadth is over 251.
-pub fn find_columns(image: &[u8], h: Header, t: &[u8], columns: usize) -> [u8; 256]
+// The column that each pair takes, C where none matches or two are narrowest.
+pub fn find_columns(image: &[u8], h: Header, t: &[u8], columns: u8) -> [u8; 256]
     requires laid { Laid image.now (header_of h) }
     requires columned { Columned t.now columns }
     ensures { Chosen image.now t.now result }
 {
-    let s = pair_sides(image, h);
-    let lexical = s.lexical;
-    let surface = s.surface;
-    let pairs = h.pairs + 1;
-    let none = columns as u8;
-    let mut best = [none; 256];
-    let mut least = [252u8; 256];
-    let mut c: usize = 0;
-    while c < columns {
-        let column = sides::column_at(t, c);
-        keep_column(
-            image, h, &lexical, &surface, pairs, column, c as u8, none, &mut best, &mut least,
-        );
-        c += 1;
+    let pairs = pair_sides(image, h);
+    let mut kept = Kept {
+        best: [columns; 256],
+        least: [BROADEST; 256],
+    };
+    for c in 0..columns {
+        let column = sides::column_at(t, usize::from(c));
+        keep_column(image, h, &pairs, h.pairs + 1, column, c, columns, &mut kept);
     }
-    best
+    kept.best
 }
 
 // The first of them, written to the front of `out`; whether none of these is C.
@@ -210,15 +175,7 @@ pub fn put_columns(best: &[u8; 256], pairs: usize, columns: u8, out: &mut [u8]) 
     ensures out_after { out.new ≡ front pairs best.now ++ drop pairs out.old }
     ensures value { result ≡ every (λ c. not (eqb c columns)) (front pairs best.now) }
 {
-    let mut all = true;
-    let mut p: usize = 0;
-    while p < pairs {
-        let c = best[p];
-        out[p] = c;
-        if c == columns {
-            all = false;
-        }
-        p += 1;
-    }
-    all
+    let chosen = &best[..pairs];
+    out[..pairs].copy_from_slice(chosen);
+    chosen.iter().all(|&c| c != columns)
 }

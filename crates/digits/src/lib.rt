@@ -11,7 +11,7 @@ pub fn lowest(bits: u64) -> usize
     requires { 0 < bits }
     ensures { Lowest bits result × (result < 64) }
 {
-    u64::trailing_zeros(bits) as usize
+    bits.trailing_zeros() as usize
 }
 
 // A set without one of its members.

@@ -48,6 +48,14 @@ module _ (image : List ℕ) where
   unfolding pairs
   pair_at_lem p h = get_d_map_below (pair image) (header image).pairs p boundary_pair h
 
+-- as many as the header that it is laid out by says
+module _ {image : List ℕ} {h : Header} (l : Laid image h) where
+  pub letters_there : length (code_points image) ≡ h.letters
+  letters_there = length_code_points image ∙ sym (laid_letters l)
+
+  pub pairs_there : length (pairs image) ≡ h.pairs
+  pairs_there = length_pairs image ∙ sym (laid_pairs l)
+
 -- letters as bytes of an image that is laid out: they have one block
 module _ {image : List ℕ} (laid : Laid image (header image)) where
   abbrev start : ℕ → ℕ → ℕ

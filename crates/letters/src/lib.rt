@@ -11,20 +11,21 @@ ghost use Rattle.image.specs.Header.{header_of};
 ghost use Rattle.image.specs.Laid.{Limited, Laid};
 ghost use Rattle.letters.specs.Pairs.{pair_of};
 
+use image::kinds::Kind;
 use image::{Header, kinds};
 
 pub mod marks;
 
 // A letter of the lexical level.
-#[derive(Clone, Copy)]
+#[derive(Clone, Copy, PartialEq, Eq)]
 pub struct Lexical(pub u8);
 
 // A letter of the surface level: with the same number as a lexical letter, it is still another.
-#[derive(Clone, Copy)]
+#[derive(Clone, Copy, PartialEq, Eq)]
 pub struct Surface(pub u8);
 
 // A pair: on each level a letter or the null.
-#[derive(Clone, Copy)]
+#[derive(Clone, Copy, PartialEq, Eq)]
 pub struct Pair {
     pub lexical: Lexical,
     pub surface: Surface,
@@ -38,6 +39,7 @@ pub fn lexical_at(bytes: &[u8], at: usize) -> Lexical
     Lexical(bytes[at])
 }
 
+// A twin of the other level, here and below: so no letter of one level is taken for one of the other.
 pub fn surface_at(bytes: &[u8], at: usize) -> Surface
     requires { at < length bytes.now }
     ensures { result.0 ≡ byte bytes.now at }
@@ -53,29 +55,21 @@ pub fn code_point(image: &[u8], i: usize) -> usize
     image::number_at(image, kinds::LETTERS_START + kinds::LETTER_WIDTH * i)
 }
 
+#[tactic(auto, unfolding(model::specs::RuleTables::is_code_point))]
 fn is_code_point(n: usize) -> bool
     ensures { result ≡ is_code_point n }
 {
-    if n == 0 {
-        return false;
-    }
-    if n < 55296 {
-        return true;
-    }
-    n > 57343
+    n != 0 && !(55296..=57343).contains(&n)
 }
 
 fn each_code_point(image: &[u8], h: Header) -> bool
     requires { Laid image.now (header_of h) }
     ensures { result ≡ every is_code_point (code_points image.now) }
 {
-    let letters = h.letters;
-    let mut i: usize = 0;
-    while i < letters {
+    for i in 0..h.letters {
         if !is_code_point(code_point(image, i)) {
             return false;
         }
-        i += 1;
     }
     true
 }
@@ -85,14 +79,11 @@ fn letter_alone(image: &[u8], h: Header, i: usize) -> bool
     requires { Laid image.now (header_of h) × (i < h.letters) }
     ensures { result ≡ not (any (eqb (get_or (code_points image.now) i 0)) (drop (i + 1) (code_points image.now))) }
 {
-    let letters = h.letters;
     let own = code_point(image, i);
-    let mut j: usize = i + 1;
-    while j < letters {
+    for j in i + 1..h.letters {
         if own == code_point(image, j) {
             return false;
         }
-        j += 1;
     }
     true
 }
@@ -101,26 +92,21 @@ fn letters_differ(image: &[u8], h: Header) -> bool
     requires { Laid image.now (header_of h) }
     ensures { result ≡ distinct eqb (code_points image.now) }
 {
-    let letters = h.letters;
-    let mut i: usize = 0;
-    while i < letters {
+    for i in 0..h.letters {
         if !letter_alone(image, h, i) {
             return false;
         }
-        i += 1;
     }
     true
 }
 
 // Test 4: a code point that is none, and then one that stands twice.
+#[tactic(auto, unfolding(model::specs::Refusals::right_letters))]
 pub fn right_letters(image: &[u8], h: Header) -> bool
     requires { Laid image.now (header_of h) }
     ensures { result ≡ right_letters image.now }
 {
-    if !each_code_point(image, h) {
-        return false;
-    }
-    letters_differ(image, h)
+    each_code_point(image, h) && letters_differ(image, h)
 }
 
 // Whether each byte from `from` up to `end` is a letter, as in a word.
@@ -128,18 +114,9 @@ pub fn are_letters(bytes: &[u8], from: usize, end: usize, letters: usize) -> boo
     requires { (from ≤ end) × (end ≤ length bytes.now) }
     ensures { result ≡ every (within 2 letters) (drop from (take end bytes.now)) }
 {
-    let mut at = from;
-    while at < end {
-        let letter = image::byte_at(bytes, at);
-        if letter < 2 {
-            return false;
-        }
-        if letter > letters {
-            return false;
-        }
-        at += 1;
-    }
-    true
+    bytes[from..end]
+        .iter()
+        .all(|&letter| (2..=letters).contains(&usize::from(letter)))
 }
 
 // The bytes of a pair's record.
@@ -153,7 +130,7 @@ fn side_start(h: Header, p: usize, side: usize) -> usize
     requires p_lt_pairs { (p < h.pairs) × (side < record_width (header_of h) 3) }
     ensures { result ≡ record_start (header_of h) 3 p + side }
 {
-    kinds::PAIRS_START + kinds::width(h, 3) * p + side
+    kinds::PAIRS_START + kinds::width(h, Kind::Pairs) * p + side
 }
 
 // The lexical side of pair p.
@@ -187,68 +164,42 @@ pub fn pair_at(image: &[u8], h: Header, p: usize) -> Pair
 pub fn same_lexical(a: Lexical, b: Lexical) -> bool
     ensures { result ≡ eqb a.0 b.0 }
 {
-    a.0 == b.0
+    a == b
 }
 
 pub fn same_surface(a: Surface, b: Surface) -> bool
     ensures { result ≡ eqb a.0 b.0 }
 {
-    a.0 == b.0
+    a == b
 }
 
 // What a side may be: the null, or a letter from 2 on.
 fn is_side(side: u8, letters: usize) -> bool
     ensures { result ≡ (is_zero side || within 2 letters side) }
 {
-    if side == 0 {
-        return true;
-    }
-    if side < 2 {
-        return false;
-    }
-    side as usize <= letters
+    side == 0 || (2..=letters).contains(&usize::from(side))
 }
 
+#[tactic(auto, unfolding(model::specs::RuleTables::is_pair))]
 fn is_pair(pair: Pair, letters: usize) -> bool
     ensures { result ≡ is_pair letters (pair_of pair) }
 {
-    if !is_side(pair.lexical.0, letters) {
-        return false;
-    }
-    if !is_side(pair.surface.0, letters) {
-        return false;
-    }
-    if pair.lexical.0 != 0 {
-        return true;
-    }
-    pair.surface.0 != 0
+    is_side(pair.lexical.0, letters)
+        && is_side(pair.surface.0, letters)
+        && (pair.lexical.0 != 0 || pair.surface.0 != 0)
 }
 
+// As over letters, here and below: shared, the loops would need a contract that speaks of any test.
 fn each_pair(image: &[u8], h: Header) -> bool
     requires { Laid image.now (header_of h) }
     ensures { result ≡ every (is_pair (header image.now).letters) (pairs image.now) }
 {
-    let letters = h.letters;
-    let count = h.pairs;
-    let mut p: usize = 0;
-    while p < count {
-        if !is_pair(pair_at(image, h, p), letters) {
+    for p in 0..h.pairs {
+        if !is_pair(pair_at(image, h, p), h.letters) {
             return false;
         }
-        p += 1;
     }
     true
-}
-
-// Both sides are the same, each within its level.
-fn same_pair(image: &[u8], h: Header, p: usize, q: usize) -> bool
-    requires { Laid image.now (header_of h) × ((p < h.pairs) × (q < h.pairs)) }
-    ensures { result ≡ same_pair (get_or (pairs image.now) p boundary_pair) (get_or (pairs image.now) q boundary_pair) }
-{
-    if !same_lexical(lexical_side(image, h, p), lexical_side(image, h, q)) {
-        return false;
-    }
-    same_surface(surface_side(image, h, p), surface_side(image, h, q))
 }
 
 // No pair after pair p has its two sides.
@@ -256,13 +207,11 @@ fn pair_alone(image: &[u8], h: Header, p: usize) -> bool
     requires { Laid image.now (header_of h) × (p < h.pairs) }
     ensures { result ≡ not (any (same_pair (get_or (pairs image.now) p boundary_pair)) (drop (p + 1) (pairs image.now))) }
 {
-    let count = h.pairs;
-    let mut q: usize = p + 1;
-    while q < count {
-        if same_pair(image, h, p, q) {
+    let own = pair_at(image, h, p);
+    for q in p + 1..h.pairs {
+        if own == pair_at(image, h, q) {
             return false;
         }
-        q += 1;
     }
     true
 }
@@ -271,24 +220,19 @@ fn pairs_differ(image: &[u8], h: Header) -> bool
     requires { Laid image.now (header_of h) }
     ensures { result ≡ distinct same_pair (pairs image.now) }
 {
-    let count = h.pairs;
-    let mut p: usize = 0;
-    while p < count {
+    for p in 0..h.pairs {
         if !pair_alone(image, h, p) {
             return false;
         }
-        p += 1;
     }
     true
 }
 
 // Test 5: a pair that breaks its rule, and then one that stands twice.
+#[tactic(auto, unfolding(model::specs::Refusals::right_pairs))]
 pub fn right_pairs(image: &[u8], h: Header) -> bool
     requires { Laid image.now (header_of h) }
     ensures { result ≡ right_pairs image.now }
 {
-    if !each_pair(image, h) {
-        return false;
-    }
-    pairs_differ(image, h)
+    each_pair(image, h) && pairs_differ(image, h)
 }

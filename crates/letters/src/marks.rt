@@ -14,10 +14,9 @@ pub fn letter_marks(letters: usize) -> [u8; 256]
     ensures { result ≡ marks_of (within 2 letters) }
 {
     let mut marks = [0u8; 256];
-    let mut a: usize = 2;
-    while a <= letters {
+    // Letter by letter: what `fill` promises of any type does not say the table.
+    for a in 2..=letters {
         marks[a] = 1;
-        a += 1;
     }
     marks
 }
@@ -27,13 +26,10 @@ pub fn lexical_marks(image: &[u8], h: Header) -> [u8; 256]
     requires { Laid image.now (header_of h) }
     ensures { result ≡ marks_of (is_form_letter image.now) }
 {
-    let count = h.pairs;
     let mut marks = [0u8; 256];
-    let mut p: usize = 0;
-    while p < count {
+    for p in 0..h.pairs {
         let a = lexical_at(image, crate::side_start(h, p, crate::LEXICAL_BYTE));
-        marks[a.0 as usize] = 1;
-        p += 1;
+        marks[usize::from(a.0)] = 1;
     }
     marks[0] = 0;
     marks
@@ -44,12 +40,10 @@ pub fn each_marked(marks: &[u8; 256], letters: usize) -> bool
     requires { letters < 256 }
     ensures { result ≡ every (is_marked marks.now) (drop 2 (below (letters + 1))) }
 {
-    let mut a: usize = 2;
-    while a <= letters {
+    for a in 2..=letters {
         if marks[a] != 1 {
             return false;
         }
-        a += 1;
     }
     true
 }
@@ -59,12 +53,7 @@ pub fn are_marked(bytes: &[u8], from: usize, end: usize, marks: &[u8; 256]) -> b
     requires { (from ≤ end) × (end ≤ length bytes.now) }
     ensures { result ≡ every (is_marked marks.now) (drop from (take end bytes.now)) }
 {
-    let mut at = from;
-    while at < end {
-        if marks[image::byte_at(bytes, at)] != 1 {
-            return false;
-        }
-        at += 1;
-    }
-    true
+    bytes[from..end]
+        .iter()
+        .all(|&letter| marks[usize::from(letter)] == 1)
 }

@@ -8,7 +8,7 @@ use mathlib.Core.Path.{◌≡◌, refl, sym, ap, ◌∙◌, subst}
 use mathlib.Core.List.{List, [], ◌∷◌}
 use lib.ListN.{drop}
 use lib.Dec.{T, leb, ltb, eqb, ltb→lt, lt→ltb, eqb→eq, T_not, not_T}
-use borrow.Author.Tests.{le-ltb, lt-leb, eq-eqb, ne_eqb}
+use borrow.Author.Tests.{le-ltb, eq-eqb, ne_eqb}
 use Rattle.model.specs.Lists.{below, every, any, byte, bit}
 use Rattle.model.specs.Blocks.{entry_width}
 use Rattle.model.specs.RuleTables.{in_set}
@@ -98,11 +98,6 @@ module _ (l : List ℕ) (bits : ℕ) (names : Names (in_set (drop 16 l)) bits) (
   pub many_is : (lexicons : ℕ) → lexicons ≤ 64 → (leb (byte l 13) 1 && ltb bits (2 ^ lexicons) && (eqb (byte l 13) 1 || not (eqb bits 0))) ≡ right_ways l 2 lexicons
   unfolding right_ways may_stop
   many_is lexicons few = λ i. leb (byte l 13) 1 && named_is lexicons few i && (eqb (byte l 13) 1 || some_is i)
-
--- a mark that is none
-pub mark_over : (l : List ℕ) (lexicons : ℕ) → 1 < byte l 13 → right_ways l 2 lexicons ≡ false
-unfolding right_ways
-mark_over l lexicons h = rw (lt-leb (byte l 13) 1 h) refl
 
 -- by form
 pub ways_form : (l : List ℕ) (form lexicons : ℕ) → (form ≡ 2 → ⊥) → right_ways l form lexicons ≡ (ltb (byte l 13) lexicons || eqb (byte l 13) 255)

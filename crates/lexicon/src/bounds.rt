@@ -8,13 +8,11 @@ ghost use Rattle.lexicon.specs.Bounds.{bound_of, Bounds, in_row};
 fn bound_of(place: u8, letter: u8, anything: u8) -> u8
     ensures { result ≡ bound_of letter anything place }
 {
-    if place == b'a' {
-        return letter;
+    match place {
+        b'a' => letter,
+        b'*' => anything,
+        _ => 0,
     }
-    if place == b'*' {
-        return anything;
-    }
-    0
 }
 
 // The bounds of all rows: one for each form length from 0 to 12, of the bytes after the length. The last four of a row may be anything.
@@ -36,10 +34,8 @@ pub fn bounds_of(letter: u8, anything: u8) -> [u8; 208]
         aaaaaaaaaaa.****\
         aaaaaaaaaaaa****";
     let mut all = [0u8; 208];
-    let mut j: usize = 0;
-    while j < 208 {
+    for j in 0..208 {
         all[j] = bound_of(places[j], letter, anything);
-        j += 1;
     }
     all
 }
@@ -47,10 +43,7 @@ pub fn bounds_of(letter: u8, anything: u8) -> [u8; 208]
 fn is_between(low: u8, high: u8, b: u8) -> bool
     ensures { result ≡ within low high b }
 {
-    if b < low {
-        return false;
-    }
-    b <= high
+    (low..=high).contains(&b)
 }
 
 // Whether the sixteen bytes from `at` on are within the bounds of a row. All are looked at, with no way out, so that the compiler takes them as one.
@@ -59,12 +52,10 @@ pub fn in_bounds(image: &[u8], at: usize, low: &[u8; 208], high: &[u8; 208], row
     ensures { result ≡ every (in_row low.now high.now row image.now at) (below 16) }
 {
     let mut inside = true;
-    let mut i: usize = 0;
-    while i < 16 {
+    for i in 0..16 {
         if !is_between(low[row + i], high[row + i], image[at + i]) {
             inside = false;
         }
-        i += 1;
     }
     inside
 }

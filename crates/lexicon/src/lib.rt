@@ -16,6 +16,7 @@ ghost use Rattle.letters.specs.Marks.{is_marked};
 ghost use Rattle.lexicon.specs.Entries.{MarkedLetters, are_entries_of, is_lexicon_of};
 ghost use Rattle.lexicon.specs.Bounds.{Bounds};
 
+use image::kinds::Kind;
 use image::{Header, kinds};
 use letters::marks;
 
@@ -27,7 +28,7 @@ pub fn entry_count(image: &[u8], h: Header, x: usize) -> usize
 {
     image::number_at(
         image,
-        512 * kinds::first_block(h, 5) + (4 + kinds::LEXICON_WIDTH * x),
+        512 * kinds::first_block(h, Kind::Lexicons) + (4 + kinds::LEXICON_WIDTH * x),
     )
 }
 
@@ -38,10 +39,8 @@ pub fn first_entry(image: &[u8], h: Header, x: usize) -> usize
     ensures { (result ≡ first_entry image.now x) × (result ≤ 65535 * x) }
 {
     let mut sum: usize = 0;
-    let mut i: usize = 0;
-    while i < x {
+    for i in 0..x {
         sum += entry_count(image, h, i);
-        i += 1;
     }
     sum
 }
@@ -52,7 +51,7 @@ pub fn entry_start(h: Header, e: usize) -> usize
     requires e_lt_entries { e < h.entries }
     ensures { (result ≡ record_start (header_of h) 6 e) × (result < 65536) }
 {
-    kinds::record_start(h, 6, e)
+    kinds::record_start(h, Kind::Entries, e)
 }
 
 // How many letters the form of entry e has.
@@ -64,15 +63,13 @@ pub fn form_length(image: &[u8], h: Header, e: usize) -> usize
     image::byte_at(image, entry_start(h, e))
 }
 
-// Whether the letters of a form are all marked, or whether it is known that they are: `look` says that it is not.
+// Whether the letters of a form are all marked, or whether it is known that they are: `look` says that it is not. It stands beside the marks, and they are in no
+// `Option`, since what is promised speaks of the marks in either case.
 fn is_form(image: &[u8], from: usize, end: usize, marked: &[u8; 256], look: bool) -> bool
     requires { (from ≤ end) × (end ≤ length image.now) }
     ensures { result ≡ (not look || every (is_marked marked.now) (drop from (take end image.now))) }
 {
-    if !look {
-        return true;
-    }
-    marks::are_marked(image, from, end, marked)
+    !look || marks::are_marked(image, from, end, marked)
 }
 
 // Whether the bytes from `at` on are laid out as an entry whose letters are all marked. All that the form's length says of its twelve letters is looked up
@@ -96,13 +93,9 @@ fn is_entry(
     if form_length > 12 {
         return false;
     }
-    if !bounds::in_bounds(image, at + 1, low, high, 16 * form_length) {
-        return false;
-    }
-    if !is_form(image, at + 1, at + (1 + form_length), marked, look) {
-        return false;
-    }
-    ways::are_right(image, at, h)
+    bounds::in_bounds(image, at + 1, low, high, 16 * form_length)
+        && is_form(image, at + 1, at + (1 + form_length), marked, look)
+        && ways::are_right(image, at, h)
 }
 
 // Whether every entry is laid out as one whose letters are all marked.
@@ -111,20 +104,18 @@ fn are_entries(image: &[u8], h: Header, marked: &[u8; 256], look: bool) -> bool
     requires marked_letters { MarkedLetters marked.now h.letters look }
     ensures { result ≡ are_entries_of (is_marked marked.now) image.now (header_of h) }
 {
-    let wide = kinds::width(h, 6);
-    let most = kinds::per_block(h, 6);
+    let wide = kinds::width(h, Kind::Entries);
+    let most = kinds::per_block(h, Kind::Entries);
     // From the end of a block's last entry to the next block's first: unused bytes, the check, and the next block's number, kind and count.
     let between = 512 - wide * most;
     let low = bounds::bounds_of(2, 0);
     let high = bounds::bounds_of(h.letters as u8, 255);
-    let mut left = h.entries;
     let mut at = entry_start(h, 0);
     let mut room = most;
-    while left > 0 {
+    'entries: for _ in 0..h.entries {
         if !is_entry(image, at, h, &low, &high, marked, look) {
             return false;
         }
-        left -= 1;
         at += wide;
         room -= 1;
         if room == 0 {
@@ -141,12 +132,7 @@ fn is_lexicon(image: &[u8], h: Header, marked: &[u8; 256], look: bool) -> bool
     requires marked_letters { MarkedLetters marked.now h.letters look }
     ensures { result ≡ is_lexicon_of (is_marked marked.now) image.now (header_of h) }
 {
-    let lexicons = h.lexicons;
-    let entries = h.entries;
-    if first_entry(image, h, lexicons) != entries {
-        return false;
-    }
-    are_entries(image, h, marked, look)
+    first_entry(image, h, h.lexicons) == h.entries && are_entries(image, h, marked, look)
 }
 
 // Test 8 of the image check.

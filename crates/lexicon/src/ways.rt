@@ -17,34 +17,28 @@ pub struct Ways {
     pub stop: bool,
 }
 
-fn wide(x: u8) -> u64
-    ensures { (result ≡ x) × (result < 256) }
-{
-    x as u64
-}
-
 // The set in the eight bytes from `at` on.
 fn bits_at(image: &[u8], at: usize) -> u64
     requires { at + 8 ≤ length image.now }
     ensures { Names (in_set (drop at image.now)) result }
 {
-    let a = wide(image[at]);
-    let b = wide(image[at + 1]);
-    let c = wide(image[at + 2]);
-    let d = wide(image[at + 3]);
-    let e = wide(image[at + 4]);
-    let f = wide(image[at + 5]);
-    let g = wide(image[at + 6]);
-    let h = wide(image[at + 7]);
-    a + 256 * (b + 256 * (c + 256 * (d + 256 * (e + 256 * (f + 256 * (g + 256 * h))))))
+    u64::from_le_bytes([
+        image[at],
+        image[at + 1],
+        image[at + 2],
+        image[at + 3],
+        image[at + 4],
+        image[at + 5],
+        image[at + 6],
+        image[at + 7],
+    ])
 }
 
-// Whether a continuation is a lexicon or 255, the end of a path: one more, in a byte, is at most their number.
+// Whether a continuation is a lexicon or 255, the end of a path.
 fn is_continuation(continuation: usize, lexicons: usize) -> bool
-    requires { continuation < 256 }
     ensures { result ≡ (ltb continuation lexicons || eqb continuation 255) }
 {
-    (continuation + 1) % 256 <= lexicons
+    continuation < lexicons || continuation == 255
 }
 
 // Whether a set names lexicons that there are, and no other.
@@ -52,10 +46,7 @@ fn are_named(bits: u64, lexicons: usize) -> bool
     requires { lexicons ≤ 64 }
     ensures { result ≡ ltb bits (2 ^ lexicons) }
 {
-    if lexicons >= 64 {
-        return true;
-    }
-    bits < (1u64 << lexicons)
+    lexicons >= 64 || bits < (1u64 << lexicons)
 }
 
 // What test 8 asks of the ways on of the entry that begins at `at`, of form 2: a mark of 0 or 1, lexicons that there are, and one of them or the mark.
@@ -64,17 +55,8 @@ fn are_right_many(image: &[u8], at: usize, lexicons: usize) -> bool
     ensures { result ≡ right_ways (drop at image.now) 2 lexicons }
 {
     let mark = image::byte_at(image, at + 13);
-    if mark > 1 {
-        return false;
-    }
     let bits = bits_at(image, at + 16);
-    if !are_named(bits, lexicons) {
-        return false;
-    }
-    if mark == 1 {
-        return true;
-    }
-    bits != 0
+    mark <= 1 && are_named(bits, lexicons) && (mark == 1 || bits != 0)
 }
 
 // The same of either form.
@@ -99,10 +81,9 @@ pub fn ways_of(image: &[u8], h: Header, e: usize) -> Ways
     let at = crate::entry_start(h, e);
     let byte = image::byte_at(image, at + 13);
     if h.form == 2 {
-        let stop = byte == 1;
         return Ways {
             bits: bits_at(image, at + 16),
-            stop: stop,
+            stop: byte == 1,
         };
     }
     if byte == 255 {
@@ -124,7 +105,7 @@ pub fn ways_of(image: &[u8], h: Header, e: usize) -> Ways
 }
 
 // An entry's ways on in one number, where it has one: 255 where a path can only end at it, a lexicon where it can only go on with that one; 254 where that is
-// not said.
+// not said. The number is a byte of a slot of the index of forms, so that 254 and 255 take the place of an enum there.
 pub fn sole_way(ways: Ways) -> usize
     ensures { Sole ways.bits ways.stop result }
 {
@@ -151,6 +132,5 @@ pub fn way_of(image: &[u8], h: Header, e: usize) -> usize
     requires e_lt_entries { e < h.entries }
     ensures { WayOf (entry image.now e) h.form result }
 {
-    let ways = ways_of(image, h, e);
-    sole_way(ways)
+    sole_way(ways_of(image, h, e))
 }

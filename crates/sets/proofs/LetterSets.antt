@@ -1,21 +1,23 @@
 -- Sets: a set as it stands in the image, the test of its letters, and what a side sees, by which it is compared as one that names no set.
-use Prim.Native.Nat.{ℕ, ◌+◌, ◌*◌, ◌-◌, ◌/◌, ◌%◌, ◌<◌, ◌≤◌, ◌^◌}
+use Prim.Native.Nat.{ℕ, suc, ◌+◌, ◌*◌, ◌-◌, ◌/◌, ◌%◌, ◌<◌, ◌≤◌, ◌^◌}
 use native.Mathlib.Omega.{arith}
 use native.Mathlib.Decide.{ℕ_discrete, dec_le}
 use mathlib.Core.Bool.{Bool, true, false, ◌&&◌, ◌||◌, not, cond, true≢false}
 use mathlib.Core.Path.{◌≡◌, refl, sym, ap, ap₂, ◌∙◌, subst}
 use mathlib.Core.List.{List, [], ◌∷◌, map}
-use lib.ListN.{length, get_or, get_or-eq_default}
-use lib.Dec.{T, leb, eqb}
+use lib.ListN.{length, get_or, take, drop, get_or-eq_default, length-drop}
+use lib.Seq.{get_or-drop, take-length}
+use lib.Dec.{T, leb, eqb, eqb→eq}
 use borrow.Author.Tests.{le-leb, lt-leb, eq-eqb, ne_eqb}
-use Rattle.model.specs.Lists.{below, every, byte, bit}
+use Rattle.model.specs.Lists.{below, every, is_zero, byte, bit}
 use Rattle.model.specs.Blocks.{Header, header, kinds, record_start, record_at}
 use Rattle.model.specs.RuleTables.{Pair, Sides, letter_sets, in_set, is_set, names_set, matches_side, matches}
-use Rattle.model.proofs.Booleans.{within_out, of_true, true_of, false_of, not_both}
+use Rattle.model.proofs.Booleans.{within_out, and_in, of_true, true_of, false_of, not_both, eq→eqb}
 use Rattle.model.proofs.Lists.{bit_none, below_has, below_from, every_in, every_at, get_d_map_below, length_map_below}
+use Rattle.model.proofs.Rest.{every_get_d}
 use Rattle.image.specs.Laid.{Laid}
-use Rattle.image.proofs.Records.{record_inside, record_byte, record_length}
-use Rattle.sets.proofs.Bits.{halved, high_none, none_of, low_of}
+use Rattle.image.proofs.Records.{record_inside, record_part, record_length}
+use Rattle.sets.proofs.Bits.{high_none, none_of, low_of}
 use Rattle.sets.specs.Sides.{meets_side, meets}
 use Rattle.sets.specs.Seen.{seen_by}
 
@@ -43,20 +45,23 @@ module _ {image : List ℕ} {h : Header} (laid : Laid image h) (i : ℕ) where
       ∙ ap (λ (n : ℕ). bit n (a % 8)) (get_or-eq_default (record_at image 7 i) 0 {n = a / 8} (omega (arith, record_length laid 7 i k)))
       ∙ bit_none (a % 8)
 
-  -- a byte of a set is that byte of the image
-  pub set_byte : (j : ℕ) → j < 16 → byte (record_at image 7 i) j ≡ byte image (record_start h 7 i + j)
-  unfolding kinds
-  set_byte j k = record_byte laid 7 i j k
-
-  pub byte_inside : (j : ℕ) → i < h.sets → j < 16 → record_start h 7 i + j < length image
-  unfolding kinds
-  byte_inside j k l = record_inside laid 7 i j k l
-
-  pub set_bit : (a : ℕ) → i < h.sets → a < 128 → bit (byte image (record_start h 7 i + a / 8)) (a % 8) ≡ in_set (get_or (letter_sets image) i []) a
+  -- where it is there, the letter's bit stands in its record
+  pub set_has : (a : ℕ) → i < h.sets → bit (byte (record_at image 7 i) (a / 8)) (a % 8) ≡ in_set (get_or (letter_sets image) i []) a
   unfolding in_set
-  set_bit a k l =
-      ap (λ (n : ℕ). bit n (a % 8)) (sym (set_byte (a / 8) (omega arith)))
-      ∙ ap (λ (s : List ℕ). bit (byte s (a / 8)) (a % 8)) (sym (set_record k))
+  set_has a k = ap (λ (s : List ℕ). bit (byte s (a / 8)) (a % 8)) (sym (set_record k))
+
+  -- its record is a part of the image
+  pub set_inside : i < h.sets → record_start h 7 i + 16 ≤ length image
+  unfolding kinds
+  set_inside k = omega (arith, record_inside laid 7 i 15 k (omega arith))
+
+  pub set_part : record_at image 7 i ≡ take 16 (drop (record_start h 7 i) image)
+  unfolding kinds
+  set_part = record_part laid 7 i
+
+  pub set_length : i < h.sets → length (record_at image 7 i) ≡ 16
+  unfolding kinds
+  set_length k = record_length laid 7 i k
 
 -- the test of all sets, by their numbers
 module _ (image : List ℕ) (h : Header) (laid : Laid image h) where
@@ -68,6 +73,11 @@ module _ (image : List ℕ) (h : Header) (laid : Laid image h) where
       over f [] = refl
       over f (x ∷ xs) = ap (λ (b : Bool). f (record_at image 7 x) && b) (over f xs)
 
+-- a part of a list whose every byte is 0
+each_zero : (l : List ℕ) → ((j : ℕ) → j < length l → byte l j ≡ 0) → T (every is_zero l)
+each_zero [] none = tt
+each_zero (x ∷ l) none = and_in (is_zero x) (every is_zero l) (eq→eqb x 0 (none 0 (omega arith))) (each_zero l (λ j k. none (suc j) (omega arith)))
+
 -- test 6 of a set: by the byte that has letter L and by those after it
 module _ (letters : ℕ) (set : List ℕ) (most : letters < 128) where
   abbrev allows : ℕ → Bool
@@ -77,9 +87,11 @@ module _ (letters : ℕ) (set : List ℕ) (most : letters < 128) where
   last = byte set (letters / 8)
 
   -- no bit above L where the byte of L has none, and every byte after it is 0
-  pub set_right : halved last (letters % 8) ≤ 1 → ((j : ℕ) → letters / 8 < j → j < 16 → byte set j ≡ 0) → is_set letters set ≡ true
+  set_right : last / 2 ^ (letters % 8) ≤ 1 → ((j : ℕ) → letters / 8 < j → j < 16 → byte set j ≡ 0) → is_set letters set ≡ true
   unfolding is_set in_set
-  set_right low none = true_of (every allows (below 128)) (every_in allows (below 128) (λ a m. of_true (allows a) (each a (below_from 128 a m) (dec_le a letters) (ℕ_discrete (a / 8) (letters / 8)))))
+  set_right low none =
+      true_of (every allows (below 128))
+      (every_in allows (below 128) (λ a m. of_true (allows a) (each a (below_from 128 a m) (dec_le a letters) (ℕ_discrete (a / 8) (letters / 8)))))
     where
       each : (a : ℕ) → a < 128 → Dec (a ≤ letters) → Dec (a / 8 ≡ letters / 8) → allows a ≡ true
       each a h (yes k) d = ap (λ (b : Bool). b || not (in_set set a)) (le-leb a letters k)
@@ -104,11 +116,47 @@ module _ (letters : ℕ) (set : List ℕ) (most : letters < 128) where
         let c : in_set set a ≡ bit (byte set j) i = ap₂ (λ (x y : ℕ). bit (byte set x) y) q r in
         not_both (in_set set a) (subst T (sym c) b) (subst T (ap (λ (x : Bool). x || not (in_set set a)) (lt-leb a letters l)) t))
 
-    pub last_low : last < 2 ^ 8 → halved last (letters % 8) ≤ 1
+    pub last_low : last < 2 ^ 8 → last / 2 ^ (letters % 8) ≤ 1
     last_low few = low_of 8 last (letters % 8) few (omega arith) (λ i h k. none_above (letters / 8) i (omega arith) k (omega arith))
 
-    pub rest_none : (j : ℕ) → letters / 8 < j → j < 16 → byte set j < 2 ^ 8 → byte set j ≡ 0
+    rest_none : (j : ℕ) → letters / 8 < j → j < 16 → byte set j < 2 ^ 8 → byte set j ≡ 0
     rest_none j h k few = none_of 8 (byte set j) few (λ i l. none_above j i k l (omega arith))
+
+  -- so the test is right that looks at the bytes after the one of L alone, where that one has no bit above L
+  module _ (size : length set ≡ 16) (small : (j : ℕ) → byte set j < 2 ^ 8) where
+    rest : List ℕ
+    rest = drop (letters / 8 + 1) (take 16 set)
+
+    whole : take 16 set ≡ set
+    whole = ap (λ (n : ℕ). take n set) (sym size) ∙ take-length set
+
+    rest_byte : (j : ℕ) → byte rest j ≡ byte set (letters / 8 + 1 + j)
+    unfolding rest
+    rest_byte j = get_or-drop (letters / 8 + 1) (take 16 set) j 0 ∙ ap (λ (l : List ℕ). byte l (letters / 8 + 1 + j)) whole
+
+    rest_length : length rest ≡ 16 - (letters / 8 + 1)
+    unfolding rest
+    rest_length = length-drop (letters / 8 + 1) (take 16 set) ∙ ap (λ (l : List ℕ). length l - (letters / 8 + 1)) whole ∙ ap (λ (n : ℕ). n - (letters / 8 + 1)) size
+
+    pub rest_tested : last / 2 ^ (letters % 8) ≤ 1 → every is_zero (drop (letters / 8 + 1) (take 16 set)) ≡ is_set letters set
+    unfolding rest
+    rest_tested low = go (every is_zero rest) refl
+      where
+        zero_at : T (every is_zero rest) → (j : ℕ) → letters / 8 < j → j < 16 → byte set j ≡ 0
+        zero_at t j h k =
+            let at : letters / 8 + 1 + (j - (letters / 8 + 1)) ≡ j = omega arith in
+            ap (byte set) (sym at) ∙ sym (rest_byte (j - (letters / 8 + 1)))
+            ∙ eqb→eq (byte rest (j - (letters / 8 + 1))) 0 (every_get_d is_zero rest (j - (letters / 8 + 1)) 0 (omega (arith, rest_length)) t)
+
+        go : (b : Bool) → every is_zero rest ≡ b → every is_zero rest ≡ is_set letters set
+        go true e = e ∙ sym (set_right low (zero_at (of_true (every is_zero rest) e)))
+        go false e =
+            e
+            ∙ sym
+            (false_of (is_set letters set)
+            (λ t.
+            let none : T (every is_zero rest) = each_zero rest (λ j k. rest_byte j ∙ rest_none t (letters / 8 + 1 + j) (omega arith) (omega (arith, rest_length)) (small (letters / 8 + 1 + j))) in
+            absurd (subst T e none)))
 
 -- what a side sees
 module _ (sets : List (List ℕ)) where
@@ -130,9 +178,6 @@ module _ (sets : List (List ℕ)) where
     unfolding matches_side
     set_side letter = ap (λ (b : Bool). cond b (in_set (get_or sets (side - 128) []) letter) (eqb side 255 || eqb side letter)) e
 
-    pub named_least : 128 ≤ side
-    named_least = (within_out 128 158 side (of_true (names_set side) e)).0
-
     named_most : side ≤ 158
     named_most = (within_out 128 158 side (of_true (names_set side) e)).1
 
@@ -152,7 +197,8 @@ module _ (sets : List (List ℕ)) where
   pub plain_column : (c : Sides) (p : Pair) → (names_set c.lexical || names_set c.surface) ≡ false → meets c p ≡ matches sets c p
   unfolding meets matches
   plain_column c p e =
-      ap₂ (λ (x y : Bool). x && y) (plain_side_lem c.lexical (neither (names_set c.lexical) (names_set c.surface) e).0 p.lexical) (plain_side_lem c.surface (neither (names_set c.lexical) (names_set c.surface) e).1 p.surface)
+      let u = neither (names_set c.lexical) (names_set c.surface) e in
+      ap₂ (λ (x y : Bool). x && y) (plain_side_lem c.lexical u.0 p.lexical) (plain_side_lem c.surface u.1 p.surface)
     where
       neither : (a b : Bool) → (a || b) ≡ false → (a ≡ false) × (b ≡ false)
       neither false b e = (refl, e)

@@ -1,5 +1,4 @@
 pub mod Lists
-pub mod Within
 pub mod Written
 pub mod Pairs
 pub mod Bits

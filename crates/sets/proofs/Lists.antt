@@ -2,12 +2,13 @@
 use Prim.Native.Nat.{ℕ, zero, suc, ◌+◌, ◌<◌, ◌≤◌}
 use native.Mathlib.Nat.{zero-add, add-zero, add_assoc}
 use native.Mathlib.Omega.{arith}
-use mathlib.Core.Bool.{Bool, true, false, not, cond}
-use mathlib.Core.Path.{◌≡◌, sym, ap, ◌∙◌}
+use mathlib.Core.Bool.{Bool, true, false, ◌&&◌, not, cond}
+use mathlib.Core.Path.{◌≡◌, refl, sym, ap, ◌∙◌}
 use mathlib.Core.List.{List, [], ◌∷◌, ◌++◌}
 use lib.ListN.{length, get_or, take}
 use lib.Dec.{T}
 use borrow.Author.Tests.{not-true, not-false}
+use Rattle.std.specs.List.{list_all}
 use Rattle.model.specs.Lists.{every, count}
 use Rattle.model.proofs.Booleans.{and_out}
 use Rattle.model.proofs.Rest.{take_more}
@@ -18,6 +19,11 @@ fails r e k = sym e ∙ not-true r k
 
 pub passes : {b : Bool} (r : Bool) → r ≡ b → not r ≡ false → b ≡ true
 passes r e k = sym e ∙ not-false r k
+
+-- every and std's word for it are one
+pub every-list_all : {A : Type 0} (f : A → Bool) (xs : List A) → every f xs ≡ list_all f xs
+every-list_all f [] = refl
+every-list_all f (x ∷ xs) = ap (λ (b : Bool). f x && b) (every-list_all f xs)
 
 -- an element of a list whose every element passes, and past its end what passes as well
 module _ {A : Type 0} (f : A → Bool) (d : A) where

@@ -1,24 +1,15 @@
 -- Where a table's columns stand, and the pairs with the boundary pair after them.
 use Prim.Native.Nat.{ℕ, zero, suc, ◌+◌, ◌*◌}
 use native.Mathlib.Omega.{arith}
-use mathlib.Core.Bool.{Bool, true, ◌||◌}
 use mathlib.Core.Path.{◌≡◌, refl, ap, ◌∙◌}
 use mathlib.Core.List.{List, [], ◌∷◌, ◌++◌}
 use lib.ListN.{length, get_or, length-append}
 use lib.Seq.{get_or_at}
-use lib.Dec.{eqb}
-use borrow.Author.Tests.{eq-eqb, ne_eqb}
 use Rattle.model.specs.Lists.{byte}
 use Rattle.model.specs.Blocks.{header}
 use Rattle.model.specs.RuleTables.{Pair, Sides, column, pairs, boundary_pair, pairs_and_boundary}
 use Rattle.letters.proofs.Laws.{length_pairs}
-use Rattle.sets.specs.Sides.{sides_from, meets_side, pair_number}
-
-pub any_side : (side letter : ℕ) → side ≡ 255 → meets_side side letter ≡ true
-any_side side letter e = ap (λ (x : Bool). x || eqb side letter) (eq-eqb side 255 e)
-
-pub own_side : (side letter : ℕ) → (side ≡ 255 → ⊥) → meets_side side letter ≡ eqb side letter
-own_side side letter f = ap (λ (x : Bool). x || eqb side letter) (ne_eqb side 255 f)
+use Rattle.sets.specs.Sides.{sides_from, pair_number}
 
 abbrev sides_with : ℕ → ℕ → Sides
 sides_with x y = record { lexical = x; surface = y }

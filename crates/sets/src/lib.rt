@@ -2,10 +2,9 @@
 
 #![tactic(auto)]
 
-pub mod range;
 pub mod sides;
 
-ghost use Rattle.std.specs.Prelude.{◌≡◌, ◌||◌, [], ◌<◌, ◌≤◌, get_or};
+ghost use Rattle.std.specs.Prelude.{◌≡◌, ◌||◌, [], ◌<◌, ◌≤◌, get_or, length};
 ghost use Rattle.model.specs.Lists.{every, bit};
 ghost use Rattle.model.specs.Blocks.{record_at};
 ghost use Rattle.model.specs.RuleTables.{letter_sets, in_set, is_set, names_set};
@@ -15,18 +14,28 @@ ghost use Rattle.sets.specs.Sides.{sides_of};
 ghost use Rattle.sets.specs.Seen.{seen_by, Seen};
 
 use crate::sides::Sides;
+use image::kinds::Kind;
 use image::{Header, kinds};
 
-const POWER: [u8; 8] = [1, 2, 4, 8, 16, 32, 64, 128];
-
-// What a side that names a set sees of a letter that the set has not: no such side.
+// What a side that names a set sees of a letter that the set has not: no such side. It is no `Option`, so that the compiler takes many letters at once.
 const UNSEEN: u8 = 254;
 
+#[tactic(auto, using(std::proofs::lemmas::Nat::Bits::shr_and_one, crate::proofs::Bits::bit_shifted))]
 fn has_bit(byte: u8, i: usize) -> bool
     requires { i < 8 }
     ensures { result ≡ bit byte i }
 {
-    byte & POWER[i] != 0
+    byte >> i & 1 == 1
+}
+
+// The 16 bytes of set i.
+fn set_at(image: &[u8], h: Header, i: usize) -> &[u8]
+    requires laid { Laid image.now (header_of h) }
+    requires i_bound { i < h.sets }
+    ensures { (result.now ≡ record_at image.now 7 i) × (length result.now ≡ 16) }
+{
+    let from = kinds::record_start(h, Kind::Sets, i);
+    &image[from..from + 16]
 }
 
 // Whether set i has a letter. A set that is missing has none.
@@ -34,30 +43,24 @@ fn has_letter(image: &[u8], h: Header, i: usize, letter: u8) -> bool
     requires { Laid image.now (header_of h) }
     ensures { result ≡ in_set (get_or (letter_sets image.now) i []) letter }
 {
-    if h.sets <= i {
+    let letter = usize::from(letter);
+    if h.sets <= i || 128 <= letter {
         return false;
     }
-    if 128 <= letter {
-        return false;
-    }
-    let a = letter as usize;
-    has_bit(image[kinds::record_start(h, 7, i) + a / 8], a % 8)
+    has_bit(set_at(image, h, i)[letter / 8], letter % 8)
 }
 
 fn names_set(side: u8) -> bool
     ensures { result ≡ names_set side }
 {
-    range::is_within(128, 158, side as usize)
+    (128..=158).contains(&side)
 }
 
 // Whether either side of a column names a set.
 pub fn has_set(column: Sides) -> bool
     ensures { result ≡ (names_set (sides_of column).lexical || names_set (sides_of column).surface) }
 {
-    if names_set(column.lexical.0) {
-        return true;
-    }
-    names_set(column.surface.0)
+    names_set(column.lexical.0) || names_set(column.surface.0)
 }
 
 // What a side sees of a letter.
@@ -68,10 +71,11 @@ fn seen_letter(image: &[u8], h: Header, side: u8, letter: u8) -> u8
     if !names_set(side) {
         return letter;
     }
-    if has_letter(image, h, (side - 128) as usize, letter) {
-        return side;
+    if has_letter(image, h, usize::from(side - 128), letter) {
+        side
+    } else {
+        UNSEEN
     }
-    UNSEEN
 }
 
 // What a side sees of the first letters: where it names no set, all as they are.
@@ -84,34 +88,20 @@ pub fn seen(image: &[u8], h: Header, side: u8, letters: &[u8; 256], n: usize) ->
         return *letters;
     }
     let mut out = [UNSEEN; 256];
-    let mut p: usize = 0;
-    while p < n {
+    for p in 0..n {
         out[p] = seen_letter(image, h, side, letters[p]);
-        p += 1;
     }
     out
 }
 
-// Set i has no letter above L: no bit after L's in its byte, and none in the bytes after it.
-fn is_set(image: &[u8], h: Header, i: usize) -> bool
-    requires laid { Laid image.now (header_of h) }
-    requires i_bound { i < (header_of h).sets }
-    ensures { result ≡ is_set h.letters (record_at image.now 7 i) }
+// A set has no letter above L: no bit after L's in its byte, and none in the bytes after it.
+fn is_set(set: &[u8], letters: usize) -> bool
+    requires size { length set.now ≡ 16 }
+    requires letters_bound { letters < 128 }
+    ensures { result ≡ is_set letters set.now }
 {
-    let from = kinds::record_start(h, 7, i);
-    let last = h.letters / 8;
-    let power = POWER[h.letters % 8] as usize;
-    if image::byte_at(image, from + last) / power > 1 {
-        return false;
-    }
-    let mut j = last + 1;
-    while j < 16 {
-        if image::byte_at(image, from + j) != 0 {
-            return false;
-        }
-        j += 1;
-    }
-    true
+    let last = letters / 8;
+    set[last] >> (letters % 8) <= 1 && image::is_blank(set, last + 1, 16)
 }
 
 // No set has.
@@ -119,13 +109,10 @@ pub fn right_sets(image: &[u8], h: Header) -> bool
     requires { Laid image.now (header_of h) }
     ensures { result ≡ every (is_set h.letters) (letter_sets image.now) }
 {
-    let sets = h.sets;
-    let mut i: usize = 0;
-    while i < sets {
-        if !is_set(image, h, i) {
+    for i in 0..h.sets {
+        if !is_set(set_at(image, h, i), h.letters) {
             return false;
         }
-        i += 1;
     }
     true
 }

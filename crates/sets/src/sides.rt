@@ -31,20 +31,15 @@ pub fn sides_at(bytes: &[u8], at: usize) -> Sides
 fn side_matches(side: u8, letter: u8) -> bool
     ensures { result ≡ meets_side side letter }
 {
-    if side == 255 {
-        return true;
-    }
-    side == letter
+    side == 255 || side == letter
 }
 
 // A column matches a pair on both levels; where a side names a set, by what it sees.
+#[tactic(auto, unfolding(crate::specs::Sides::meets))]
 pub fn column_matches(column: Sides, pair: Pair) -> bool
     ensures { result ≡ meets (sides_of column) (pair_of pair) }
 {
-    if !side_matches(column.lexical.0, pair.lexical.0) {
-        return false;
-    }
-    side_matches(column.surface.0, pair.surface.0)
+    side_matches(column.lexical.0, pair.lexical.0) && side_matches(column.surface.0, pair.surface.0)
 }
 
 // Column c of a table.

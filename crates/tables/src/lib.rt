@@ -13,6 +13,7 @@ ghost use Rattle.image.specs.Laid.{Laid};
 ghost use Rattle.image.specs.Index.{column_row};
 
 use image::kinds;
+use image::kinds::Kind;
 
 // What test 6 asks of one table.
 fn is_table(t: &[u8], letters: usize, sets: usize) -> bool
@@ -25,18 +26,12 @@ fn is_table(t: &[u8], letters: usize, sets: usize) -> bool
         return false;
     }
     let marks = 2 + 2 * columns;
-    if !range::all_allowed(t, 2, marks, letters, sets, true) {
-        return false;
-    }
     let rows = marks + states;
-    if !range::all_allowed(t, marks, rows, 1, 0, false) {
-        return false;
-    }
     let end = rows + columns * states;
-    if !range::all_allowed(t, rows, end, states, 0, false) {
-        return false;
-    }
-    image::is_blank(t, end, kinds::TABLE_WIDTH)
+    range::are_sides(&t[2..marks], letters, sets)
+        && range::are_at_most(&t[marks..rows], 1)
+        && range::are_at_most(&t[rows..end], states)
+        && image::is_blank(t, end, kinds::TABLE_WIDTH)
 }
 
 // The table of rule r.
@@ -45,24 +40,18 @@ pub fn table_at(image: &[u8], h: image::Header, r: usize) -> &[u8]
     requires r_bound { r < (header_of h).rules }
     ensures { (result.now ≡ table image.now r) × (length result.now ≡ 506) }
 {
-    let from = kinds::record_start(h, 4, r);
-    let to = from + kinds::TABLE_WIDTH;
-    &image[from..to]
+    let from = kinds::record_start(h, Kind::Tables, r);
+    &image[from..from + kinds::TABLE_WIDTH]
 }
 
 fn each_table(image: &[u8], h: image::Header) -> bool
     requires { Laid image.now (header_of h) }
     ensures { result ≡ every (λ i. is_table (table image.now i) h.letters h.sets) (below h.rules) }
 {
-    let letters = h.letters;
-    let sets = h.sets;
-    let rules = h.rules;
-    let mut r = 0;
-    while r < rules {
-        if !is_table(table_at(image, h, r), letters, sets) {
+    for r in 0..h.rules {
+        if !is_table(table_at(image, h, r), h.letters, h.sets) {
             return false;
         }
-        r += 1;
     }
     true
 }
@@ -72,10 +61,7 @@ pub fn right_tables(image: &[u8], h: image::Header) -> bool
     requires { Laid image.now (header_of h) }
     ensures { result ≡ right_tables image.now }
 {
-    if !sets::right_sets(image, h) {
-        return false;
-    }
-    each_table(image, h)
+    sets::right_sets(image, h) && each_table(image, h)
 }
 
 // The columns that rule r takes for pair 0, 1, .. P-1 and the boundary pair, written to the front of `out`; whether every one of them
@@ -89,9 +75,9 @@ pub fn choose_columns(image: &[u8], h: image::Header, r: usize, out: &mut [u8]) 
     ensures value { result ≡ every (λ c. ltb c (column_count (table image.now r))) (columns_of image.now r) }
 {
     let t = table_at(image, h, r);
-    let columns = image::byte_at(t, 0);
+    let columns = t[0];
     let best = columns::find_columns(image, h, t, columns);
-    columns::put_columns(&best, h.pairs + 1, columns as u8, out)
+    columns::put_columns(&best, h.pairs + 1, columns, out)
 }
 
 // Test 7 of the image check, for callers that need no columns.
@@ -100,14 +86,11 @@ pub fn right_columns(image: &[u8], h: image::Header) -> bool
     requires t { T (right_tables image.now) }
     ensures { result ≡ right_columns image.now }
 {
-    let rules = h.rules;
     let mut chosen = [0u8; 256];
-    let mut r = 0;
-    while r < rules {
+    for r in 0..h.rules {
         if !choose_columns(image, h, r, &mut chosen) {
             return false;
         }
-        r += 1;
     }
     true
 }
@@ -120,15 +103,11 @@ pub fn keep_columns(image: &[u8], h: image::Header, out: &mut [u8]) -> bool
     ensures value { result ≡ right_columns image.now }
     ensures out_after { result ≡ true → out.new ≡ flat_map (column_row image.now) (below 32) }
 {
-    let rules = h.rules;
-    let mut r: usize = 0;
-    while r < rules {
+    for r in 0..h.rules {
         let from = 256 * r;
-        let to = from + 256;
-        if !choose_columns(image, h, r, &mut out[from..to]) {
+        if !choose_columns(image, h, r, &mut out[from..from + 256]) {
             return false;
         }
-        r += 1;
     }
     true
 }

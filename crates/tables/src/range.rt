@@ -1,56 +1,34 @@
-// Bytes of a table that must be within a bound.
-ghost use Rattle.std.specs.Prelude.{◌≡◌, ◌≤◌, length};
-ghost use Rattle.std.proofs.Math.Seq.{slice};
-ghost use Rattle.model.specs.Lists.{every, within};
-ghost use Rattle.tables.specs.Bounds.{right_counts, allowed};
+// Counts and bytes of a table that must be within a bound.
+ghost use Rattle.std.specs.Prelude.{◌≡◌, leb};
+ghost use Rattle.model.specs.Lists.{every};
+ghost use Rattle.model.specs.RuleTables.{is_side};
+ghost use Rattle.tables.specs.Bounds.{right_counts};
 
 // A table's column count and state count.
 pub fn right_counts(columns: usize, states: usize) -> bool
     ensures { result ≡ right_counts columns states }
 {
-    if !sets::range::is_within(1, 16, columns) {
-        return false;
-    }
-    sets::range::is_within(1, 24, states)
+    (1..=16).contains(&columns) && (1..=24).contains(&states)
 }
 
-// A byte that is at most `most`, or 255, or one that names a set, where `any` allows it.
-fn is_allowed(b: usize, most: usize, sets: usize, any: bool) -> bool
-    ensures { result ≡ allowed any sets most b }
+// A letter, or 255 for any, or a number that names a set.
+#[tactic(auto, unfolding(model::specs::RuleTables::is_side))]
+fn is_side(b: usize, letters: usize, sets: usize) -> bool
+    ensures { result ≡ is_side letters sets b }
 {
-    if b <= most {
-        return true;
-    }
-    if !any {
-        return false;
-    }
-    if b == 255 {
-        return true;
-    }
-    if b < 128 {
-        return false;
-    }
-    b - 128 < sets
+    b <= letters || b == 255 || 128 <= b && b - 128 < sets
 }
 
-// Every byte from `from` to before `to` is such a byte.
-pub fn all_allowed(
-    bytes: &[u8],
-    from: usize,
-    to: usize,
-    most: usize,
-    sets: usize,
-    any: bool,
-) -> bool
-    requires { (from ≤ to) × (to ≤ length bytes.now) }
-    ensures { result ≡ every (allowed any sets most) (slice from to bytes.now) }
+pub fn are_sides(bytes: &[u8], letters: usize, sets: usize) -> bool
+    ensures { result ≡ every (is_side letters sets) bytes.now }
 {
-    let mut i = from;
-    while i < to {
-        if !is_allowed(image::byte_at(bytes, i), most, sets, any) {
-            return false;
-        }
-        i += 1;
-    }
-    true
+    bytes
+        .iter()
+        .all(|&b| is_side(usize::from(b), letters, sets))
+}
+
+pub fn are_at_most(bytes: &[u8], most: usize) -> bool
+    ensures { result ≡ every (λ b. leb b most) bytes.now }
+{
+    bytes.iter().all(|&b| usize::from(b) <= most)
 }

@@ -1,5 +1,5 @@
 use mathlib.Core.Path.{◌≡◌}
-use Prim.Native.Nat.{◌≤◌, ◌-◌}
+use Prim.Native.Nat.{◌≤◌}
 use lib.ListN.{take}
 use Rattle.model.specs.Lists.{count}
 use Rattle.sets.specs.Sides.{sides_of, meets}
@@ -7,7 +7,4 @@ use Rattle.columns.specs.Passes.{listed}
 use Rattle.columns.proofs.breadth_of.Given as goal
 
 abbrev pub invariant-loop-p : goal.invariant-loop-p
-invariant-loop-p l = (l.p ≤ l.pairs) × ((l.n ≤ l.p) × (l.n ≡ count (meets (sides_of l.column)) (take l.p (listed l.lexical l.surface l.pairs))))
-
-abbrev pub decreases-loop-p : goal.decreases-loop-p
-decreases-loop-p l = l.pairs - l.p
+invariant-loop-p l = (l.breadth ≤ l.p) × (l.breadth ≡ count (meets (sides_of l.column)) (take l.p (listed l.pairs.lexical l.pairs.surface l.n)))

@@ -1,4 +1,3 @@
-use Prim.Native.Nat.{◌-◌}
 use mathlib.Core.Path.{◌≡◌}
 use lib.ListN.{drop}
 use Rattle.model.specs.Lists.{every}
@@ -7,6 +6,3 @@ use Rattle.letters.proofs.each_code_point.Given as goal
 
 abbrev pub invariant-loop-i : goal.invariant-loop-i
 invariant-loop-i l = every is_code_point (code_points l.image) ≡ every is_code_point (drop l.i (code_points l.image))
-
-abbrev pub decreases-loop-i : goal.decreases-loop-i
-decreases-loop-i l = l.letters - l.i

@@ -1,4 +1,4 @@
-use Prim.Native.Nat.{ℕ, ◌-◌}
+use Prim.Native.Nat.{ℕ}
 use mathlib.Core.Bool.{Bool}
 use mathlib.Core.Path.{◌≡◌}
 use mathlib.Core.List.{List}
@@ -13,6 +13,3 @@ right image = is_pair (header image).letters
 
 abbrev pub invariant-loop-p : goal.invariant-loop-p
 invariant-loop-p l = every (right l.image) (pairs l.image) ≡ every (right l.image) (drop l.p (pairs l.image))
-
-abbrev pub decreases-loop-p : goal.decreases-loop-p
-decreases-loop-p l = l.count - l.p

@@ -1,4 +1,4 @@
-use Prim.Native.Nat.{ℕ, ◌+◌, ◌-◌}
+use Prim.Native.Nat.{ℕ, ◌+◌}
 use mathlib.Core.Bool.{Bool}
 use mathlib.Core.Path.{◌≡◌}
 use mathlib.Core.List.{List}
@@ -14,6 +14,3 @@ again image i j = any (eqb (get_or (code_points image) i 0)) (drop j (code_point
 
 abbrev pub invariant-loop-j : goal.invariant-loop-j
 invariant-loop-j l = again l.image l.i (l.i + 1) ≡ again l.image l.i l.j
-
-abbrev pub decreases-loop-j : goal.decreases-loop-j
-decreases-loop-j l = l.letters - l.j

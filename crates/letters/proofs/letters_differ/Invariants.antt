@@ -1,4 +1,3 @@
-use Prim.Native.Nat.{◌-◌}
 use mathlib.Core.Path.{◌≡◌}
 use lib.ListN.{drop}
 use lib.Dec.{eqb}
@@ -8,6 +7,3 @@ use Rattle.letters.proofs.letters_differ.Given as goal
 
 abbrev pub invariant-loop-i : goal.invariant-loop-i
 invariant-loop-i l = distinct eqb (code_points l.image) ≡ distinct eqb (drop l.i (code_points l.image))
-
-abbrev pub decreases-loop-i : goal.decreases-loop-i
-decreases-loop-i l = l.letters - l.i

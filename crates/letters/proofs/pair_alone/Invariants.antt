@@ -1,4 +1,4 @@
-use Prim.Native.Nat.{ℕ, ◌+◌, ◌-◌}
+use Prim.Native.Nat.{ℕ, ◌+◌}
 use mathlib.Core.Bool.{Bool}
 use mathlib.Core.Path.{◌≡◌}
 use mathlib.Core.List.{List}
@@ -14,6 +14,3 @@ again image p q = any (same_pair (pair_at image p)) (drop q (pairs image))
 
 abbrev pub invariant-loop-q : goal.invariant-loop-q
 invariant-loop-q l = again l.image l.p (l.p + 1) ≡ again l.image l.p l.q
-
-abbrev pub decreases-loop-q : goal.decreases-loop-q
-decreases-loop-q l = l.count - l.q

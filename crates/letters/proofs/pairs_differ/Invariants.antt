@@ -1,4 +1,3 @@
-use Prim.Native.Nat.{◌-◌}
 use mathlib.Core.Path.{◌≡◌}
 use lib.ListN.{drop}
 use Rattle.model.specs.Lists.{distinct}
@@ -7,6 +6,3 @@ use Rattle.letters.proofs.pairs_differ.Given as goal
 
 abbrev pub invariant-loop-p : goal.invariant-loop-p
 invariant-loop-p l = distinct same_pair (pairs l.image) ≡ distinct same_pair (drop l.p (pairs l.image))
-
-abbrev pub decreases-loop-p : goal.decreases-loop-p
-decreases-loop-p l = l.count - l.p

@@ -1,8 +1,7 @@
-use mathlib.Core.Bool.{Bool}
+use mathlib.Core.Bool.{Bool, true}
 use mathlib.Core.List.{List}
 use mathlib.Core.Path.{◌≡◌}
-use Prim.Native.Nat.{ℕ, ◌+◌, ◌-◌, ◌%◌, ◌≤◌}
-use lib.ListN.{drop}
+use Prim.Native.Nat.{ℕ, ◌+◌, ◌%◌}
 use Rattle.model.specs.Lists.{below, every}
 use Rattle.model.specs.Blocks.{Header, per_block, record_start}
 use Rattle.model.specs.Lexicon.{entry, is_entry_of}
@@ -14,13 +13,9 @@ use Rattle.lexicon.proofs.are_entries.Given as goal
 abbrev pub is_right : List ℕ → List ℕ → Header → ℕ → Bool
 is_right image marked h e = is_entry_of (entry image e) h.form (is_marked marked) h.lexicons
 
--- entry left₀ - left comes next, at its place, with this many to come in its block
-abbrev pub invariant-loop-left : goal.invariant-loop-left
-invariant-loop-left l =
-    (l.left ≤ l.initial.left)
-    × (l.room + (l.initial.left - l.left) % per_block (header_of l.h) 6 ≡ per_block (header_of l.h) 6)
-    × (l.at ≡ record_start (header_of l.h) 6 (l.initial.left - l.left))
-    × (every (is_right l.image l.marked (header_of l.h)) (drop (l.initial.left - l.left) (below l.initial.left)) ≡ every (is_right l.image l.marked (header_of l.h)) (below l.initial.left))
-
-abbrev pub decreases-loop-left : goal.decreases-loop-left
-decreases-loop-left l = l.left
+-- the entry of that number comes next, at its place, with this many to come in its block
+abbrev pub invariant-entries : goal.invariant-entries
+invariant-entries l =
+    (l.room + l.counter % per_block (header_of l.h) 6 ≡ per_block (header_of l.h) 6)
+    × (l.at ≡ record_start (header_of l.h) 6 l.counter)
+    × (every (is_right l.image l.marked (header_of l.h)) (below l.counter) ≡ true)

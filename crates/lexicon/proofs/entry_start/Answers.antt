@@ -5,4 +5,4 @@ use Rattle.lexicon.proofs.entry_start.Goals as goal
 
 pub record_start-requires : goal.record_start-requires
 unfolding kinds
-record_start-requires c = record { limited = c.requires.limited; kind = (omega arith, omega arith); i_bound = c.requires.e_lt_entries }
+record_start-requires c = record { limited = c.requires.limited; i_bound = c.requires.e_lt_entries }

@@ -1,5 +1,4 @@
 -- `right_lexicon` meets its contract: the lexical sides of the pairs are marked.
-use native.Mathlib.Omega.{arith}
 use mathlib.Core.Bool.{not}
 use mathlib.Core.Path.{sym, ap, ◌∙◌, subst}
 use mathlib.Core.List.{List}
@@ -12,17 +11,17 @@ use Rattle.lexicon.specs.Entries.{MarkedLetters, is_lexicon_of}
 use Rattle.lexicon.proofs.Marked.{sides_marked, spelled_lexicon}
 use Rattle.lexicon.proofs.right_lexicon.Goals as goal
 
-pub each_marked-look-requires : goal.each_marked-look-requires
-each_marked-look-requires c = omega (arith, c.requires.laid.limits.letters_most)
-
 pub is_lexicon-requires : goal.is_lexicon-requires
 is_lexicon-requires c =
     let e = c.each_marked-look in
     let letters = c.args.h.letters in
     let is = c.lexical_marks-marked.ensures in
     let told = e.ensures ∙ ap (λ (m : List ℕ). every (is_marked m) (drop 2 (below (letters + 1)))) is in
-    record { laid = c.requires.laid; marked_letters = subst (λ (m : List ℕ). MarkedLetters m letters (not e.result)) (sym is) (sides_marked c.args.image.now (header_of c.args.h) c.requires.laid c.requires.t e.result told) }
+    let marks = sides_marked c.args.image.now (header_of c.args.h) c.requires.laid c.requires.t e.result told in
+    record { laid = c.requires.laid; marked_letters = subst (λ (m : List ℕ). MarkedLetters m letters (not e.result)) (sym is) marks }
 
 pub returns : goal.returns
 returns c =
-    c.is_lexicon.ensures ∙ ap (λ (m : List ℕ). is_lexicon_of (is_marked m) c.args.image.now (header_of c.args.h)) c.lexical_marks-marked.ensures ∙ spelled_lexicon c.args.image.now (header_of c.args.h) c.requires.laid c.requires.t
+    c.is_lexicon.ensures
+    ∙ ap (λ (m : List ℕ). is_lexicon_of (is_marked m) c.args.image.now (header_of c.args.h)) c.lexical_marks-marked.ensures
+    ∙ spelled_lexicon c.args.image.now (header_of c.args.h) c.requires.laid c.requires.t

@@ -1,28 +1,29 @@
--- `has_letter` meets its contract: a set that is missing and a letter past a set's bytes first, and then the letter's bit.
+-- `has_letter` meets its contract: a set that is missing and a letter past a set's bytes have none, and else the letter's bit decides.
 use native.Mathlib.Omega.{arith}
-use Prim.Native.Nat.{ℕ, ◌+◌, ◌/◌, ◌%◌}
-use mathlib.Core.Path.{sym, ap, ◌∙◌}
+use mathlib.Core.Bool.{false}
+use mathlib.Core.Path.{◌≡◌, sym, ap₂, ◌∙◌}
+use mathlib.Core.List.{List, []}
+use Prim.Native.Nat.{ℕ, ◌/◌, ◌%◌}
+use lib.ListN.{get_or}
 use Rattle.model.specs.Lists.{byte, bit}
-use Rattle.model.specs.Blocks.{kinds}
-use Rattle.sets.proofs.LetterSets.{set_missing, set_past, byte_inside, set_bit}
+use Rattle.model.specs.RuleTables.{letter_sets, in_set}
+use Rattle.sets.proofs.LetterSets.{set_missing, set_past, set_has}
 use Rattle.sets.proofs.has_letter.Goals as goal
+use Rattle.sets.proofs.has_letter.Goals.{then-h-i-via-then-h-i, then-h-i-via-else-h-i+then-letter-ge128}
 
 pub returns-then-h-i : goal.returns-then-h-i
-returns-then-h-i c = sym (set_missing c.requires c.args.i c.args.letter c.if-h-i.true)
-
-pub returns-then-letter-ge128 : goal.returns-then-letter-ge128
-returns-then-letter-ge128 c = sym (set_past c.requires c.args.i c.args.letter c.if-h-i.false c.if-letter-ge128.true)
-
-pub record_start-requires : goal.record_start-requires
-unfolding kinds
-record_start-requires c = record { limited = c.requires.limits; kind = (omega arith, omega arith); i_bound = c.if-h-i.false }
-
-pub bounds-image-record_start : goal.bounds-image-record_start
-bounds-image-record_start c = omega (arith, c.record_start.ensures.0, byte_inside c.requires c.args.i (c.args.letter / 8) c.if-h-i.false (omega arith))
+returns-then-h-i c =
+    let a = c.args in
+    let e : in_set (get_or (letter_sets a.image.now) a.i []) a.letter ≡ false =
+    elim c.then-h-i.branch [
+      | then-h-i-via-then-h-i w ↦ set_missing c.requires a.i a.letter w.if-h-i.true
+      | then-h-i-via-else-h-i+then-letter-ge128 w ↦ set_past c.requires a.i a.letter w.if-h-i.false (omega arith)
+    ] in
+    sym e
 
 pub returns : goal.returns
 returns c =
-    let a = c.args.letter in
+    let a = c.args in
     c.has_bit.ensures
-    ∙ ap (λ (n : ℕ). bit (byte c.args.image.now (n + a / 8)) (a % 8)) c.record_start.ensures.0
-    ∙ set_bit c.requires c.args.i a c.if-h-i.false c.if-letter-ge128.false
+    ∙ ap₂ (λ (s : List ℕ) (n : ℕ). bit (byte s (n / 8)) (n % 8)) c.set_at.ensures.0 c.from-letter.ensures
+    ∙ set_has c.requires a.i a.letter c.if-h-i.false

@@ -1,7 +1,7 @@
 use mathlib.Core.Path.{◌≡◌}
 use mathlib.Core.Bool.{Bool, true}
 use mathlib.Core.List.{List}
-use Prim.Native.Nat.{ℕ, ◌≤◌, ◌-◌}
+use Prim.Native.Nat.{ℕ}
 use Rattle.model.specs.Lists.{below, every}
 use Rattle.model.specs.Blocks.{record_at}
 use Rattle.model.specs.RuleTables.{is_set}
@@ -11,7 +11,4 @@ abbrev pub right : List ℕ → ℕ → ℕ → Bool
 right image letters i = is_set letters (record_at image 7 i)
 
 abbrev pub invariant-loop-i : goal.invariant-loop-i
-invariant-loop-i l = (l.i ≤ l.sets) × (every (right l.image l.h.letters) (below l.i) ≡ true)
-
-abbrev pub decreases-loop-i : goal.decreases-loop-i
-decreases-loop-i l = l.sets - l.i
+invariant-loop-i l = every (right l.image l.h.letters) (below l.i) ≡ true

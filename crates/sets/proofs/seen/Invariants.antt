@@ -1,4 +1,3 @@
-use Prim.Native.Nat.{◌-◌, ◌≤◌}
 use mathlib.Core.Path.{◌≡◌}
 use lib.ListN.{length}
 use Rattle.model.specs.Lists.{byte}
@@ -8,7 +7,4 @@ use Rattle.sets.proofs.Written.{Written}
 use Rattle.sets.proofs.seen.Given as goal
 
 abbrev pub invariant-loop-p : goal.invariant-loop-p
-invariant-loop-p l = (l.p ≤ l.n) × (length l.out ≡ 256) × Written (λ q. seen_by (letter_sets l.image) l.side (byte l.letters q)) l.initial.out l.p l.out
-
-abbrev pub decreases-loop-p : goal.decreases-loop-p
-decreases-loop-p l = l.n - l.p
+invariant-loop-p l = (length l.out ≡ 256) × Written (λ q. seen_by (letter_sets l.image) l.side (byte l.letters q)) l.initial.out l.p l.out

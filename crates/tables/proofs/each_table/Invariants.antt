@@ -1,7 +1,7 @@
 use mathlib.Core.Path.{◌≡◌}
 use mathlib.Core.Bool.{Bool, true}
 use mathlib.Core.List.{List}
-use Prim.Native.Nat.{ℕ, ◌≤◌, ◌-◌}
+use Prim.Native.Nat.{ℕ}
 use Rattle.model.specs.Lists.{below, every}
 use Rattle.model.specs.RuleTables.{table, is_table}
 use Rattle.tables.proofs.each_table.Given as goal
@@ -10,7 +10,4 @@ abbrev pub right : List ℕ → ℕ → ℕ → ℕ → Bool
 right image letters sets r = is_table (table image r) letters sets
 
 abbrev pub invariant-loop-r : goal.invariant-loop-r
-invariant-loop-r l = (l.r ≤ l.rules) × (every (right l.image l.letters l.sets) (below l.r) ≡ true)
-
-abbrev pub decreases-loop-r : goal.decreases-loop-r
-decreases-loop-r l = l.rules - l.r
+invariant-loop-r l = (every (right l.image l.h.letters l.h.sets) (below l.r) ≡ true)

@@ -1,64 +1,58 @@
--- `is_table` meets its contract: the counts, and then each range of bytes in turn.
-use native.Mathlib.Omega.{arith}
-use mathlib.Core.Path.{sym}
-use Prim.Native.Nat.{◌*◌, ◌≤◌}
-use Rattle.sets.proofs.Lists.{passes}
-use Rattle.tables.proofs.Bounds.{counts_fail, sides_fail, marks_fail, nexts_fail, counts_pass, sides_pass, marks_pass, nexts_pass, rest_decides, counts_bound}
+-- `is_table` meets its contract: the counts, and then each part of its bytes.
+use borrow.Author.Rules.{rules}
+use mathlib.Core.Bool.{Bool, ◌&&◌}
+use mathlib.Core.Path.{◌≡◌, sym, ◌∙◌}
+use Rattle.model.specs.RuleTables.{is_table}
+use Rattle.model.proofs.Booleans.{left_true, left_false}
+use Rattle.sets.proofs.Lists.{fails, passes}
+use Rattle.tables.proofs.Bounds.{sides_read, marks_read, nexts_read, rest_read, counts_fail, parts_are}
 use Rattle.tables.proofs.is_table.Goals as goal
-use Rattle.tables.proofs.is_table.Goals.{Else-not-right_counts}
+use Rattle.tables.proofs.is_table.Goals.{Joined-are_at_most, then-are_sides, else-are_sides, then-are_at_most, else-are_at_most}
 
--- after the counts
-module _ (c : Else-not-right_counts) where
-  bounds : (1 ≤ c.byte_at-columns.result) × (c.byte_at-columns.result ≤ 16) × (1 ≤ c.byte_at-states.result) × (c.byte_at-states.result ≤ 24) × (c.byte_at-columns.result * c.byte_at-states.result ≤ 384)
-  bounds = counts_bound c.byte_at-columns.result c.byte_at-states.result (passes c.right_counts.result c.right_counts.ensures c.if-not-right_counts.false-raw)
+-- by the counts that were read, the three parts before the unused bytes
+module _ (c : Joined-are_at_most) where
+  abbrev sides : Bool
+  sides = sides_read c.args.t.now c.args.letters c.args.sets c.byte_at-columns.result c.byte_at-states.result
+
+  abbrev marks : Bool
+  marks = marks_read c.args.t.now c.args.letters c.args.sets c.byte_at-columns.result c.byte_at-states.result
+
+  abbrev nexts : Bool
+  nexts = nexts_read c.args.t.now c.args.letters c.args.sets c.byte_at-columns.result c.byte_at-states.result
+
+  abbrev rest : Bool
+  rest = rest_read c.args.t.now c.args.letters c.args.sets c.byte_at-columns.result c.byte_at-states.result
+
+  two : c.if-are_sides.value ≡ (sides && marks)
+  two =
+      elim c.if-are_sides.branch [
+        | then-are_sides w ↦ w.value-is ∙ w.are_at_most.ensures ∙ sym (left_true sides marks (sym c.are_sides.ensures ∙ w.if-are_sides.true))
+        | else-are_sides w ↦ w.value-is ∙ w.if-are_sides.false ∙ sym (left_false sides marks (sym c.are_sides.ensures ∙ w.if-are_sides.false))
+      ]
+
+  three : c.if-are_at_most.value ≡ (sides && marks && nexts)
+  three =
+      elim c.if-are_at_most.branch [
+        | then-are_at_most w ↦ w.value-is ∙ w.are_at_most-then-are_at_most.ensures ∙ sym (left_true (sides && marks) nexts (sym two ∙ w.if-are_at_most.true))
+        | else-are_at_most w ↦ w.value-is ∙ w.if-are_at_most.false ∙ sym (left_false (sides && marks) nexts (sym two ∙ w.if-are_at_most.false))
+      ]
+
+  decided : (sides && marks && nexts && rest) ≡ is_table c.args.t.now c.args.letters c.args.sets
+  decided =
+      parts_are c.args.t.now c.args.letters c.args.sets c.byte_at-columns.result c.byte_at-states.result c.byte_at-columns.ensures.0 c.byte_at-states.ensures.0
+      c.requires (passes c.right_counts.result c.right_counts.ensures (search rules))
 
 pub returns-then-not-right_counts : goal.returns-then-not-right_counts
 returns-then-not-right_counts c =
     let a = c.args in
-    sym (counts_fail a.t.now a.letters a.sets c.byte_at-columns.result c.byte_at-states.result c.byte_at-columns.ensures.0 c.byte_at-states.ensures.0 c.right_counts.result c.right_counts.ensures c.if-not-right_counts.true-raw)
+    sym (counts_fail a.t.now a.letters a.sets _ _ c.byte_at-columns.ensures.0 c.byte_at-states.ensures.0 (fails c.right_counts.result c.right_counts.ensures (search rules)))
 
-pub all_allowed-requires : goal.all_allowed-requires
-all_allowed-requires c = let b = bounds c in omega arith
+pub returns-then-are_at_most-2 : goal.returns-then-are_at_most-2
+returns-then-are_at_most-2 c =
+    let j = (goal.at.returns-then-are_at_most-2 c).Joined-are_at_most in
+    c.is_blank.ensures ∙ sym (left_true (sides j && marks j && nexts j) (rest j) (sym (three j) ∙ c.if-are_at_most-2.true)) ∙ decided j
 
-pub returns-then-not-all_allowed : goal.returns-then-not-all_allowed
-returns-then-not-all_allowed c =
-    let a = c.args in
-    sym (sides_fail a.t.now a.letters a.sets c.byte_at-columns.result c.byte_at-states.result c.byte_at-columns.ensures.0 c.byte_at-states.ensures.0 c.all_allowed.result c.all_allowed.ensures c.if-not-all_allowed.true-raw)
-
-pub all_allowed-requires-2 : goal.all_allowed-requires-2
-all_allowed-requires-2 c = let b = bounds (goal.at.all_allowed-requires-2 c).Else-not-right_counts in omega arith
-
-pub returns-then-not-all_allowed-2 : goal.returns-then-not-all_allowed-2
-returns-then-not-all_allowed-2 c =
-    let a = c.args in
-    sym (marks_fail a.t.now a.letters a.sets c.byte_at-columns.result c.byte_at-states.result c.byte_at-columns.ensures.0 c.byte_at-states.ensures.0 c.all_allowed-2.result c.all_allowed-2.ensures c.if-not-all_allowed-2.true-raw)
-
-pub overflow_mul-end : goal.overflow_mul-end
-overflow_mul-end c = let b = bounds (goal.at.overflow_mul-end c).Else-not-right_counts in omega arith
-
-pub overflow_add-end : goal.overflow_add-end
-overflow_add-end c = let b = bounds (goal.at.overflow_add-end c).Else-not-right_counts in omega arith
-
-pub all_allowed-requires-3 : goal.all_allowed-requires-3
-all_allowed-requires-3 c = let b = bounds (goal.at.all_allowed-requires-3 c).Else-not-right_counts in omega arith
-
-pub returns-then-not-all_allowed-3 : goal.returns-then-not-all_allowed-3
-returns-then-not-all_allowed-3 c =
-    let a = c.args in
-    sym (nexts_fail a.t.now a.letters a.sets c.byte_at-columns.result c.byte_at-states.result c.byte_at-columns.ensures.0 c.byte_at-states.ensures.0 c.all_allowed-3.result c.all_allowed-3.ensures c.if-not-all_allowed-3.true-raw)
-
-pub returns : goal.returns
-returns c =
-    let t = c.args.t.now in
-    let a = c.args.letters in
-    let sets = c.args.sets in
-    let x = c.byte_at-columns.result in
-    let y = c.byte_at-states.result in
-    let p = c.byte_at-columns.ensures.0 in
-    let q = c.byte_at-states.ensures.0 in
-    rest_decides t a sets x y p q c.requires
-    (counts_pass t a sets x y p q c.right_counts.result c.right_counts.ensures c.if-not-right_counts.false-raw)
-    (sides_pass t a sets x y p q c.all_allowed.result c.all_allowed.ensures c.if-not-all_allowed.false-raw)
-    (marks_pass t a sets x y p q c.all_allowed-2.result c.all_allowed-2.ensures c.if-not-all_allowed-2.false-raw)
-    (nexts_pass t a sets x y p q c.all_allowed-3.result c.all_allowed-3.ensures c.if-not-all_allowed-3.false-raw)
-    c.is_blank.result c.is_blank.ensures
+pub returns-else-are_at_most-2 : goal.returns-else-are_at_most-2
+returns-else-are_at_most-2 c =
+    let j = (goal.at.returns-else-are_at_most-2 c).Joined-are_at_most in
+    c.if-are_at_most-2.false ∙ sym (left_false (sides j && marks j && nexts j) (rest j) (sym (three j) ∙ c.if-are_at_most-2.false)) ∙ decided j

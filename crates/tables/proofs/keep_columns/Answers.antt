@@ -2,7 +2,7 @@
 use borrow.Author.Rules.{rules}
 use native.Mathlib.Omega.{arith}
 use mathlib.Core.Path.{◌≡◌, refl, sym, ap, subst, ◌∙◌}
-use Prim.Native.Nat.{ℕ, ◌+◌, ◌*◌, ◌<◌, ◌-◌}
+use Prim.Native.Nat.{ℕ, ◌+◌, ◌*◌, ◌<◌, ◌≤◌, ◌-◌}
 use lib.Dec.{T}
 use lib.ListN.{length, length-replicate}
 use borrow.Rule.Slice.PartMut.{same_len_mid}
@@ -28,26 +28,13 @@ rules_are s = ap (λ (k : Header). k.rules) s.requires.laid.header_is
 
 pub loop-r-init : goal.loop-r-init
 loop-r-init c =
-    (search rules, begins (goal.at.loop-r-init c).Start, c.requires.out_value ∙ rows_none (column_row c.args.image.now) (length_column_row c.args.image.now) 32, refl)
-
-pub slice_bounds-choose_columns-end : goal.slice_bounds-choose_columns-end
-slice_bounds-choose_columns-end c = omega (arith, c.requires.laid.limits.rules_most)
-
-pub choose_columns-requires : goal.choose_columns-requires
-choose_columns-requires c =
-    let laid = c.requires.laid in
-    let lent = lent_row (column_row c.args.image.now) (length_column_row c.args.image.now) 32 c.loop-r.r (omega (arith, laid.limits.rules_most)) c.loop-r.out c.loop-r.invariant.2 in
-    record { laid = laid; r_bound = search rules; t = c.requires.t; h_in_bounds = omega (arith, ap length lent, length-replicate {A = ℕ} 256 0, laid.limits.pairs_most) }
-
-pub shape_of-out-then-not-choose_columns : goal.shape_of-out-then-not-choose_columns
-shape_of-out-then-not-choose_columns c =
-    let r = c.loop-r.r in
-    same_len_mid (256 * r) (256 * r + 256 - 256 * r) c.loop-r.out c.choose_columns.new.out c.choose_columns.auto.out ∙ c.loop-r.invariant.1 ∙ sym (begins (goal.at.shape_of-out-then-not-choose_columns c).Start)
+    (begins (goal.at.loop-r-init c).Start, c.requires.out_value ∙ rows_none (column_row c.args.image.now) (length_column_row c.args.image.now) 32, refl)
 
 pub returns-then-not-choose_columns : goal.returns-then-not-choose_columns
 returns-then-not-choose_columns c =
+    let f = right c.args.image.now in
     record {
-      value = sym (every_fails (right c.args.image.now) c.args.h.rules c.loop-r.r c.loop-r-test.true (fails {b = right c.args.image.now c.loop-r.r} c.choose_columns.result c.choose_columns.ensures.value c.if-not-choose_columns.true-raw))
+      value = sym (every_fails f c.args.h.rules c.loop-r.r c.loop-r-test.true (fails {b = f c.loop-r.r} c.choose_columns.result c.choose_columns.ensures.value (search rules)))
           ∙ columns_read c.args.image.now (header_of c.args.h) c.requires.laid;
       out_after = λ e. absurd (subst T (sym e) tt);
     }
@@ -58,19 +45,23 @@ loop-r-preserved c =
     let laid = c.requires.laid in
     let r = c.loop-r.r in
     let few : r < 32 = omega (arith, laid.limits.rules_most) in
-    let lent = lent_row (column_row image) (length_column_row image) 32 r few c.loop-r.out c.loop-r.invariant.2 in
-    let stored = c.choose_columns.ensures.out_after ∙ columns_stored image r c.args.h.pairs _ (omega (arith, rules_are (goal.at.loop-r-preserved c).Start)) (laid_pairs laid) (omega (arith, laid.limits.pairs_most)) lent in (
-      omega arith,
-      same_len_mid (256 * r) (256 * r + 256 - 256 * r) c.loop-r.out c.choose_columns.new.out c.choose_columns.auto.out ∙ c.loop-r.invariant.1,
-      rows_more (column_row image) (length_column_row image) 32 r few c.loop-r.out c.loop-r.invariant.2 c.choose_columns.new.out stored,
-      every_more (right image) r c.loop-r.invariant.3 (passes {b = right image r} c.choose_columns.result c.choose_columns.ensures.value c.if-not-choose_columns.false-raw),
+    let lent = lent_row (column_row image) (length_column_row image) 32 r few c.loop-r.out c.loop-r.invariant.1 in
+    let all = rules_are (goal.at.loop-r-preserved c).Start in
+    let stored = c.choose_columns.ensures.out_after ∙ columns_stored image r c.args.h.pairs _ (omega arith) (laid_pairs laid) (omega (arith, laid.limits.pairs_most)) lent in (
+      same_len_mid (256 * r) (256 * r + 256 - 256 * r) c.loop-r.out c.choose_columns.new.out c.choose_columns.auto.out ∙ c.loop-r.invariant.0,
+      rows_more (column_row image) (length_column_row image) 32 r few c.loop-r.out c.loop-r.invariant.1 c.choose_columns.new.out stored,
+      every_more (right image) r c.loop-r.invariant.2 (passes {b = right image r} c.choose_columns.result c.choose_columns.ensures.value (search rules)),
     )
-
-pub shape_of-out : goal.shape_of-out
-shape_of-out c =
-    c.loop-r.invariant.1 ∙ sym (begins (goal.at.shape_of-out c).Start)
 
 pub returns : goal.returns
 returns c =
     let image = c.args.image.now in
-    let e : c.loop-r.r ≡ c.args.h.rules = omega arith in record { value = sym c.loop-r.invariant.3 ∙ ap (λ (n : ℕ). every (right image) (below n)) e ∙ columns_read image (header_of c.args.h) c.requires.laid; out_after = λ ok. c.loop-r.invariant.2 ∙ rows_all (column_row image) (length_column_row image) 32 (header image).rules (λ i m. no_columns image i m) c.loop-r.r (omega (arith, rules_are (goal.at.returns c).Start)) (omega (arith, c.requires.laid.limits.rules_most)) }
+    let l = c.loop-r in
+    let e : l.r ≡ c.args.h.rules = omega arith in
+    let all = rules_are (goal.at.returns c).Start in
+    record {
+      value = sym l.invariant.2 ∙ ap (λ (n : ℕ). every (right image) (below n)) e ∙ columns_read image (header_of c.args.h) c.requires.laid;
+      out_after = λ ok.
+          let few : l.r ≤ 32 = omega (arith, c.requires.laid.limits.rules_most) in
+          l.invariant.1 ∙ rows_all (column_row image) (length_column_row image) 32 (header image).rules (λ i m. no_columns image i m) l.r (omega arith) few;
+    }

@@ -1,7 +1,7 @@
 use mathlib.Core.Path.{◌≡◌}
 use mathlib.Core.Bool.{Bool, true}
 use mathlib.Core.List.{List}
-use Prim.Native.Nat.{ℕ, ◌≤◌, ◌-◌}
+use Prim.Native.Nat.{ℕ}
 use lib.Dec.{ltb}
 use lib.ListN.{length}
 use Rattle.model.specs.Lists.{below, every}
@@ -14,7 +14,4 @@ abbrev pub right : List ℕ → ℕ → Bool
 right image r = every (λ c. ltb c (column_count (table image r))) (columns_of image r)
 
 abbrev pub invariant-loop-r : goal.invariant-loop-r
-invariant-loop-r l = (l.r ≤ l.rules) × (length l.out ≡ 8192) × (l.out ≡ rows_to (column_row l.image) 32 l.r) × (every (right l.image) (below l.r) ≡ true)
-
-abbrev pub decreases-loop-r : goal.decreases-loop-r
-decreases-loop-r l = l.rules - l.r
+invariant-loop-r l = (length l.out ≡ 8192) × (l.out ≡ rows_to (column_row l.image) 32 l.r) × (every (right l.image) (below l.r) ≡ true)

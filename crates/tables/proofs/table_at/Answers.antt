@@ -12,7 +12,7 @@ use Rattle.tables.proofs.table_at.Goals as goal
 
 pub record_start-from-requires : goal.record_start-from-requires
 unfolding kinds
-record_start-from-requires c = record { limited = search rules; kind = search rules; i_bound = search rules }
+record_start-from-requires c = record { limited = search rules; i_bound = search rules }
 
 pub slice_bounds-result-end : goal.slice_bounds-result-end
 slice_bounds-result-end c =

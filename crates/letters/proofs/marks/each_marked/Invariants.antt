@@ -1,12 +1,9 @@
 use mathlib.Core.Path.{◌≡◌}
-use Prim.Native.Nat.{◌+◌, ◌-◌, ◌≤◌}
+use Prim.Native.Nat.{◌+◌}
 use lib.ListN.{drop}
 use Rattle.model.specs.Lists.{below, every}
 use Rattle.letters.specs.Marks.{is_marked}
 use Rattle.letters.proofs.marks.each_marked.Given as goal
 
 abbrev pub invariant-loop-a : goal.invariant-loop-a
-invariant-loop-a l = (2 ≤ l.a) × (every (is_marked l.marks) (drop l.a (below (l.letters + 1))) ≡ every (is_marked l.marks) (drop 2 (below (l.letters + 1))))
-
-abbrev pub decreases-loop-a : goal.decreases-loop-a
-decreases-loop-a l = l.letters + 1 - l.a
+invariant-loop-a l = every (is_marked l.marks) (drop l.a (below (l.letters + 1))) ≡ every (is_marked l.marks) (drop 2 (below (l.letters + 1)))

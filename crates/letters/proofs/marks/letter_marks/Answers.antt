@@ -9,22 +9,15 @@ use Rattle.letters.proofs.MarkLaws.{letters_below, marks_start, marks_more, mark
 use Rattle.letters.proofs.marks.letter_marks.Goals as goal
 
 pub loop-a-init : goal.loop-a-init
-loop-a-init c = (omega arith, omega arith, marks_start)
-
-pub bounds-marks-a : goal.bounds-marks-a
-bounds-marks-a c = omega arith
-
-pub loop-a-smaller : goal.loop-a-smaller
-loop-a-smaller c = omega arith
+loop-a-init c = marks_start
 
 pub loop-a-preserved : goal.loop-a-preserved
 loop-a-preserved c =
-    let l = c.loop-a in
-    (omega arith, omega arith, ap (λ (m : List ℕ). set m l.a 1) l.invariant.2 ∙ marks_more l.a (omega arith) (omega arith))
+    ap (λ (m : List ℕ). set m c.loop-a.a 1) c.loop-a.invariant ∙ marks_more c.loop-a.a (omega arith) (omega arith)
 
-pub returns : goal.returns
-returns c =
-    let l = c.loop-a in
+pub returns-2 : goal.returns-2
+returns-2 c =
+    let a = c.loop-a.a in
     let letters = c.args.letters in
-    let e : l.a ≡ letters + 1 = omega arith in
-    l.invariant.2 ∙ ap (λ (n : ℕ). marks_of (letters_below n)) e ∙ marks_letters letters
+    let last : a + 1 ≡ letters + 1 = omega arith in
+    ap (λ (m : List ℕ). set m a 1) c.loop-a.invariant ∙ marks_more a (omega arith) (omega arith) ∙ ap (λ (n : ℕ). marks_of (letters_below n)) last ∙ marks_letters letters

@@ -14,10 +14,7 @@ use Rattle.lexicon.proofs.bounds.bounds_of.Goals.{After-bound_of}
 
 pub loop-j-init : goal.loop-j-init
 unfolding rows
-loop-j-init c = (omega arith, length-replicate {A = ℕ} 208 0, refl, λ k h. absurd (omega arith))
-
-pub loop-j-smaller : goal.loop-j-smaller
-loop-j-smaller c = omega arith
+loop-j-init c = (length-replicate {A = ℕ} 208 0, refl, λ k h. absurd (omega arith))
 
 -- the bounds after one more
 module _ (c : After-bound_of) where
@@ -25,19 +22,19 @@ module _ (c : After-bound_of) where
   bound k = bound_of c.args.letter c.args.anything (byte rows k)
 
   one : (k : ℕ) → Dec (k ≡ c.loop-j.j) → k < c.loop-j.j + 1 → byte (set c.loop-j.all c.loop-j.j c.bound_of.result) k ≡ bound k
-  one k (yes e) h = rw e (get_or-set_same c.loop-j.all c.loop-j.j c.bound_of.result 0 (omega (arith, c.loop-j.invariant.1)) ∙ own)
+  one k (yes e) h = rw e (get_or-set_same c.loop-j.all c.loop-j.j c.bound_of.result 0 (omega (arith, c.loop-j.invariant.0)) ∙ own)
     where
       own : c.bound_of.result ≡ bound c.loop-j.j
-      own = c.bound_of.ensures ∙ ap (λ (l : List ℕ). bound_of c.args.letter c.args.anything (byte l c.loop-j.j)) c.loop-j.invariant.2
-  one k (no e) h = get_or-set_other c.loop-j.all c.loop-j.j k c.bound_of.result 0 e ∙ c.loop-j.invariant.3 k (omega arith)
+      own = c.bound_of.ensures ∙ ap (λ (l : List ℕ). bound_of c.args.letter c.args.anything (byte l c.loop-j.j)) c.loop-j.invariant.1
+  one k (no e) h = get_or-set_other c.loop-j.all c.loop-j.j k c.bound_of.result 0 e ∙ c.loop-j.invariant.2 k (omega arith)
 
 pub loop-j-preserved : goal.loop-j-preserved
 loop-j-preserved c =
     let l = c.loop-j in
-    (omega arith, length-set l.all l.j c.bound_of.result ∙ l.invariant.1, l.invariant.2, λ k. one c k (ℕ_discrete k l.j))
+    (length-set l.all l.j c.bound_of.result ∙ l.invariant.0, l.invariant.1, λ k. one c k (ℕ_discrete k l.j))
 
 pub returns : goal.returns
 returns c =
     let l = c.loop-j in
     let a = c.args in
-    record { bound = λ n i h k. l.invariant.3 (16 * n + i) (omega arith) ∙ ap (bound_of a.letter a.anything) (row_place n i h k) }
+    record { bound = λ n i h k. l.invariant.2 (16 * n + i) (omega arith) ∙ ap (bound_of a.letter a.anything) (row_place n i h k) }

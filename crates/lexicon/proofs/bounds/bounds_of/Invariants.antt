@@ -1,5 +1,5 @@
 use mathlib.Core.Path.{◌≡◌}
-use Prim.Native.Nat.{ℕ, ◌-◌, ◌<◌, ◌≤◌}
+use Prim.Native.Nat.{ℕ, ◌<◌}
 use lib.ListN.{length}
 use Rattle.model.specs.Lists.{byte}
 use Rattle.lexicon.specs.Bounds.{bound_of}
@@ -8,10 +8,6 @@ use Rattle.lexicon.proofs.bounds.bounds_of.Given as goal
 
 abbrev pub invariant-loop-j : goal.invariant-loop-j
 invariant-loop-j l =
-    (l.j ≤ 208)
-    × (length l.all ≡ 208)
+    (length l.all ≡ 208)
     × (l.places ≡ rows)
     × ((k : ℕ) → k < l.j → byte l.all k ≡ bound_of l.letter l.anything (byte rows k))
-
-abbrev pub decreases-loop-j : goal.decreases-loop-j
-decreases-loop-j l = 208 - l.j

@@ -5,5 +5,5 @@ use Rattle.lexicon.proofs.ways.way_of.Goals as goal
 
 pub returns : goal.returns
 returns c =
-    let w = c.ways_of-ways in
+    let w = c.ways_of in
     way_sole (entry c.args.image.now c.args.e) c.args.h.form w.result.bits w.result.stop w.ensures.stop w.ensures.bits c.sole_way.result c.sole_way.ensures

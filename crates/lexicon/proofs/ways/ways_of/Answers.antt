@@ -51,30 +51,38 @@ byte_at-byte-requires c =
 
 pub bits_at-requires : goal.bits_at-requires
 bits_at-requires c =
-    omega (arith, entry_room (image (goal.at.bits_at-requires c).After-byte_at-byte) (h (goal.at.bits_at-requires c).After-byte_at-byte) c.requires.laid (e (goal.at.bits_at-requires c).After-byte_at-byte) c.requires.e_lt_entries, (width_by (form (goal.at.bits_at-requires c).After-byte_at-byte)).1 c.if-h-eq2.true, c.entry_start-at.ensures.0)
+    let b = (goal.at.bits_at-requires c).After-byte_at-byte in
+    omega (arith, entry_room (image b) (h b) c.requires.laid (e b) c.requires.e_lt_entries, (width_by (form b)).1 c.if-h-eq2.true, c.entry_start-at.ensures.0)
 
 pub returns-then-h-eq2 : goal.returns-then-h-eq2
 returns-then-h-eq2 c =
+    let b = (goal.at.returns-then-h-eq2 c).After-byte_at-byte in
+    let own = entry (image b) (e b) in
     let two = c.if-h-eq2.true in record {
-      stop = ap (λ (n : ℕ). eqb n 1) (byte_is (goal.at.returns-then-h-eq2 c).After-byte_at-byte) ∙ sym (many_stops (entry (image (goal.at.returns-then-h-eq2 c).After-byte_at-byte) (e (goal.at.returns-then-h-eq2 c).After-byte_at-byte)) (form (goal.at.returns-then-h-eq2 c).After-byte_at-byte) two);
-      bits = λ x few. many_names (entry (image (goal.at.returns-then-h-eq2 c).After-byte_at-byte) (e (goal.at.returns-then-h-eq2 c).After-byte_at-byte)) (form (goal.at.returns-then-h-eq2 c).After-byte_at-byte) two x ∙ set_there (goal.at.returns-then-h-eq2 c).After-byte_at-byte two x few
-          ∙ c.bits_at.ensures x few;
+      stop = ap (λ (n : ℕ). eqb n 1) (byte_is b) ∙ sym (many_stops own (form b) two);
+      bits = λ x few. many_names own (form b) two x ∙ set_there b two x few ∙ c.bits_at.ensures x few;
     }
 
 pub returns-then-byte-eq255 : goal.returns-then-byte-eq255
 returns-then-byte-eq255 c =
-    let end = sym (byte_is (goal.at.returns-then-byte-eq255 c).After-byte_at-byte) ∙ c.if-byte-eq255.true in
-    record { stop = sym (end_stops (entry (image (goal.at.returns-then-byte-eq255 c).After-byte_at-byte) (e (goal.at.returns-then-byte-eq255 c).After-byte_at-byte)) (form (goal.at.returns-then-byte-eq255 c).After-byte_at-byte) c.if-h-eq2.false end); bits = end_names (entry (image (goal.at.returns-then-byte-eq255 c).After-byte_at-byte) (e (goal.at.returns-then-byte-eq255 c).After-byte_at-byte)) (form (goal.at.returns-then-byte-eq255 c).After-byte_at-byte) c.if-h-eq2.false end }
+    let b = (goal.at.returns-then-byte-eq255 c).After-byte_at-byte in
+    let own = entry (image b) (e b) in
+    let end = sym (byte_is b) ∙ c.if-byte-eq255.true in
+    record { stop = sym (end_stops own (form b) c.if-h-eq2.false end); bits = end_names own (form b) c.if-h-eq2.false end }
 
 pub returns-then-byte-lt64 : goal.returns-then-byte-lt64
 returns-then-byte-lt64 c =
-    let on : byte (entry (image (goal.at.returns-then-byte-lt64 c).After-byte_at-byte) (e (goal.at.returns-then-byte-lt64 c).After-byte_at-byte)) 13 ≡ 255 → ⊥ = λ q. c.if-byte-eq255.false (byte_is (goal.at.returns-then-byte-lt64 c).After-byte_at-byte ∙ q) in record {
-      stop = sym (on_stops (entry (image (goal.at.returns-then-byte-lt64 c).After-byte_at-byte) (e (goal.at.returns-then-byte-lt64 c).After-byte_at-byte)) (form (goal.at.returns-then-byte-lt64 c).After-byte_at-byte) c.if-h-eq2.false on);
-      bits = λ x few. on_names (entry (image (goal.at.returns-then-byte-lt64 c).After-byte_at-byte) (e (goal.at.returns-then-byte-lt64 c).After-byte_at-byte)) (form (goal.at.returns-then-byte-lt64 c).After-byte_at-byte) c.if-h-eq2.false on x few
-          ∙ ap (λ (n : ℕ). bit n x) (ap (λ (n : ℕ). 2 ^ n) (sym (byte_is (goal.at.returns-then-byte-lt64 c).After-byte_at-byte)) ∙ sym (one_at c.byte_at-byte.result (omega arith)));
+    let b = (goal.at.returns-then-byte-lt64 c).After-byte_at-byte in
+    let own = entry (image b) (e b) in
+    let on : byte own 13 ≡ 255 → ⊥ = λ q. c.if-byte-eq255.false (byte_is b ∙ q) in record {
+      stop = sym (on_stops own (form b) c.if-h-eq2.false on);
+      bits = λ x few. on_names own (form b) c.if-h-eq2.false on x few
+          ∙ ap (λ (n : ℕ). bit n x) (ap (λ (n : ℕ). 2 ^ n) (sym (byte_is b)) ∙ sym (one_at c.byte_at-byte.result (omega arith)));
     }
 
 pub returns : goal.returns
 returns c =
-    let on : byte (entry (image (goal.at.returns c).After-byte_at-byte) (e (goal.at.returns c).After-byte_at-byte)) 13 ≡ 255 → ⊥ = λ q. c.if-byte-eq255.false (byte_is (goal.at.returns c).After-byte_at-byte ∙ q) in
-    record { stop = sym (on_stops (entry (image (goal.at.returns c).After-byte_at-byte) (e (goal.at.returns c).After-byte_at-byte)) (form (goal.at.returns c).After-byte_at-byte) c.if-h-eq2.false on); bits = far_names (entry (image (goal.at.returns c).After-byte_at-byte) (e (goal.at.returns c).After-byte_at-byte)) (form (goal.at.returns c).After-byte_at-byte) c.if-h-eq2.false on (omega (arith, byte_is (goal.at.returns c).After-byte_at-byte)) }
+    let b = (goal.at.returns c).After-byte_at-byte in
+    let own = entry (image b) (e b) in
+    let on : byte own 13 ≡ 255 → ⊥ = λ q. c.if-byte-eq255.false (byte_is b ∙ q) in
+    record { stop = sym (on_stops own (form b) c.if-h-eq2.false on); bits = far_names own (form b) c.if-h-eq2.false on (omega (arith, byte_is b)) }
