@@ -5,10 +5,8 @@ use mathlib.Core.Path.{◌≡◌, sym, ap, ◌∙◌}
 use mathlib.Core.Logic.{◌⊎◌, inl, inr}
 use mathlib.Core.List.{List, ◌++◌}
 use lib.ListN.{length, take, drop, length-take, length-drop}
-use lib.Seq.{take_at, drop_at, drop-drop, take-take, take-length, length-take-le}
+use lib.Seq.{take_at, drop_at, drop-drop, take-take, length-take-le}
 use borrow.Rule.Slice.PartMut.{put_mid, same_len_mid, take_put, drop_put}
-use Rattle.forms.specs.Filling.{Copied}
-use Rattle.forms.proofs.SlotLaws.{same_part}
 use Rattle.model.proofs.Lists.{drop_take}
 
 pub part_long : (l : List ℕ) (a n : ℕ) → a + n ≤ length l → length (take n (drop a l)) ≡ n
@@ -40,25 +38,10 @@ put_part old part a n inside e = record {
         ∙ drop_take b m old
     go b m (inr l) =
         let back : a + n - a ≡ n = omega arith in
-        let after : drop (a + n) (put_mid a n old part) ≡ drop (a + n) old = ap (λ (k : ℕ). drop (a + n) (put_mid a k old part)) (sym back) ∙ drop_put a (a + n) old part (omega arith) inside (omega arith) in
+        let after : drop (a + n) (put_mid a n old part) ≡ drop (a + n) old =
+        ap (λ (k : ℕ). drop (a + n) (put_mid a k old part)) (sym back) ∙ drop_put a (a + n) old part (omega arith) inside (omega arith) in
         let rest : a + n + (b - (a + n)) ≡ b = omega arith in
-        let same : drop b (put_mid a n old part) ≡ drop b old = ap (λ (k : ℕ). drop k (put_mid a n old part)) (sym rest) ∙ sym (drop-drop (b - (a + n)) (a + n) (put_mid a n old part)) ∙ ap (drop (b - (a + n))) after ∙ drop-drop (b - (a + n)) (a + n) old ∙ ap (λ (k : ℕ). drop k old) rest in
+        let same : drop b (put_mid a n old part) ≡ drop b old =
+        ap (λ (k : ℕ). drop k (put_mid a n old part)) (sym rest) ∙ sym (drop-drop (b - (a + n)) (a + n) (put_mid a n old part)) ∙ ap (drop (b - (a + n))) after
+        ∙ drop-drop (b - (a + n)) (a + n) old ∙ ap (λ (k : ℕ). drop k old) rest in
         ap (take m) same
-
-pub put_copied : (source old new : List ℕ) (a n : ℕ) → length source ≡ n → a + n ≤ length old → Copied source old new 0 a n → Put old new a n source
-put_copied source old new a n e inside c = record {
-  long = c.long;
-  here = same_part new source a 0 n (omega (arith, c.long)) (omega arith) (λ k l. c.here k l) ∙ all;
-  elsewhere = λ b m o. go b m o;
-}
-  where
-    all : take n source ≡ source
-    all = ap (λ (k : ℕ). take k source) (sym e) ∙ take-length source
-
-    go : (b m : ℕ) → (b + m ≤ a) ⊎ ((a + n ≤ b) × (b + m ≤ length old)) → take m (drop b new) ≡ take m (drop b old)
-    go b m (inl l) = same_part new old b b m (omega (arith, c.long)) (omega arith) (λ k h. c.elsewhere (b + k) (inl (omega arith)))
-    go b m (inr l) = same_part new old b b m (omega (arith, c.long)) (omega arith) (λ k h. c.elsewhere (b + k) (inr (omega arith)))
-
--- a part that ends within a list of known length
-pub fits : {m n : ℕ} (k : ℕ) → m ≡ n → k ≤ n → k ≤ m
-fits k e h = omega arith

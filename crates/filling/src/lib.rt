@@ -32,7 +32,7 @@ fn fill_slots(image: &[u8], h: Header, out: &mut [u8])
     let mut shared = [0u8; 2816];
     forms::slots::share(image, h, &out[SLOTS_START..SKIPS_START], &mut shared);
     forms::slots::fill_skips(&shared, h.entries, &mut out[SKIPS_START..FORMS_END]);
-    forms::slots::copy(&shared, 0, out, SHARED_START, 2816);
+    out[SHARED_START..SLOTS_START].copy_from_slice(&shared);
 }
 
 // The whole index, whatever stood in `out` before.

@@ -1,18 +1,19 @@
 -- Pairs put into the rows of their surface letters one after another, and flags.
 use Prim.Native.Nat.{ℕ, ◌+◌, ◌*◌, ◌<◌, ◌≤◌}
 use native.Mathlib.Omega.{arith}
-use native.Mathlib.Decide.{ℕ_discrete}
+use native.Mathlib.Decide.{ℕ_discrete, dec_lt}
 use mathlib.Core.Path.{◌≡◌, sym, ap, ◌∙◌, subst}
 use mathlib.Core.Logic.{inl, inr}
 use mathlib.Core.List.{List}
-use lib.ListN.{length, get_or, set, length-set}
+use lib.ListN.{length, get_or, set, replicate, length-set, length-replicate, get_or-eq_default}
 use lib.Seq.{get_or-set_same, get_or-set_other}
 use lib.Dec.{T}
+use Rattle.std.proofs.lemmas.List.{get_or-replicate}
 use Rattle.model.specs.Blocks.{Header, header}
 use Rattle.letters.proofs.Laws.{IsSide, right_pair, laid_pairs}
 use Rattle.image.specs.Accepted.{Accepted}
 use Rattle.forms.specs.Letters.{row_count, row_letter}
-use Rattle.forms.specs.Filling.{Cleared, sides_of, RowMore, RowsOf, FlagsOf}
+use Rattle.forms.specs.Filling.{sides_of, RowMore, RowsOf, FlagsOf}
 
 -- the sides of a pair of an accepted image are letters
 module _ (image : List ℕ) (h : Header) (a : Accepted image h) (p : ℕ) (there : p < h.pairs) where
@@ -44,13 +45,21 @@ row_stored rows s a n m long few e small f =
       elsewhere = λ j p q. get_or-set_other (set rows (256 * s + 1 + n) a) (256 * s) j m 0 p ∙ get_or-set_other rows (256 * s + 1 + n) j a 0 (λ z. q (omega arith));
     }
 
-pub rows_none : (image old rows : List ℕ) → Cleared old rows → length old ≡ 30976 → RowsOf image rows 0
-rows_none image old rows c e = record {
-  long = c.long ∙ e;
-  few = λ s h. omega (arith, c.zeros (256 * s));
-  letters_in = λ s h k l. omega (arith, c.zeros (256 * s + 1 + k));
+-- rows of zeros
+pub rows_none : (image rows : List ℕ) → rows ≡ replicate 30976 0 → RowsOf image rows 0
+rows_none image rows e = record {
+  long = ap length e ∙ length-replicate {A = ℕ} 30976 0;
+  few = λ s h. omega (arith, zero (256 * s));
+  letters_in = λ s h k l. omega (arith, zero (256 * s + 1 + k));
   paired = λ p h. absurd (omega arith);
 }
+  where
+    go : (i : ℕ) → Dec (i < 30976) → get_or (replicate {A = ℕ} 30976 0) i 0 ≡ 0
+    go i (yes h) = get_or-replicate 30976 i 0 0 h
+    go i (no h) = get_or-eq_default (replicate 30976 0) 0 {n = i} (omega (arith, length-replicate {A = ℕ} 30976 0))
+
+    zero : (i : ℕ) → get_or rows i 0 ≡ 0
+    zero i = ap (λ (l : List ℕ). get_or l i 0) e ∙ go i (dec_lt i 30976)
 
 module _ (image rows : List ℕ) (p : ℕ) where
   -- a pair that stands in no row
@@ -62,7 +71,8 @@ module _ (image rows : List ℕ) (p : ℕ) where
     paired = λ q h f. go q h f (ℕ_discrete q p);
   }
     where
-      go : (q : ℕ) → q < p + 1 → ((sides_of image q).surface ≡ 0 → ⊥) → Dec (q ≡ p) → (k : ℕ) × ((k < row_count rows (sides_of image q).surface) × (row_letter rows (sides_of image q).surface k ≡ (sides_of image q).lexical))
+      go : (q : ℕ) → q < p + 1 → ((sides_of image q).surface ≡ 0 → ⊥) → Dec (q ≡ p)
+          → (k : ℕ) × ((k < row_count rows (sides_of image q).surface) × (row_letter rows (sides_of image q).surface k ≡ (sides_of image q).lexical))
       go q h f (yes z) = absurd (f (ap (λ (i : ℕ). (sides_of image i).surface) z ∙ e))
       go q h f (no z) = r.paired q (omega arith) f
 
@@ -116,11 +126,14 @@ module _ (image rows : List ℕ) (p : ℕ) where
             at (yes z) = omega (arith, ap (row_count new) z, ap (row_count rows) z, more.counted)
             at (no z) = omega (arith, count_kept t h z room_left)
 
-        paired : (q : ℕ) → q < p + 1 → ((sides_of image q).surface ≡ 0 → ⊥) → Dec (q ≡ p) → (k : ℕ) × ((k < row_count new (sides_of image q).surface) × (row_letter new (sides_of image q).surface k ≡ (sides_of image q).lexical))
+        paired : (q : ℕ) → q < p + 1 → ((sides_of image q).surface ≡ 0 → ⊥) → Dec (q ≡ p)
+            → (k : ℕ) × ((k < row_count new (sides_of image q).surface) × (row_letter new (sides_of image q).surface k ≡ (sides_of image q).lexical))
         paired q h g (yes z) =
             let t : s ≡ (sides_of image q).surface = e ∙ ap (λ (i : ℕ). (sides_of image i).surface) (sym z) in
             let b : a ≡ (sides_of image q).lexical = f ∙ ap (λ (i : ℕ). (sides_of image i).lexical) (sym z) in
-            (row_count rows s, (subst (λ (x : ℕ). row_count rows s < row_count new x) t (omega (arith, more.counted)), subst (λ (x : ℕ). row_letter new x (row_count rows s) ≡ (sides_of image q).lexical) t (more.last ∙ b)))
+            let place = row_count rows s in
+            let within = subst (λ (x : ℕ). place < row_count new x) t (omega (arith, more.counted)) in
+            (place, (within, subst (λ (x : ℕ). row_letter new x place ≡ (sides_of image q).lexical) t (more.last ∙ b)))
         paired q h g (no z) =
             let w = r.paired q (omega arith) g in
             let t = (sides_of image q).surface in

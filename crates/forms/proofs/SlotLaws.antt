@@ -7,6 +7,8 @@ use mathlib.Core.Logic.{◌⊎◌, inl, inr}
 use mathlib.Core.List.{List}
 use lib.ListN.{length, get_or, set, take, drop, length-set, length-take, length-drop}
 use lib.Seq.{get_or-set_same, get_or-set_other, get_or-take, get_or-drop, take-take, ext_get_or}
+use borrow.Rule.Slice.PartMut.{put_mid, same_len_mid}
+use Rattle.std.proofs.lemmas.List.{places}
 use Rattle.model.specs.Lists.{byte}
 use Rattle.model.specs.Blocks.{Header, header, record_start}
 use Rattle.model.specs.Lexicon.{first_entry, entry}
@@ -18,28 +20,27 @@ use Rattle.orders.specs.Orders.{key_entry}
 use Rattle.forms.specs.Filling.{Copied, SlotPut, SlotsOf, Shares, SharedOf, FirstsCleared}
 use Rattle.forms.proofs.Stores.{stored, stored_long, stored_other, stored_here}
 
-pub copied_none : (source old : List ℕ) (at to : ℕ) → Copied source old old at to 0
-copied_none source old at to = record { long = refl; here = λ k h. absurd (omega arith); elsewhere = λ j o. refl }
-
-pub copied_more : (source old new : List ℕ) (at to n b : ℕ) → Copied source old new at to n → to + n < length old → b ≡ get_or source (at + n) 0 → Copied source old (set new (to + n) b) at to (n + 1)
-copied_more source old new at to n b c inside e = record {
-  long = length-set new (to + n) b ∙ c.long;
-  here = λ k h. go k h (ℕ_discrete k n);
-  elsewhere = λ j o. get_or-set_other new (to + n) j b 0 (apart j o) ∙ c.elsewhere j (before j o);
+-- n bytes of one list put in the place of as many of another, their count told by its two ends
+pub part_copied : (source old part : List ℕ) (at to n m k : ℕ) → m ≡ n → k ≡ n → part ≡ take k (drop at source) → at + n ≤ length source → to + n ≤ length old
+    → Copied source old (put_mid to m old part) at to n
+part_copied source old part at to n m k e f g inside room = rw (e, g, f) record {
+  long = same_len_mid to n old bytes (wide source at inside ∙ sym (wide old to room));
+  here = λ j h. middle j h;
+  elsewhere = λ j o. other j o;
 }
   where
-    go : (k : ℕ) → k < n + 1 → Dec (k ≡ n) → get_or (set new (to + n) b) (to + k) 0 ≡ get_or source (at + k) 0
-    go k h (yes z) =
-        ap (λ (i : ℕ). get_or (set new (to + n) b) (to + i) 0) z ∙ get_or-set_same new (to + n) b 0 (omega (arith, c.long)) ∙ e ∙ ap (λ (i : ℕ). get_or source (at + i) 0) (sym z)
-    go k h (no z) = get_or-set_other new (to + n) (to + k) b 0 (λ y. z (omega arith)) ∙ c.here k (omega arith)
+    bytes : List ℕ
+    bytes = take n (drop at source)
 
-    apart : (j : ℕ) → (j < to) ⊎ (to + (n + 1) ≤ j) → j ≡ to + n → ⊥
-    apart j (inl l) z = omega arith
-    apart j (inr l) z = omega arith
+    wide : (l : List ℕ) (a : ℕ) → a + n ≤ length l → length (take n (drop a l)) ≡ n
+    wide l a h = omega (arith, length-take n (drop a l), length-drop a l)
 
-    before : (j : ℕ) → (j < to) ⊎ (to + (n + 1) ≤ j) → (j < to) ⊎ (to + n ≤ j)
-    before j (inl l) = inl l
-    before j (inr l) = inr (omega arith)
+    middle : (j : ℕ) → j < n → get_or (put_mid to n old bytes) (to + j) 0 ≡ get_or source (at + j) 0
+    middle j h = grind (arith, places)
+
+    other : (j : ℕ) → (j < to) ⊎ (to + n ≤ j) → get_or (put_mid to n old bytes) j 0 ≡ get_or old j 0
+    other j (inl l) = grind (arith, places)
+    other j (inr l) = grind (arith, places)
 
 -- an entry's first 13 bytes, its way on, and its number after them
 pub slot_put : (image : List ℕ) (h : Header) (laid : Laid image h) (old new : List ℕ) (at i e way : ℕ) → at ≡ record_start h 6 e → e < 65536 → 16 * i + 16 ≤ length old
@@ -113,7 +114,8 @@ shares_of slots i n m r long inside e f one two p q same = record {
   next = next;
   same =
       take-take r (slot_length slots (suc i)) (drop (16 * suc i + 1) slots) next
-      ∙ same_part slots slots (16 * suc i + 1) (16 * i + 1) r (omega arith) (omega arith) (λ k h. let z : 16 * suc i + 1 + k ≡ 16 * i + 17 + k = omega arith in ap (λ (j : ℕ). get_or slots j 0) z ∙ same k h)
+      ∙ same_part slots slots (16 * suc i + 1) (16 * i + 1) r (omega arith) (omega arith)
+      (λ k h. let z : 16 * suc i + 1 + k ≡ 16 * i + 17 + k = omega arith in ap (λ (j : ℕ). get_or slots j 0) z ∙ same k h)
       ∙ sym (take-take r (slot_length slots i) (drop (16 * i + 1) slots) this);
 }
   where

@@ -1,13 +1,12 @@
 -- Bytes stored: zeros one after another, and a two-byte number, what is read back of it and of other places.
-use Prim.Native.Nat.{ℕ, ◌+◌, ◌/◌, ◌%◌, ◌<◌, ◌≤◌}
+use Prim.Native.Nat.{ℕ, ◌+◌, ◌/◌, ◌%◌, ◌<◌}
 use native.Mathlib.Omega.{arith}
-use native.Mathlib.Decide.{ℕ_discrete, dec_lt}
+use native.Mathlib.Decide.{ℕ_discrete}
 use mathlib.Core.Path.{◌≡◌, ap, ◌∙◌}
 use mathlib.Core.List.{List}
-use lib.ListN.{length, get_or, set, length-set, get_or-eq_default}
+use lib.ListN.{length, get_or, set, length-set}
 use lib.Seq.{get_or-set_same, get_or-set_other}
 use Rattle.model.specs.Lists.{number}
-use Rattle.forms.specs.Filling.{Cleared}
 
 pub zeros_more : (bytes : List ℕ) (i : ℕ) → i < length bytes → ((k : ℕ) → k < i → get_or bytes k 0 ≡ 0) → (k : ℕ) → k < i + 1 → get_or (set bytes i 0) k 0 ≡ 0
 zeros_more bytes i inside all k h = go (ℕ_discrete k i)
@@ -15,13 +14,6 @@ zeros_more bytes i inside all k h = go (ℕ_discrete k i)
     go : Dec (k ≡ i) → get_or (set bytes i 0) k 0 ≡ 0
     go (yes z) = ap (λ (j : ℕ). get_or (set bytes i 0) j 0) z ∙ get_or-set_same bytes i 0 0 inside
     go (no z) = get_or-set_other bytes i k 0 0 z ∙ all k (omega arith)
-
-pub zeros_all : (old new : List ℕ) (i : ℕ) → length new ≡ length old → length old ≤ i → ((k : ℕ) → k < i → get_or new k 0 ≡ 0) → Cleared old new
-zeros_all old new i long past all = record { long = long; zeros = λ k. go k (dec_lt k i) }
-  where
-    go : (k : ℕ) → Dec (k < i) → get_or new k 0 ≡ 0
-    go k (yes h) = all k h
-    go k (no h) = get_or-eq_default new 0 {n = k} (omega arith)
 
 module _ (bytes : List ℕ) (at n : ℕ) where
   abbrev pub stored : List ℕ

@@ -3,8 +3,6 @@
 
 #![tactic(auto)]
 
-ghost use Rattle.forms.specs.Filling.{Cleared};
-
 pub mod pairs;
 pub mod slot;
 pub mod slots;
@@ -21,15 +19,3 @@ pub const SLOTS_START: usize = 34048;
 pub const SKIPS_START: usize = 79104;
 
 pub const FORMS_END: usize = 146688;
-
-// All bytes 0.
-fn clear(bytes: &mut [u8])
-    ensures { Cleared bytes.old bytes.new }
-{
-    let n = bytes.len();
-    let mut i: usize = 0;
-    while i < n {
-        bytes[i] = 0;
-        i += 1;
-    }
-}

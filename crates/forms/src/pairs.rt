@@ -24,16 +24,13 @@ pub fn fill_rows(image: &[u8], h: Header, rows: &mut [u8])
     requires rows_len { length rows.old ≡ 30976 }
     ensures { RowsOf image.now rows.new h.pairs }
 {
-    crate::clear(rows);
-    let pairs = h.pairs;
-    let mut p: usize = 0;
-    while p < pairs {
+    rows.fill(0);
+    for p in 0..h.pairs {
         let s = letters::surface_side(image, h, p);
         if s.0 != 0 {
             let a = letters::lexical_side(image, h, p);
-            put_letter(rows, s.0 as usize, a.0);
+            put_letter(rows, usize::from(s.0), a.0);
         }
-        p += 1;
     }
 }
 
@@ -43,15 +40,12 @@ pub fn fill_flags(image: &[u8], h: Header, flags: &mut [u8])
     requires flags_len { length flags.old ≡ 128 }
     ensures { FlagsOf image.now flags.new h.pairs }
 {
-    crate::clear(flags);
-    let pairs = h.pairs;
-    let mut p: usize = 0;
-    while p < pairs {
+    flags.fill(0);
+    for p in 0..h.pairs {
         let s = letters::surface_side(image, h, p);
         if s.0 == 0 {
             let a = letters::lexical_side(image, h, p);
-            flags[a.0 as usize] = 1;
+            flags[usize::from(a.0)] = 1;
         }
-        p += 1;
     }
 }

@@ -5,21 +5,9 @@ ghost use Rattle.image.specs.Laid.{Laid};
 ghost use Rattle.image.specs.Accepted.{Accepted};
 ghost use Rattle.forms.specs.Slots.{slot_length};
 ghost use Rattle.orders.specs.Orders.{ArrangedTo};
-ghost use Rattle.forms.specs.Filling.{Copied, SlotPut, SlotsOf, Shares, SharedOf, FirstsCleared, SkipAt, SkipsOf, Held, Sharing};
+ghost use Rattle.forms.specs.Filling.{SlotPut, SlotsOf, Shares, SharedOf, FirstsCleared, SkipAt, SkipsOf, Held, Sharing};
 
 use image::Header;
-
-// n bytes from `at` on, copied to `to`.
-pub fn copy(source: &[u8], at: usize, target: &mut [u8], to: usize, n: usize)
-    requires { (at + n ≤ length source.now) × (to + n ≤ length target.old) }
-    ensures { Copied source.now target.old target.new at to n }
-{
-    let mut k: usize = 0;
-    while k < n {
-        target[to + k] = source[at + k];
-        k += 1;
-    }
-}
 
 // Entry e in slot i.
 fn put_slot(image: &[u8], h: Header, e: usize, slots: &mut [u8], i: usize)
@@ -28,7 +16,7 @@ fn put_slot(image: &[u8], h: Header, e: usize, slots: &mut [u8], i: usize)
     ensures { SlotPut image.now slots.old slots.new i e }
 {
     let at = lexicon::entry_start(h, e);
-    copy(image, at, slots, 16 * i, 13);
+    slots[16 * i..16 * i + 13].copy_from_slice(&image[at..at + 13]);
     let way = lexicon::ways::way_of(image, h, e);
     slots[16 * i + 13] = way as u8;
     image::seal::put_number(slots, 16 * i + 14, e);
@@ -41,12 +29,8 @@ fn fill_slots(image: &[u8], h: Header, keys: &[u64], slots: &mut [u8])
     requires slots_len { length slots.old ≡ 45056 }
     ensures { SlotsOf image.now keys.now slots.new h.entries }
 {
-    let entries = h.entries;
-    let mut i: usize = 0;
-    while i < entries {
-        let e = (keys[i] % 4096) as usize;
-        put_slot(image, h, e, slots, i);
-        i += 1;
+    for i in 0..h.entries {
+        put_slot(image, h, (keys[i] % 4096) as usize, slots, i);
     }
 }
 
@@ -66,14 +50,12 @@ fn common(bytes: &[u8], a: usize, b: usize, n: usize) -> usize
     requires { (a + n ≤ length bytes.now) × (b + n ≤ length bytes.now) }
     ensures { (result ≤ n) × ((k : ℕ) → k < result → get_or bytes.now (b + k) 0 ≡ get_or bytes.now (a + k) 0) }
 {
-    let mut k: usize = 0;
-    while k < n {
+    for k in 0..n {
         if bytes[a + k] != bytes[b + k] {
             return k;
         }
-        k += 1;
     }
-    k
+    n
 }
 
 // How many letters slots i and i + 1 share.
@@ -85,8 +67,7 @@ fn shared_by(slots: &[u8], i: usize) -> usize
     let a = 16 * i;
     let n = image::byte_at(slots, a);
     let m = image::byte_at(slots, a + 16);
-    let least = if n < m { n } else { m };
-    common(slots, a + 1, a + 17, least)
+    common(slots, a + 1, a + 17, n.min(m))
 }
 
 // How many letters each of the first n slots shares with the one before.
@@ -95,10 +76,8 @@ fn fill_shared(slots: &[u8], n: usize, shared: &mut [u8])
     requires by_index { (i : ℕ) → i < n → slot_length slots.now i ≤ 12 }
     ensures { SharedOf slots.now shared.new n }
 {
-    let mut i: usize = 1;
-    while i < n {
+    for i in 1..n {
         shared[i] = shared_by(slots, i - 1) as u8;
-        i += 1;
     }
 }
 
@@ -108,13 +87,10 @@ fn clear_firsts(image: &[u8], h: Header, shared: &mut [u8])
     requires shared_len { length shared.old ≡ 2816 }
     ensures { FirstsCleared image.now shared.old shared.new h.lexicons }
 {
-    let lexicons = h.lexicons;
     let mut first: usize = 0;
-    let mut x: usize = 0;
-    while x < lexicons {
+    for x in 0..h.lexicons {
         shared[first] = 0;
         first += lexicon::entry_count(image, h, x);
-        x += 1;
     }
 }
 
@@ -136,10 +112,7 @@ fn skip_of<'a>(shared: &'a [u8], skips: &'a [u8], n: usize, i: usize, d: usize) 
     ensures { SkipAt shared.now n i d result }
 {
     let next = i + 1;
-    if next == n {
-        return next;
-    }
-    if image::byte_at(shared, next) <= d {
+    if next == n || image::byte_at(shared, next) <= d {
         return next;
     }
     image::number_at(skips, 24 * next + 2 * d)
@@ -151,11 +124,9 @@ fn put_skips(shared: &[u8], skips: &mut [u8], n: usize, i: usize)
     requires skips_of { SkipsOf shared.now skips.old n (i + 1) }
     ensures { SkipsOf shared.now skips.new n i }
 {
-    let mut d: usize = 0;
-    while d < 12 {
+    for d in 0..12 {
         let to = skip_of(shared, skips, n, i, d);
         image::seal::put_number(skips, 24 * i + 2 * d, to);
-        d += 1;
     }
 }
 
@@ -164,9 +135,7 @@ pub fn fill_skips(shared: &[u8], n: usize, skips: &mut [u8])
     requires { (n ≤ 2816) × ((length shared.now ≡ 2816) × (length skips.old ≡ 67584)) }
     ensures { SkipsOf shared.now skips.new n 0 }
 {
-    let mut i = n;
-    while i > 0 {
-        i -= 1;
+    for i in (0..n).rev() {
         put_skips(shared, skips, n, i);
     }
 }

@@ -20,10 +20,7 @@ fn is_candidate(image: &[u8], h: Header, a: Lexical, p: usize) -> bool
     ensures { result ≡ is_candidate image.now a.0 p }
 {
     let side = letters::lexical_side(image, h, p);
-    if side.0 == 0 {
-        return true;
-    }
-    letters::same_lexical(side, a)
+    side.0 == 0 || letters::same_lexical(side, a)
 }
 
 // One row, all 0 before: how many pairs, and which, in ascending order.
@@ -32,15 +29,12 @@ fn fill_row(image: &[u8], h: Header, a: Lexical, row: &mut [u8])
     requires row_value { row.old ≡ replicate 256 0 }
     ensures { row.new ≡ candidate_row image.now a.0 }
 {
-    let pairs = h.pairs;
     let mut n: usize = 0;
-    let mut p: usize = 0;
-    while p < pairs {
+    for p in 0..h.pairs {
         if is_candidate(image, h, a, p) {
             n += 1;
             row[n] = p as u8;
         }
-        p += 1;
     }
     row[0] = n as u8;
 }
@@ -51,13 +45,8 @@ fn fill_candidates(image: &[u8], h: Header, out: &mut [u8])
     requires out_value { out.old ≡ replicate 30976 0 }
     ensures { out.new ≡ flat_map (candidate_row image.now) (below 121) }
 {
-    let letters = h.letters;
-    let mut a: usize = 0;
-    while a <= letters {
-        let from = 256 * a;
-        let to = from + 256;
-        fill_row(image, h, Lexical(a as u8), &mut out[from..to]);
-        a += 1;
+    for a in 0..h.letters + 1 {
+        fill_row(image, h, Lexical(a as u8), &mut out[256 * a..256 * a + 256]);
     }
 }
 
@@ -67,15 +56,12 @@ fn fill_lexicons(image: &[u8], h: Header, row: &mut [u8])
     requires row_value { row.old ≡ replicate 256 0 }
     ensures { row.new ≡ lexicon_row image.now }
 {
-    let lexicons = h.lexicons;
     let mut first: usize = 0;
-    let mut x: usize = 0;
-    while x < lexicons {
+    for x in 0..h.lexicons {
         image::seal::put_number(row, 2 * x, first);
         first += lexicon::entry_count(image, h, x);
-        x += 1;
     }
-    image::seal::put_number(row, 2 * lexicons, first);
+    image::seal::put_number(row, 2 * h.lexicons, first);
 }
 
 // The rows after those of the rules. `out` is the index from byte 8192 on, all 0 before.

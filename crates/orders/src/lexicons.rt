@@ -24,13 +24,9 @@ fn append(row: &mut [u8], x: usize, lexicons: usize)
 fn followed(image: &[u8], h: Header) -> u64
     requires { Accepted image.now (header_of h) }
 {
-    let entries = h.entries;
     let mut all: u64 = 0;
-    let mut e: usize = 0;
-    while e < entries {
-        let ways = lexicon::ways::ways_of(image, h, e);
-        all = all | ways.bits;
-        e += 1;
+    for e in 0..h.entries {
+        all |= lexicon::ways::ways_of(image, h, e).bits;
     }
     all
 }
@@ -40,14 +36,11 @@ fn is_ready(image: &[u8], h: Header, low: usize, high: usize, taken: u64) -> boo
     requires accepted { Accepted image.now (header_of h) }
     requires high_le_entries { high ≤ h.entries }
 {
-    let mut e = low;
-    while e < high {
-        let ways = lexicon::ways::ways_of(image, h, e);
-        let bits = ways.bits;
-        if (bits & taken) != bits {
+    for e in low..high {
+        let bits = lexicon::ways::ways_of(image, h, e).bits;
+        if bits & taken != bits {
             return false;
         }
-        e += 1;
     }
     true
 }
@@ -63,14 +56,8 @@ fn is_due(image: &[u8], h: Header, x: usize, last: bool, wanted: u64, taken: u64
     requires accepted { Accepted image.now (header_of h) }
     requires x_lt_lexicons { x < h.lexicons }
 {
-    if !has(wanted, x) {
-        return false;
-    }
-    if has(taken, x) {
-        return false;
-    }
     let many = lexicon::entry_count(image, h, x);
-    if many > 256 {
+    if !has(wanted, x) || has(taken, x) || many > 256 {
         return false;
     }
     if last {
@@ -86,14 +73,11 @@ fn take_round(image: &[u8], h: Header, last: bool, wanted: u64, taken: u64, row:
     requires ordered { Ordered row.old h.lexicons }
     ensures { Ordered row.new h.lexicons }
 {
-    let lexicons = h.lexicons;
     let mut now = taken;
-    let mut x = lexicons;
-    while x > 0 {
-        x -= 1;
+    for x in (0..h.lexicons).rev() {
         if is_due(image, h, x, last, wanted, now) {
-            append(row, x, lexicons);
-            now = now | (1u64 << x);
+            append(row, x, h.lexicons);
+            now |= 1u64 << x;
         }
     }
     now
@@ -108,12 +92,10 @@ pub fn fill_order(image: &[u8], h: Header, row: &mut [u8])
     row[0] = 0;
     let wanted = followed(image, h);
     let mut taken: u64 = 0;
-    let mut rounds = h.lexicons;
-    while rounds > 0 {
-        rounds -= 1;
+    for _ in 0..h.lexicons {
         let more = take_round(image, h, false, wanted, taken, row);
         if more == taken {
-            rounds = 0;
+            break;
         }
         taken = more;
     }

@@ -5,10 +5,11 @@ use mathlib.Core.Bool.{Bool, true, false, ◌&&◌, ◌||◌}
 use mathlib.Core.Path.{◌≡◌, refl, sym, ap, ap₂, ◌∙◌, subst}
 use mathlib.Core.List.{List, [], ◌∷◌, ◌++◌, map, Memᴰ}
 use lib.ListN.{length, get_or, drop, get_or-append, drop_of_length-le}
-use lib.Seq.{get_or-append-add}
-use lib.Dec.{T, leb, ltb, eqb, ltb→lt, eqb→eq}
-use native.Mathlib.Numerals.{add-one}
-use Rattle.model.specs.Lists.{below, every, any, joined, within, byte, bit, number}
+use lib.Seq.{drop-append-add}
+use Rattle.std.proofs.lemmas.List.{get_or-drop, length-append, length-drop}
+use lib.Dec.{T, ltb, eqb, ltb→lt, eqb→eq}
+use native.Mathlib.Numerals.{add-one, unary_clauses}
+use Rattle.model.specs.Lists.{below, every, any, joined, byte, bit, number}
 use Rattle.model.specs.Blocks.{Header, header, record_start}
 use Rattle.model.specs.Lexicon.{in_lexicon, entry, form_length, form_of, may_stop, goes_to, linked, path_length}
 use Rattle.model.specs.Refusals.{right_entries}
@@ -17,12 +18,12 @@ use Rattle.model.specs.Readings.{is_linked}
 use Rattle.model.specs.Beside.{form_start}
 use Rattle.model.specs.Query.{entry_numbers}
 use Rattle.model.proofs.Booleans.{and_out, and_in, true_of, false_of, of_true, eq→eqb}
-use Rattle.model.proofs.Lists.{length_numbers, number_in, every_append, below_has, below_from, any_has, any_from, any_more}
+use Rattle.model.proofs.Lists.{length_numbers, number_in, below_has, below_from, any_has, any_from, any_more}
 use Rattle.model.proofs.Rest.{drop_step, every_get_d}
 use Rattle.image.specs.Laid.{Laid}
 use Rattle.image.specs.Accepted.{Accepted}
-use Rattle.lexicon.proofs.Laws.{entry_inside, form_size, form_byte, form_short, form_letters_lem}
-use Rattle.rules.specs.Paths.{Entered, forms_of, in_some}
+use Rattle.lexicon.proofs.Laws.{entry_inside, form_size, form_byte, form_short}
+use Rattle.rules.specs.Paths.{Entered, in_some}
 use Rattle.digits.specs.Ways.{Names}
 use Rattle.digits.proofs.Bits.{power_bit}
 
@@ -155,21 +156,39 @@ module _ (form : ℕ → List ℕ) (es : List ℕ) (i t : ℕ) where
   abbrev pub forms_from : List ℕ
   forms_from = joined (map form (drop i es))
 
-  pub forms_none : length es ≤ i → get_or forms_from t 0 ≡ 0
-  forms_none h = ap (λ (l : List ℕ). get_or (joined (map form l)) t 0) (drop_of_length-le es h)
+  pub forms_none : length es ≤ i → length forms_from ≤ t
+  forms_none h = omega (arith, ap (λ (l : List ℕ). length (joined (map form l))) (drop_of_length-le es h))
 
   module _ (e : ℕ) (inside : i < length es) (this : get_or es i 0 ≡ e) where
     forms_step : forms_from ≡ form e ++ joined (map form (drop (i + 1) es))
     forms_step = ap (λ (l : List ℕ). joined (map form l)) (drop_step es 0 i inside ∙ ap {B = List ℕ} (λ e. e ∷ drop (i + 1) es) this)
 
-    pub letter_here : t < length (form e) → get_or forms_from t 0 ≡ get_or (form e) t 0
-    letter_here h = ap (λ (l : List ℕ). get_or l t 0) forms_step ∙ get_or-append (form e) (joined (map form (drop (i + 1) es))) 0 t h
+    pub letter_here : t < length (form e) → (t < length forms_from) × (get_or forms_from t 0 ≡ get_or (form e) t 0)
+    letter_here h =
+        let rest = joined (map form (drop (i + 1) es)) in (
+          omega (arith, ap length forms_step, length-append (form e) rest),
+          ap (λ (l : List ℕ). get_or l t 0) forms_step ∙ get_or-append (form e) rest 0 t h,
+        )
 
-    pub letter_later : length (form e) ≤ t → get_or forms_from t 0 ≡ get_or (joined (map form (drop (i + 1) es))) (t - length (form e)) 0
+    pub letter_later : length (form e) ≤ t → drop t forms_from ≡ drop (t - length (form e)) (joined (map form (drop (i + 1) es)))
     letter_later h =
         let rest = joined (map form (drop (i + 1) es)) in
         let k : t ≡ length (form e) + (t - length (form e)) = omega arith in
-        ap₂ (λ (l : List ℕ) (n : ℕ). get_or l n 0) forms_step k ∙ get_or-append-add (form e) rest (t - length (form e)) 0
+        ap₂ (λ (l : List ℕ) (n : ℕ). drop n l) forms_step k ∙ drop-append-add (form e) rest (t - length (form e))
+
+-- two lists that go on alike, one from n and the other from t
+module _ (xs ys : List ℕ) (n t : ℕ) (alike : drop n xs ≡ drop t ys) where
+  left_alike : length xs - n ≡ length ys - t
+  left_alike = sym (length-drop n xs) ∙ ap length alike ∙ length-drop t ys
+
+  pub over_alike : length xs ≤ n → length ys ≤ t
+  over_alike h = omega (arith, left_alike)
+
+  pub letter_alike : n < length xs → (t < length ys) × (get_or xs n 0 ≡ get_or ys t 0)
+  letter_alike h = (omega (arith, left_alike), sym (front xs n) ∙ ap (λ (l : List ℕ). get_or l 0 0) alike ∙ front ys t)
+    where
+      front : (l : List ℕ) (i : ℕ) → get_or (drop i l) 0 0 ≡ get_or l i 0
+      front l i = simp unary_clauses at (get_or-drop i l 0 0)
 
 module _ {image : List ℕ} {h : Header} (ok : Accepted image h) where
   -- the form of an entry
@@ -193,23 +212,3 @@ module _ {image : List ℕ} {h : Header} (ok : Accepted image h) where
     letter_byte =
         let s : record_start h 6 e ≡ record_start (header image) 6 e = ap (λ (g : Header). record_start g 6 e) ok.laid.header_is in
         sym (form_byte image h ok.laid e t short k ∙ ap (byte image) (omega arith))
-
-  -- no letter of a form is the null
-  pub forms_letters : (path : List ℕ) → Entered image path → T (every (λ x. leb 2 x) (forms_of image path))
-  forms_letters path t = go (entry_numbers path) t
-    where
-      each : (letters : ℕ) (xs : List ℕ) → T (every (within 2 letters) xs) → T (every (λ x. leb 2 x) xs)
-      each letters [] t = tt
-      each letters (x ∷ xs) t =
-          let u = and_out (within 2 letters x) (every (within 2 letters) xs) t in
-          and_in (leb 2 x) (every (λ x. leb 2 x) xs) (and_out (leb 2 x) (leb x letters) u.0).0 (each letters xs u.1)
-
-      go : (es : List ℕ) → T (every (λ e. ltb e (header image).entries) es) → T (every (λ x. leb 2 x) (joined (map (grammar_of image).form es)))
-      go [] t = tt
-      go (e ∷ es) t =
-          let u = and_out (ltb e (header image).entries) (every (λ e. ltb e (header image).entries) es) t in
-          let form = (grammar_of image).form e in
-          let rest = joined (map (grammar_of image).form es) in
-          let l : e < h.entries = omega (arith, ltb→lt e (header image).entries u.0, laid_entries ok.laid) in
-          let f : T (every (within 2 h.letters) form) = rw (grammar_form e) (form_letters_lem image h ok.laid (of_true (right_entries image) ok.entries_right) e l) in
-          subst T (sym (every_append (λ x. leb 2 x) form rest)) (and_in (every (λ x. leb 2 x) form) (every (λ x. leb 2 x) rest) (each h.letters form f) (go es u.1))

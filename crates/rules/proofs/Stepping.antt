@@ -2,7 +2,7 @@
 use Prim.Native.Nat.{ℕ, zero, suc, ◌+◌, ◌*◌, ◌-◌, ◌<◌, ◌≤◌}
 use native.Mathlib.Omega.{arith}
 use native.Mathlib.Decide.{ℕ_discrete}
-use mathlib.Core.Bool.{Bool, true, false, ◌&&◌, not}
+use mathlib.Core.Bool.{Bool, false, ◌&&◌, not}
 use mathlib.Core.Path.{◌≡◌, refl, sym, ap, ap₂, ◌∙◌}
 use mathlib.Core.List.{List, map}
 use lib.ListN.{length, get_or, take, set, replicate, length-take, length-set, length-replicate, get_or-replicate}
@@ -14,11 +14,11 @@ use Rattle.model.specs.Blocks.{header, record_start}
 use Rattle.model.specs.RuleTables.{table, column_count, state_count, rows_at, is_final, columns_of}
 use Rattle.model.specs.GrammarOf.{grammar_of}
 use Rattle.model.specs.Tree.{step_all, alive, begun, finish}
-use Rattle.model.proofs.Booleans.{of_true, true_of}
+use Rattle.model.proofs.Booleans.{true_of}
 use Rattle.model.proofs.Lists.{length_map_below, get_d_map_below, every_in, every_same, every_fails, below_from}
 use Rattle.image.specs.Accepted.{Accepted}
 use Rattle.image.specs.Index.{index_of}
-use Rattle.rules.specs.Live.{Live, StepOf, step_of, begun_of, alive_of, finish_of, ends_final}
+use Rattle.rules.specs.Live.{Live, Held, step_of, begun_of, alive_of, finish_of, ends_final}
 use Rattle.tables.proofs.Laws.{table_inside, table_byte, columns_most, states_least, states_most}
 use Rattle.index.proofs.Laws.{column_byte_lem}
 use Rattle.rules.proofs.Tables.{grammar_rules, grammar_pairs, table_ok, next_byte, next_within, grammar_final}
@@ -141,17 +141,11 @@ module _ (image : List ℕ) where
       ∙ ap (λ (s : ℕ). (grammar_of image).next r s p) (counted states r h)
 
   -- a rule that comes to 0
-  pub step_fails : (states : List ℕ) (p r s : ℕ) (after : List ℕ) → r < (header image).rules → s ≡ (grammar_of image).next r (get_or states r 0) p → s ≡ 0 → StepOf image states p false after
+  pub step_fails : (states : List ℕ) (p r s : ℕ) → r < (header image).rules → s ≡ (grammar_of image).next r (get_or states r 0) p → s ≡ 0 → alive_of (grammar_of image) (step_of (grammar_of image) states p) ≡ false
   unfolding alive
-  step_fails states p r s after h e z =
-      record {
-        alive_is = sym (every_fails (λ r. not (is_zero (get_or (step_of (grammar_of image) states p) r 0))) (grammar_of image).rules r (omega (arith, grammar_rules image)) (ap (λ (n : ℕ). not (is_zero n)) (stepped_at states p r h ∙ sym e ∙ z)));
-        states_are = λ b. absurd (false_true b);
-        live = λ b. absurd (false_true b);
-      }
-    where
-      false_true : false ≡ true → ⊥
-      false_true b = of_true false b
+  step_fails states p r s h e z =
+      every_fails (λ r. not (is_zero (get_or (step_of (grammar_of image) states p) r 0))) (grammar_of image).rules r
+      (omega (arith, grammar_rules image)) (ap (λ (n : ℕ). not (is_zero n)) (stepped_at states p r h ∙ sym e ∙ z))
 
   -- the end, rule by rule
   pub finish_is : (states : List ℕ) (boundary : ℕ) → boundary ≡ (header image).pairs → every (ends_all image states boundary) (below (header image).rules) ≡ finish_of (grammar_of image) states
@@ -175,15 +169,15 @@ ones n h =
 
 module _ {image : List ℕ} (ok : Accepted image (header image)) where
   -- no rule comes to 0
-  pub step_lives : (states : List ℕ) (p : ℕ) (after : List ℕ) → length states ≡ 32 → p ≤ (header image).pairs → Live image states → RulesTook image states p (header image).rules after → StepOf image states p true after
+  pub step_lives : (states : List ℕ) (p : ℕ) (after : List ℕ) → length states ≡ 32 → p ≤ (header image).pairs → Live image states → RulesTook image states p (header image).rules after → Held image (step_of (grammar_of image) states p) after
   unfolding alive step_all
   step_lives states p after size pair live q =
       record {
-        alive_is = sym (true_of (every (λ r. not (is_zero (get_or (step_of (grammar_of image) states p) r 0))) (below (grammar_of image).rules)) (every_in (λ r. not (is_zero (get_or (step_of (grammar_of image) states p) r 0))) (below (grammar_of image).rules) (λ r m. let h : r < (header image).rules = omega (arith, grammar_rules image, below_from (grammar_of image).rules r m) in rw (stepped_at image states p r h, ← q.new r h, ne_eqb (get_or after r 0) 0 (λ z. omega (arith, q.lives r h))) tt)));
-        states_are = λ b.
+        alive_is = true_of (every (λ r. not (is_zero (get_or (step_of (grammar_of image) states p) r 0))) (below (grammar_of image).rules)) (every_in (λ r. not (is_zero (get_or (step_of (grammar_of image) states p) r 0))) (below (grammar_of image).rules) (λ r m. let h : r < (header image).rules = omega (arith, grammar_rules image, below_from (grammar_of image).rules r m) in rw (stepped_at image states p r h, ← q.new r h, ne_eqb (get_or after r 0) 0 (λ z. omega (arith, q.lives r h))) tt));
+        states_are =
             ext_get_or 0 (take (grammar_of image).rules after) (step_of (grammar_of image) states p) sizes
             (λ r l. let h : r < (header image).rules = omega (arith, grammar_rules image, length-take (grammar_of image).rules after) in counted image after r h ∙ q.new r h ∙ sym (stepped_at image states p r h));
-        live = λ b r h. (q.lives r h, rw (q.new r h) (next_within ok r (get_or states r 0) p h pair (live r h).0 (live r h).1));
+        live = λ r h. (q.lives r h, rw (q.new r h) (next_within ok r (get_or states r 0) p h pair (live r h).0 (live r h).1));
       }
     where
       sizes : length (take (grammar_of image).rules after) ≡ length (step_of (grammar_of image) states p)

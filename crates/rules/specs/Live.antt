@@ -1,5 +1,5 @@
 -- The states that the rules of an image hold, and what one pair does to all of them.
-use Rattle.std.specs.Prelude.{ℕ, ◌<◌, ◌≤◌, Bool, true, ◌&&◌, not, ◌≡◌, List, get_or, take}
+use Rattle.std.specs.Prelude.{ℕ, ◌<◌, ◌≤◌, Bool, true, false, ◌&&◌, not, ◌≡◌, List, get_or, take, Option, MatchOption}
 use Rattle.model.specs.Lists.{is_zero}
 use Rattle.model.specs.Blocks.{header}
 use Rattle.model.specs.RuleTables.{table, state_count}
@@ -27,18 +27,22 @@ alive_of g states = alive g.rules g.next g.final states
 abbrev pub finish_of : Grammar → List ℕ → Bool
 finish_of g states = finish g.rules g.next g.final (take g.rules states) g.pairs
 
--- whether all rules come to these states without failing, and the array that holds them where none fails
-pub record Reached (image states : List ℕ) (lives : Bool) (after : List ℕ) : Type 0 where
-  pub alive_is : lives ≡ alive_of (grammar_of image) states
-  pub states_are : lives ≡ true → take (grammar_of image).rules after ≡ states
-  pub live : lives ≡ true → Live image after
+-- all rules come to these states without failing, and the array holds them
+pub record Held (image states after : List ℕ) : Type 0 where
+  pub alive_is : alive_of (grammar_of image) states ≡ true
+  pub states_are : take (grammar_of image).rules after ≡ states
+  pub live : Live image after
+
+-- the array that holds these states, or none where a rule fails to come to its own
+abbrev pub Reached : List ℕ → List ℕ → Option (List ℕ) → Type 0
+Reached image states after = MatchOption after (alive_of (grammar_of image) states ≡ false) (Held image states)
 
 -- by pair p, from the states before it
-abbrev pub StepOf : List ℕ → List ℕ → ℕ → Bool → List ℕ → Type 0
+abbrev pub StepOf : List ℕ → List ℕ → ℕ → Option (List ℕ) → Type 0
 StepOf image states p = Reached image (step_of (grammar_of image) states p)
 
 -- by the boundary pair at the front, from state 1
-abbrev pub BegunOf : List ℕ → Bool → List ℕ → Type 0
+abbrev pub BegunOf : List ℕ → Option (List ℕ) → Type 0
 BegunOf image = Reached image (begun_of (grammar_of image))
 
 -- whether rule r, in state s, comes by pair p to a final state

@@ -1,5 +1,5 @@
 // A path as two bytes to an entry number: tests 11 and 12, and the letters of its joined forms.
-ghost use Rattle.std.specs.Prelude.{◌&&◌, ◌≡◌, ◌<◌, ◌%◌, length, get_or, leb, ltb, eqb};
+ghost use Rattle.std.specs.Prelude.{◌&&◌, ◌≡◌, ◌<◌, ◌≤◌, ◌%◌, length, get_or, leb, ltb, eqb, MatchOption};
 ghost use Rattle.model.specs.Lexicon.{entry, form_length, form_of, path_length};
 ghost use Rattle.model.specs.GrammarOf.{grammar_of};
 ghost use Rattle.model.specs.Readings.{is_linked};
@@ -7,7 +7,7 @@ ghost use Rattle.model.specs.Query.{entry_numbers};
 ghost use Rattle.image.specs.Header.{header_of};
 ghost use Rattle.image.specs.Laid.{Laid};
 ghost use Rattle.image.specs.Accepted.{Accepted};
-ghost use Rattle.rules.specs.Paths.{Entered, forms_of, in_some};
+ghost use Rattle.rules.specs.Paths.{Entered, LetterOf, forms_of, in_some};
 
 use image::Header;
 use letters::Lexical;
@@ -23,13 +23,7 @@ pub fn path_length_right(path: &[u8]) -> bool
 fn is_here(rest: u64, first: usize, next: usize, e: usize) -> bool
     ensures { result ≡ (eqb (rest % 2) 1 && (leb first e && ltb e next)) }
 {
-    if rest % 2 != 1 {
-        return false;
-    }
-    if e < first {
-        return false;
-    }
-    e < next
+    rest % 2 == 1 && first <= e && e < next
 }
 
 // Whether entry e may open in one of the lexicons that a set names.
@@ -37,18 +31,15 @@ fn may_open(image: &[u8], h: Header, bits: u64, e: usize) -> bool
     requires { Laid image.now (header_of h) }
     ensures { result ≡ (in_some image.now h.lexicons bits e && ltb e h.entries) }
 {
-    let lexicons = h.lexicons;
     let mut first: usize = 0;
     let mut rest = bits;
-    let mut x: usize = 0;
-    while x < lexicons {
+    for x in 0..h.lexicons {
         let next = first + lexicon::entry_count(image, h, x);
         if is_here(rest, first, next, e) {
             return e < h.entries;
         }
         first = next;
-        rest = rest / 2;
-        x += 1;
+        rest /= 2;
     }
     false
 }
@@ -58,11 +49,9 @@ pub fn path_linked(image: &[u8], h: Header, path: &[u8]) -> bool
     requires { Accepted image.now (header_of h) }
     ensures { result ≡ is_linked (grammar_of image.now) (entry_numbers path.now) }
 {
-    let count = path.len() / 2;
     let mut bits: u64 = 1;
     let mut stop = false;
-    let mut i: usize = 0;
-    while i < count {
+    for i in 0..path.len() / 2 {
         let e = image::number_at(path, 2 * i);
         if !may_open(image, h, bits, e) {
             return false;
@@ -70,7 +59,6 @@ pub fn path_linked(image: &[u8], h: Header, path: &[u8]) -> bool
         let ways = lexicon::ways::ways_of(image, h, e);
         bits = ways.bits;
         stop = ways.stop;
-        i += 1;
     }
     stop
 }
@@ -84,23 +72,20 @@ fn form_letter(image: &[u8], h: Header, e: usize, t: usize) -> Lexical
     letters::lexical_at(image, lexicon::entry_start(h, e) + (1 + t))
 }
 
-// Letter t of the joined forms of a path, or 0 after the last.
-pub fn letter_at(image: &[u8], h: Header, path: &[u8], t: usize) -> Lexical
+// Letter t of the joined forms of a path; none after the last.
+pub fn letter_at(image: &[u8], h: Header, path: &[u8], t: usize) -> Option<Lexical>
     requires accepted { Accepted image.now (header_of h) }
     requires entered { Entered image.now path.now }
-    ensures { result.0 ≡ get_or (forms_of image.now path.now) t 0 }
+    ensures { MatchOption result (length (forms_of image.now path.now) ≤ t) (LetterOf (forms_of image.now path.now) t) }
 {
-    let count = path.len() / 2;
     let mut left = t;
-    let mut i: usize = 0;
-    while i < count {
+    for i in 0..path.len() / 2 {
         let e = image::number_at(path, 2 * i);
         let n = lexicon::form_length(image, h, e);
         if left < n {
-            return form_letter(image, h, e, left);
+            return Some(form_letter(image, h, e, left));
         }
         left -= n;
-        i += 1;
     }
-    Lexical(0)
+    None
 }

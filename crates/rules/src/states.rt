@@ -8,6 +8,7 @@ ghost use Rattle.image.specs.Accepted.{Accepted};
 ghost use Rattle.image.specs.Index.{index_of};
 ghost use Rattle.rules.specs.Live.{Live, StepOf, BegunOf, finish_of, ends_final};
 
+use image::kinds::Kind;
 use image::{Header, kinds};
 
 // The state that rule r goes to from state s by pair p. The index has the column.
@@ -19,7 +20,7 @@ fn next_state(image: &[u8], index: &[u8], h: Header, r: usize, s: u8, p: usize) 
     ensures { (result ≡ (grammar_of image.now).next r s p) × (result ≤ state_count (table image.now r)) }
 {
     let column = image::byte_at(index, 256 * r + p);
-    let at = kinds::record_start(h, 4, r);
+    let at = kinds::record_start(h, Kind::Tables, r);
     let columns = image::byte_at(image, at);
     let states = image::byte_at(image, at + 1);
     let rows = at + (2 + 2 * columns + states);
@@ -27,39 +28,29 @@ fn next_state(image: &[u8], index: &[u8], h: Header, r: usize, s: u8, p: usize) 
     image[place]
 }
 
-// What one pair does to all rules. Where one fails, the states are of no use.
-#[derive(Clone, Copy)]
-pub struct Stepped {
-    pub alive: bool,
-    pub states: [u8; 32],
-}
-
-// Rule after rule takes pair p, up to the first that comes to state 0.
-pub fn step_all(image: &[u8], index: &[u8], h: Header, states: [u8; 32], p: usize) -> Stepped
+// The states that all rules come to by pair p; none where one comes to state 0. Rule after rule takes it, up to the first that does.
+pub fn step_all(
+    image: &[u8],
+    index: &[u8],
+    h: Header,
+    states: [u8; 32],
+    p: usize,
+) -> Option<[u8; 32]>
     requires accepted { Accepted image.now (header_of h) }
     requires index_value { index.now ≡ index_of image.now }
     requires p_le_pairs { p ≤ h.pairs }
     requires live { Live image.now states }
-    ensures { StepOf image.now states p result.alive result.states }
+    ensures { StepOf image.now states p result }
 {
-    let rules = h.rules;
     let mut after = states;
-    let mut r: usize = 0;
-    while r < rules {
+    for r in 0..h.rules {
         let s = next_state(image, index, h, r, after[r], p);
         if s == 0 {
-            return Stepped {
-                alive: false,
-                states: after,
-            };
+            return None;
         }
         after[r] = s;
-        r += 1;
     }
-    Stepped {
-        alive: true,
-        states: after,
-    }
+    Some(after)
 }
 
 // Whether rule r, in state s, comes by pair p to a final state.
@@ -74,7 +65,7 @@ fn ends_final(image: &[u8], index: &[u8], h: Header, r: usize, s: u8, p: usize) 
     if last == 0 {
         return false;
     }
-    let at = kinds::record_start(h, 4, r);
+    let at = kinds::record_start(h, Kind::Tables, r);
     let columns = image::byte_at(image, at);
     let marks = at + (2 + 2 * columns);
     image::byte_at(image, marks + (last as usize - 1)) == 1
@@ -87,23 +78,20 @@ pub fn finish_all(image: &[u8], index: &[u8], h: Header, states: [u8; 32]) -> bo
     requires live { Live image.now states }
     ensures { result ≡ finish_of (grammar_of image.now) states }
 {
-    let rules = h.rules;
     let boundary = h.pairs;
-    let mut rule: usize = 0;
-    while rule < rules {
+    for rule in 0..h.rules {
         if !ends_final(image, index, h, rule, states[rule], boundary) {
             return false;
         }
-        rule += 1;
     }
     true
 }
 
 // The boundary pair before the first pair, from state 1; there is room for 32 rules.
-pub fn begin_all(image: &[u8], index: &[u8], h: Header) -> Stepped
+pub fn begin_all(image: &[u8], index: &[u8], h: Header) -> Option<[u8; 32]>
     requires accepted { Accepted image.now (header_of h) }
     requires index_value { index.now ≡ index_of image.now }
-    ensures { BegunOf image.now result.alive result.states }
+    ensures { BegunOf image.now result }
 {
     let start = [1u8; 32];
     step_all(image, index, h, start, h.pairs)

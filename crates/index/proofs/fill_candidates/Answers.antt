@@ -1,5 +1,4 @@
 -- `fill_candidates` meets its contract: the rows of the letters passed, and zeros after them.
-use borrow.Author.Rules.{rules}
 use native.Mathlib.Omega.{arith}
 use mathlib.Core.Path.{◌≡◌, sym, ap, ◌∙◌}
 use Prim.Native.Nat.{◌+◌, ◌*◌, ◌-◌}
@@ -22,7 +21,7 @@ begins s =
 
 pub loop-a-init : goal.loop-a-init
 loop-a-init c =
-    (search rules, (begins (goal.at.loop-a-init c).Start, c.requires.out_value ∙ rows_none (candidate_row c.args.image.now) (length_candidate_row c.args.image.now) 121))
+    (begins (goal.at.loop-a-init c).Start, c.requires.out_value ∙ rows_none (candidate_row c.args.image.now) (length_candidate_row c.args.image.now) 121)
 
 pub overflow_cast-a : goal.overflow_cast-a
 overflow_cast-a c = omega (arith, c.requires.laid.limits.letters_most)
@@ -32,20 +31,29 @@ slice_bounds-fill_row-end c = omega (arith, c.requires.laid.limits.letters_most)
 
 pub fill_row-requires : goal.fill_row-requires
 fill_row-requires c =
-    record { laid = (c.requires.laid, omega arith); row_value = lent_row (candidate_row c.args.image.now) (length_candidate_row c.args.image.now) 121 c.loop-a.a (omega (arith, c.requires.laid.limits.letters_most)) c.loop-a.out c.loop-a.invariant.1.1 }
+    record {
+      laid = (c.requires.laid, omega arith);
+      row_value =
+          lent_row (candidate_row c.args.image.now) (length_candidate_row c.args.image.now) 121 c.loop-a.a
+          (omega (arith, c.requires.laid.limits.letters_most)) c.loop-a.out c.loop-a.invariant.1;
+    }
 
 pub loop-a-preserved : goal.loop-a-preserved
 loop-a-preserved c =
     let image = c.args.image.now in
     let a = c.loop-a.a in
-    let more = rows_more (candidate_row image) (length_candidate_row image) 121 a (omega (arith, c.requires.laid.limits.letters_most)) c.loop-a.out c.loop-a.invariant.1.1 c.fill_row.new.row c.fill_row.ensures in
-    (omega arith, (same_len_mid (256 * a) (256 * a + 256 - 256 * a) c.loop-a.out c.fill_row.new.row c.fill_row.auto.row ∙ c.loop-a.invariant.1.0, more))
+    let more =
+    rows_more (candidate_row image) (length_candidate_row image) 121 a
+    (omega (arith, c.requires.laid.limits.letters_most)) c.loop-a.out c.loop-a.invariant.1 c.fill_row.new.row c.fill_row.ensures in
+    (same_len_mid (256 * a) (256 * a + 256 - 256 * a) c.loop-a.out c.fill_row.new.row c.fill_row.auto.row ∙ c.loop-a.invariant.0, more)
 
 pub shape_of-out : goal.shape_of-out
 shape_of-out c =
-    c.loop-a.invariant.1.0 ∙ sym (begins (goal.at.shape_of-out c).Start)
+    c.loop-a.invariant.0 ∙ sym (begins (goal.at.shape_of-out c).Start)
 
 pub returns : goal.returns
 returns c =
     let image = c.args.image.now in
-    c.loop-a.invariant.1.1 ∙ rows_all (candidate_row image) (length_candidate_row image) 121 ((header image).letters + 1) (λ i m. no_candidates image i (omega arith)) c.loop-a.a (omega (arith, laid_letters c.requires.laid)) (omega (arith, c.requires.laid.limits.letters_most))
+    c.loop-a.invariant.1
+    ∙ rows_all (candidate_row image) (length_candidate_row image) 121 ((header image).letters + 1) (λ i m. no_candidates image i (omega arith)) c.loop-a.a
+    (omega (arith, laid_letters c.requires.laid)) (omega (arith, c.requires.laid.limits.letters_most))

@@ -15,10 +15,10 @@ use Rattle.index.proofs.fill_row.Goals.{At-loop-p}
 -- the row keeps its length
 size : (c : At-loop-p) → length c.loop-p.row ≡ 256
 size c =
-    ap length c.loop-p.invariant.1.1.1 ∙ length_row_of (found c.args.image.now c.args.a.0 c.loop-p.p) (omega (arith, c.requires.laid.0.limits.pairs_most))
+    ap length c.loop-p.invariant.stored ∙ length_row_of (found c.args.image.now c.args.a.0 c.loop-p.p) (omega (arith, c.requires.laid.0.limits.pairs_most))
 
 pub loop-p-init : goal.loop-p-init
-loop-p-init c = (search rules, (search rules, (refl, c.requires.row_value ∙ row_none)))
+loop-p-init c = record { few = search rules; counted = refl; stored = c.requires.row_value ∙ row_none }
 
 pub overflow_cast-row : goal.overflow_cast-row
 overflow_cast-row c = omega (arith, c.requires.laid.0.limits.pairs_most)
@@ -36,9 +36,15 @@ loop-p-preserved c =
     let xs = found image a p in
     elim c.if-is_candidate.branch [
       | then-is_candidate w ↦ let e : found image a (p + 1) ≡ xs ++ (p ∷ []) = found_more image a p (sym test.ensures ∙ w.if-is_candidate.true) in
-          (omega arith, (omega (arith, w.n-is), (w.n-is ∙ omega (arith, inv.1.1.0, length-append xs (p ∷ [])) ∙ ap length (sym e), w.row-is ∙ ap (λ (l : List ℕ). set l (c.loop-p.n + 1) p) inv.1.1.1 ∙ row_more xs c.loop-p.n p inv.1.1.0 (omega (arith, c.requires.laid.0.limits.pairs_most)) ∙ ap row_of (sym e))))
+          record {
+            few = omega (arith, w.n-is);
+            counted = w.n-is ∙ omega (arith, inv.counted, length-append xs (p ∷ [])) ∙ ap length (sym e);
+            stored =
+                w.row-is ∙ ap (λ (l : List ℕ). set l (c.loop-p.n + 1) p) inv.stored ∙ row_more xs c.loop-p.n p inv.counted (omega (arith, c.requires.laid.0.limits.pairs_most))
+                ∙ ap row_of (sym e);
+          }
       | else-is_candidate w ↦ let e : found image a (p + 1) ≡ xs = found_same image a p (sym test.ensures ∙ w.if-is_candidate.false) in
-          (omega arith, (omega (arith, w.n-is), (w.n-is ∙ inv.1.1.0 ∙ ap length (sym e), w.row-is ∙ inv.1.1.1 ∙ ap row_of (sym e))))
+          record { few = omega (arith, w.n-is); counted = w.n-is ∙ inv.counted ∙ ap length (sym e); stored = w.row-is ∙ inv.stored ∙ ap row_of (sym e) }
     ]
 
 pub overflow_cast-row-2 : goal.overflow_cast-row-2
@@ -55,5 +61,6 @@ returns c =
     let image = c.args.image.now in
     let a = c.args.a.0 in
     let done : c.loop-p.p ≡ (header image).pairs = omega (arith, laid_pairs c.requires.laid.0) in
-    ap (λ (l : List ℕ). set l 0 c.loop-p.n) (c.loop-p.invariant.1.1.1 ∙ ap (λ (p : ℕ). row_of (found image a p)) done)
-    ∙ row_whole image a c.loop-p.n (omega (arith, c.requires.laid.1, laid_letters c.requires.laid.0)) (c.loop-p.invariant.1.1.0 ∙ ap (λ (p : ℕ). length (found image a p)) done) (omega (arith, c.requires.laid.0.limits.pairs_most))
+    ap (λ (l : List ℕ). set l 0 c.loop-p.n) (c.loop-p.invariant.stored ∙ ap (λ (p : ℕ). row_of (found image a p)) done)
+    ∙ row_whole image a c.loop-p.n (omega (arith, c.requires.laid.1, laid_letters c.requires.laid.0)) (c.loop-p.invariant.counted ∙ ap (λ (p : ℕ). length (found image a p)) done)
+    (omega (arith, c.requires.laid.0.limits.pairs_most))

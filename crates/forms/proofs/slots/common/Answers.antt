@@ -1,8 +1,7 @@
--- `forms::slots::common` meets its contract.
+-- `forms::slots::common` meets its contract: the bytes before k are the same, and k is the first that is not.
 use mathlib.Core.Path.{sym}
-use borrow.Author.Rules.{rules}
 use borrow.Author.Count.{below_more}
 use Rattle.forms.proofs.slots.common.Goals as goal
 
 pub loop-k-preserved : goal.loop-k-preserved
-loop-k-preserved c = (search rules, below_more _ _ c.loop-k.invariant.1 (sym c.if-bytes-a.false))
+loop-k-preserved c = below_more _ _ c.loop-k.invariant (sym c.if-bytes-a.false)

@@ -1,4 +1,4 @@
--- `filter::sets::over` meets its contract.
+-- `positions::sets::over` meets its contract.
 use native.Mathlib.Omega.{arith}
 use mathlib.Core.Path.{refl}
 use Rattle.positions.specs.Masks.{over_mask}
@@ -12,6 +12,6 @@ pub returns-then-deletes : goal.returns-then-deletes
 unfolding over_mask
 returns-then-deletes c = (rw c.if-deletes.true refl, both_in c.args.pairs c.args.m c.requires.0 c.requires.1)
 
-pub returns : goal.returns
+pub returns-else-deletes : goal.returns-else-deletes
 unfolding over_mask
-returns c = (rw c.if-deletes.false refl, double_in c.args.pairs c.args.m c.requires.0 c.requires.1)
+returns-else-deletes c = (rw c.if-deletes.false refl, double_in c.args.pairs c.args.m c.requires.0 c.requires.1)

@@ -1,10 +1,7 @@
-use Prim.Native.Nat.{◌≤◌, ◌<◌, ◌-◌, ◌^◌}
+use Prim.Native.Nat.{◌<◌, ◌-◌, ◌^◌}
 use mathlib.Core.Path.{◌≡◌}
 use Rattle.positions.specs.Masks.{spread_mask}
 use Rattle.positions.proofs.sets.spread.Given as goal
 
 abbrev pub invariant-loop-k : goal.invariant-loop-k
-invariant-loop-k l = (l.k ≤ 8) × ((l.all < 2 ^ 33) × (spread_mask (8 - l.k) l.inserts l.all ≡ spread_mask 8 l.inserts l.m))
-
-abbrev pub decreases-loop-k : goal.decreases-loop-k
-decreases-loop-k l = 8 - l.k
+invariant-loop-k l = record { in_word : l.all < 2 ^ 33; rounds : spread_mask (8 - l._k) l.inserts l.all ≡ spread_mask 8 l.inserts l.m }

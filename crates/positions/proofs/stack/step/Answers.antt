@@ -1,4 +1,4 @@
--- `filter::stack::step` meets its contract.
+-- `positions::stack::step` meets its contract.
 use mathlib.Core.Path.{ap, ◌∙◌}
 use lib.ListN.{get_or}
 use Rattle.positions.specs.Masks.{spread_mask}

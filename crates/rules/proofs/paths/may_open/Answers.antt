@@ -45,41 +45,37 @@ module _ (c : After-is_here) where
   seen : c.is_here.result ≡ named image lexicons bits e x
   seen =
       c.is_here.ensures
-      ∙ here_is image lexicons bits e x c.loop-x.first (c.loop-x.first + c.entry_count.result) c.loop-x.rest c.loop-x.invariant.1.0
-      (ap (λ (n : ℕ). c.loop-x.first + n) c.entry_count.ensures.0) c.loop-x.invariant.1.1.1.0
+      ∙ here_is image lexicons bits e x c.loop-x.first (c.loop-x.first + c.entry_count.result) c.loop-x.rest c.loop-x.invariant.first_is
+      (ap (λ (n : ℕ). c.loop-x.first + n) c.entry_count.ensures.0) c.loop-x.invariant.moved
 
 pub loop-x-init : goal.loop-x-init
-loop-x-init c = (omega arith, (sym (first_none c.args.image.now), (omega arith, (λ i. ap (bit c.args.bits) (sym (zero-add i)), refl))))
+loop-x-init c = record { first_is = sym (first_none c.args.image.now); small = omega arith; moved = λ i. ap (bit c.args.bits) (sym (zero-add i)); none = refl }
 
 pub entry_count-requires : goal.entry_count-requires
 entry_count-requires c = record { laid = c.requires; x_lt_lexicons = omega arith }
 
 pub overflow_add-next : goal.overflow_add-next
-overflow_add-next c = omega (arith, c.loop-x.invariant.1.1.0, c.entry_count.ensures.1, c.requires.limits.lexicons_most)
+overflow_add-next c = omega (arith, c.loop-x.invariant.small, c.entry_count.ensures.1, c.requires.limits.lexicons_most)
 
 pub returns-then-is_here : goal.returns-then-is_here
 returns-then-is_here c =
-    sym (left_true (in_some (image (goal.at.returns-then-is_here c).After-is_here) (lexicons (goal.at.returns-then-is_here c).After-is_here) (bits (goal.at.returns-then-is_here c).After-is_here) (e (goal.at.returns-then-is_here c).After-is_here)) (ltb (e (goal.at.returns-then-is_here c).After-is_here) c.args.h.entries)
-    (some_here (image (goal.at.returns-then-is_here c).After-is_here) (lexicons (goal.at.returns-then-is_here c).After-is_here) (bits (goal.at.returns-then-is_here c).After-is_here) (e (goal.at.returns-then-is_here c).After-is_here) (x (goal.at.returns-then-is_here c).After-is_here) (omega arith) (sym (seen (goal.at.returns-then-is_here c).After-is_here) ∙ c.if-is_here.true)))
+    let place = (goal.at.returns-then-is_here c).After-is_here in
+    sym (left_true (in_some (image place) (lexicons place) (bits place) (e place)) (ltb (e place) c.args.h.entries)
+    (some_here (image place) (lexicons place) (bits place) (e place) (x place) (omega arith) (sym (seen place) ∙ c.if-is_here.true)))
 
 pub loop-x-preserved : goal.loop-x-preserved
 loop-x-preserved c =
-    let count = c.entry_count in (
-      omega arith,
-      (
-        ap₂ (λ (m n : ℕ). m + n) c.loop-x.invariant.1.0 count.ensures.0 ∙ sym (first_more (image (goal.at.loop-x-preserved c).After-is_here) (x (goal.at.loop-x-preserved c).After-is_here)),
-        (
-          omega (arith, c.loop-x.invariant.1.1.0, count.ensures.1),
-          (
-            λ i. let k : x (goal.at.loop-x-preserved c).After-is_here + suc i ≡ x (goal.at.loop-x-preserved c).After-is_here + 1 + i = omega arith in c.loop-x.invariant.1.1.1.0 (suc i) ∙ ap (bit (bits (goal.at.loop-x-preserved c).After-is_here)) k,
-            none_more (image (goal.at.loop-x-preserved c).After-is_here) (lexicons (goal.at.loop-x-preserved c).After-is_here) (bits (goal.at.loop-x-preserved c).After-is_here) (e (goal.at.loop-x-preserved c).After-is_here) (x (goal.at.loop-x-preserved c).After-is_here) c.loop-x.invariant.1.1.1.1 (sym (seen (goal.at.loop-x-preserved c).After-is_here) ∙ c.if-is_here.false),
-          ),
-        ),
-      ),
-    )
+    let place = (goal.at.loop-x-preserved c).After-is_here in
+    let inv = c.loop-x.invariant in
+    record {
+      first_is = ap₂ (λ (m n : ℕ). m + n) inv.first_is c.entry_count.ensures.0 ∙ sym (first_more (image place) (x place));
+      small = omega (arith, inv.small, c.entry_count.ensures.1);
+      moved = λ i. let k : x place + suc i ≡ x place + 1 + i = omega arith in inv.moved (suc i) ∙ ap (bit (bits place)) k;
+      none = none_more (image place) (lexicons place) (bits place) (e place) (x place) inv.none (sym (seen place) ∙ c.if-is_here.false);
+    }
 
 pub returns : goal.returns
 returns c =
     let done : c.args.h.lexicons ≡ c.loop-x.x = omega arith in
     sym (left_false (in_some c.args.image.now c.args.h.lexicons c.args.bits c.args.e) (ltb c.args.e c.args.h.entries)
-    (ap (λ (n : ℕ). any (named c.args.image.now c.args.h.lexicons c.args.bits c.args.e) (below n)) done ∙ c.loop-x.invariant.1.1.1.1))
+    (ap (λ (n : ℕ). any (named c.args.image.now c.args.h.lexicons c.args.bits c.args.e) (below n)) done ∙ c.loop-x.invariant.none))

@@ -1,5 +1,4 @@
 -- `path_linked` meets its contract: whether the rest of the path is linked from the lexicons that are next decides.
-use borrow.Author.Tests.{not-true, not-false}
 use native.Mathlib.Omega.{arith}
 use mathlib.Core.Bool.{true, ◌&&◌}
 use mathlib.Core.Path.{◌≡◌, sym, ap, ap₂, ◌∙◌, subst}
@@ -46,31 +45,36 @@ module _ (c : After-may_open) where
 pub loop-i-init : goal.loop-i-init
 loop-i-init c =
     let some : 1 ≤ (header c.args.image.now).lexicons = omega (arith, c.requires.laid.limits.lexicons_least, ap (λ (g : Header). g.lexicons) c.requires.laid.header_is) in
-    (omega arith, linked_start c.args.image.now some (entry_numbers c.args.path.now))
+    linked_start c.args.image.now some (entry_numbers c.args.path.now)
 
 pub may_open-requires : goal.may_open-requires
 may_open-requires c = c.requires.laid
 
 pub returns-then-not-may_open : goal.returns-then-not-may_open
 returns-then-not-may_open c =
-    sym (linked_fails (image (goal.at.returns-then-not-may_open c).After-may_open) (es (goal.at.returns-then-not-may_open c).After-may_open) c.loop-i.i c.loop-i.bits c.loop-i.stop (e (goal.at.returns-then-not-may_open c).After-may_open) (inside (goal.at.returns-then-not-may_open c).After-may_open) (this (goal.at.returns-then-not-may_open c).After-may_open) (sym (opened (goal.at.returns-then-not-may_open c).After-may_open) ∙ not-true c.may_open.result c.if-not-may_open.true-raw)) ∙ c.loop-i.invariant.1
+    let place = (goal.at.returns-then-not-may_open c).After-may_open in
+    sym (linked_fails (image place) (es place) c.loop-i.i c.loop-i.bits c.loop-i.stop (e place) (inside place) (this place) (sym (opened place) ∙ c.if-not-may_open.true)) ∙ c.loop-i.invariant
 
 pub ways_of-ways-requires : goal.ways_of-ways-requires
-ways_of-ways-requires c = record { laid = c.requires.laid; e_lt_entries = is_entry (goal.at.ways_of-ways-requires c).After-may_open (sym (opened (goal.at.ways_of-ways-requires c).After-may_open) ∙ not-false c.may_open.result c.if-not-may_open.false-raw) }
+ways_of-ways-requires c =
+    let place = (goal.at.ways_of-ways-requires c).After-may_open in
+    record { laid = c.requires.laid; e_lt_entries = is_entry place (sym (opened place) ∙ c.if-not-may_open.false) }
 
 pub loop-i-preserved : goal.loop-i-preserved
 loop-i-preserved c =
-    let f : (header_of c.args.h).form ≡ (header (image (goal.at.loop-i-preserved c).After-may_open)).form = ap (λ (g : Header). g.form) (same (goal.at.loop-i-preserved c).After-may_open) in (
-      omega arith,
-      sym (linked_ways (image (goal.at.loop-i-preserved c).After-may_open) (e (goal.at.loop-i-preserved c).After-may_open) c.ways_of-ways.result.bits c.ways_of-ways.result.stop (omega (arith, c.requires.laid.limits.lexicons_most, ap (λ (g : Header). g.lexicons) (same (goal.at.loop-i-preserved c).After-may_open)))
-          (subst (λ (n : ℕ). c.ways_of-ways.result.stop ≡ may_stop (entry (image (goal.at.loop-i-preserved c).After-may_open) (e (goal.at.loop-i-preserved c).After-may_open)) n) f c.ways_of-ways.ensures.stop)
-          (subst (λ (n : ℕ). Names (goes_to (entry (image (goal.at.loop-i-preserved c).After-may_open) (e (goal.at.loop-i-preserved c).After-may_open)) n) c.ways_of-ways.result.bits) f c.ways_of-ways.ensures.bits)
-          (drop (c.loop-i.i + 1) (es (goal.at.loop-i-preserved c).After-may_open)))
-          ∙ sym (linked_on (image (goal.at.loop-i-preserved c).After-may_open) (es (goal.at.loop-i-preserved c).After-may_open) c.loop-i.i c.loop-i.bits c.loop-i.stop (e (goal.at.loop-i-preserved c).After-may_open) (inside (goal.at.loop-i-preserved c).After-may_open) (this (goal.at.loop-i-preserved c).After-may_open) (sym (opened (goal.at.loop-i-preserved c).After-may_open) ∙ not-false c.may_open.result c.if-not-may_open.false-raw))
-          ∙ c.loop-i.invariant.1,
-    )
+    let place = (goal.at.loop-i-preserved c).After-may_open in
+    let entry_bytes = entry (image place) (e place) in
+    let ways = c.ways_of-ways.result in
+    let f : (header_of c.args.h).form ≡ (header (image place)).form = ap (λ (g : Header). g.form) (same place) in
+    let few : (header (image place)).lexicons ≤ 64 = omega (arith, c.requires.laid.limits.lexicons_most, ap (λ (g : Header). g.lexicons) (same place)) in
+    sym (linked_ways (image place) (e place) ways.bits ways.stop few
+    (subst (λ (n : ℕ). ways.stop ≡ may_stop entry_bytes n) f c.ways_of-ways.ensures.stop)
+    (subst (λ (n : ℕ). Names (goes_to entry_bytes n) ways.bits) f c.ways_of-ways.ensures.bits)
+    (drop (c.loop-i.i + 1) (es place)))
+    ∙ sym (linked_on (image place) (es place) c.loop-i.i c.loop-i.bits c.loop-i.stop (e place) (inside place) (this place) (sym (opened place) ∙ c.if-not-may_open.false))
+    ∙ c.loop-i.invariant
 
 pub returns : goal.returns
 returns c =
     sym (linked_end c.args.image.now c.loop-i.bits c.loop-i.stop c.loop-i.i (entry_numbers c.args.path.now) (omega (arith, length_entry_numbers c.args.path.now)))
-    ∙ c.loop-i.invariant.1
+    ∙ c.loop-i.invariant

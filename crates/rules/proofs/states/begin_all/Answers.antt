@@ -15,4 +15,4 @@ step_all-requires c = record { accepted = c.requires.accepted; index_value = c.r
 pub returns : goal.returns
 returns c =
     let image = c.args.image.now in
-    subst (λ (l : List ℕ). Reached image l c.step_all.result.alive c.step_all.result.states) (begun_is (accepted_here c.requires.accepted) c.args.h.pairs (laid_pairs c.requires.accepted.laid)) c.step_all.ensures
+    subst (λ (l : List ℕ). Reached image l c.step_all.result) (begun_is (accepted_here c.requires.accepted) c.args.h.pairs (laid_pairs c.requires.accepted.laid)) c.step_all.ensures

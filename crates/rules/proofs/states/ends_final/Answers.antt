@@ -21,7 +21,7 @@ returns-then-last-eq0 c =
 
 pub record_start-at-requires : goal.record_start-at-requires
 unfolding kinds
-record_start-at-requires c = record { limited = c.requires.accepted.laid.limits; kind = (omega arith, omega arith); i_bound = omega (arith, laid_rules c.requires.accepted.laid) }
+record_start-at-requires c = record { limited = c.requires.accepted.laid.limits; i_bound = omega (arith, laid_rules c.requires.accepted.laid) }
 
 pub byte_at-columns-requires : goal.byte_at-columns-requires
 byte_at-columns-requires c = omega (arith, inside (accepted_here c.requires.accepted) c.args.r c.requires.r_bound.0 c.record_start-at.result (begins c) 0 (omega arith))

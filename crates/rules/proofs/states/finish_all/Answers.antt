@@ -1,6 +1,4 @@
 -- `finish_all` meets its contract: the rules passed all end in a final state.
-use borrow.Author.Rules.{rules}
-use borrow.Author.Tests.{not-true, not-false}
 use native.Mathlib.Omega.{arith}
 use mathlib.Core.Path.{◌≡◌, refl, sym, ap, ◌∙◌}
 use Prim.Native.Nat.{ℕ, ◌<◌}
@@ -19,7 +17,7 @@ module _ (c : After-ends_final) where
   ended = c.ends_final.ensures
 
 pub loop-rule-init : goal.loop-rule-init
-loop-rule-init c = (search rules, refl)
+loop-rule-init c = refl
 
 pub ends_final-requires : goal.ends_final-requires
 ends_final-requires c =
@@ -32,17 +30,19 @@ pub returns-then-not-ends_final : goal.returns-then-not-ends_final
 returns-then-not-ends_final c =
     let rules = laid_rules c.requires.accepted.laid in
     let image = c.args.image.now in
-    sym (every_fails (ends_all image c.args.states c.args.h.pairs) (header image).rules c.loop-rule.rule (omega arith) (sym (ended (goal.at.returns-then-not-ends_final c).After-ends_final) ∙ not-true c.ends_final.result c.if-not-ends_final.true-raw))
+    let fails = sym (ended (goal.at.returns-then-not-ends_final c).After-ends_final) ∙ c.if-not-ends_final.true in
+    sym (every_fails (ends_all image c.args.states c.args.h.pairs) (header image).rules c.loop-rule.rule (omega arith) fails)
     ∙ finish_is image c.args.states c.args.h.pairs (laid_pairs c.requires.accepted.laid)
 
 pub loop-rule-preserved : goal.loop-rule-preserved
 loop-rule-preserved c =
-    (omega arith, every_more (ends_all c.args.image.now c.args.states c.args.h.pairs) c.loop-rule.rule c.loop-rule.invariant.1 (sym (ended (goal.at.loop-rule-preserved c).After-ends_final) ∙ not-false c.ends_final.result c.if-not-ends_final.false-raw))
+    every_more (ends_all c.args.image.now c.args.states c.args.h.pairs) c.loop-rule.rule c.loop-rule.invariant
+    (sym (ended (goal.at.loop-rule-preserved c).After-ends_final) ∙ c.if-not-ends_final.false)
 
 pub returns : goal.returns
 returns c =
     let image = c.args.image.now in
     let done : c.loop-rule.rule ≡ (header image).rules = omega (arith, laid_rules c.requires.accepted.laid) in
-    sym c.loop-rule.invariant.1
+    sym c.loop-rule.invariant
     ∙ ap (λ (n : ℕ). every (ends_all image c.args.states c.args.h.pairs) (below n)) done
     ∙ finish_is image c.args.states c.args.h.pairs (laid_pairs c.requires.accepted.laid)

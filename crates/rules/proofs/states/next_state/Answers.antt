@@ -55,7 +55,7 @@ byte_at-column-requires c =
 
 pub record_start-at-requires : goal.record_start-at-requires
 unfolding kinds
-record_start-at-requires c = record { limited = c.requires.accepted.laid.limits; kind = (omega arith, omega arith); i_bound = omega (arith, laid_rules c.requires.accepted.laid) }
+record_start-at-requires c = record { limited = c.requires.accepted.laid.limits; i_bound = omega (arith, laid_rules c.requires.accepted.laid) }
 
 pub byte_at-columns-requires : goal.byte_at-columns-requires
 byte_at-columns-requires c = omega (arith, inside (ok (goal.at.byte_at-columns-requires c).Start) c.args.r (rule (goal.at.byte_at-columns-requires c).Start) c.record_start-at.result (begins c.before) 0 (omega arith))

@@ -1,5 +1,4 @@
 -- `step_all` meets its contract: the rules passed are in their new states, none of them 0, and the others as they were.
-use borrow.Author.Rules.{rules}
 use native.Mathlib.Omega.{arith}
 use mathlib.Core.Path.{◌≡◌, sym, ap, ◌∙◌, subst}
 use Prim.Native.Nat.{ℕ, ◌≤◌, ◌<◌}
@@ -17,7 +16,7 @@ use Rattle.rules.proofs.states.step_all.Goals.{After-next_state-s}
 -- the rule's next state
 module _ (c : After-next_state-s) where
   stepped : c.next_state-s.result ≡ (grammar_of c.args.image.now).next c.loop-r.r (get_or c.args.states c.loop-r.r 0) c.args.p
-  stepped = c.next_state-s.ensures.0 ∙ ap (λ (n : ℕ). (grammar_of c.args.image.now).next c.loop-r.r n c.args.p) (c.loop-r.invariant.1.old c.loop-r.r (omega arith))
+  stepped = c.next_state-s.ensures.0 ∙ ap (λ (n : ℕ). (grammar_of c.args.image.now).next c.loop-r.r n c.args.p) (c.loop-r.invariant.old c.loop-r.r (omega arith))
 
   inside : c.loop-r.r < (header c.args.image.now).rules
   inside = omega (arith, laid_rules c.requires.accepted.laid)
@@ -26,7 +25,7 @@ module _ (c : After-next_state-s) where
   size = c.well_formed.1.1.1.0.1.0.1
 
 pub loop-r-init : goal.loop-r-init
-loop-r-init c = (search rules, rules_took_none c.args.image.now c.args.states c.args.p)
+loop-r-init c = rules_took_none c.args.image.now c.args.states c.args.p
 
 pub next_state-s-requires : goal.next_state-s-requires
 next_state-s-requires c =
@@ -34,19 +33,29 @@ next_state-s-requires c =
     let pairs = laid_pairs c.requires.accepted.laid in
     let image = c.args.image.now in
     let r : c.loop-r.r < (header image).rules = omega arith in
-    let old = c.loop-r.invariant.1.old c.loop-r.r (omega arith) in
-    record { accepted = c.requires.accepted; index_value = c.requires.index_value; r_bound = (r, omega (arith, c.requires.p_le_pairs)); le_s = subst (λ (n : ℕ). (1 ≤ n) × (n ≤ state_count (table image c.loop-r.r))) (sym old) (c.requires.live c.loop-r.r r) }
+    let old = c.loop-r.invariant.old c.loop-r.r (omega arith) in
+    record {
+      accepted = c.requires.accepted;
+      index_value = c.requires.index_value;
+      r_bound = (r, omega (arith, c.requires.p_le_pairs));
+      le_s = subst (λ (n : ℕ). (1 ≤ n) × (n ≤ state_count (table image c.loop-r.r))) (sym old) (c.requires.live c.loop-r.r r);
+    }
 
 pub returns-then-s-eq0 : goal.returns-then-s-eq0
-returns-then-s-eq0 c = step_fails c.args.image.now c.args.states c.args.p c.loop-r.r c.next_state-s.result c.loop-r.after (inside (goal.at.returns-then-s-eq0 c).After-next_state-s) (stepped (goal.at.returns-then-s-eq0 c).After-next_state-s) c.if-s-eq0.true
+returns-then-s-eq0 c =
+    let place = (goal.at.returns-then-s-eq0 c).After-next_state-s in
+    step_fails c.args.image.now c.args.states c.args.p c.loop-r.r c.next_state-s.result (inside place) (stepped place) c.if-s-eq0.true
 
 pub loop-r-preserved : goal.loop-r-preserved
 loop-r-preserved c =
-    (omega arith, rules_took_one c.args.image.now c.args.states c.args.p c.loop-r.r c.loop-r.after c.next_state-s.result (omega (arith, size (goal.at.loop-r-preserved c).After-next_state-s, inside (goal.at.loop-r-preserved c).After-next_state-s, c.requires.accepted.laid.limits.rules_most)) c.loop-r.invariant.1 (stepped (goal.at.loop-r-preserved c).After-next_state-s) c.if-s-eq0.false)
+    let place = (goal.at.loop-r-preserved c).After-next_state-s in
+    rules_took_one c.args.image.now c.args.states c.args.p c.loop-r.r c.loop-r.after c.next_state-s.result
+    (omega (arith, size place, inside place, c.requires.accepted.laid.limits.rules_most)) c.loop-r.invariant (stepped place) c.if-s-eq0.false
 
 pub returns : goal.returns
 returns c =
     let image = c.args.image.now in
     let done : c.loop-r.r ≡ (header image).rules = omega (arith, laid_rules c.requires.accepted.laid) in
-    step_lives (accepted_here c.requires.accepted) c.args.states c.args.p c.loop-r.after c.well_formed.1.1.1.0.1.0.1 (omega (arith, c.requires.p_le_pairs, laid_pairs c.requires.accepted.laid)) c.requires.live
-    (subst (λ (n : ℕ). RulesTook image c.args.states c.args.p n c.loop-r.after) done c.loop-r.invariant.1)
+    step_lives (accepted_here c.requires.accepted) c.args.states c.args.p c.loop-r.after c.well_formed.1.1.1.0.1.0.1
+    (omega (arith, c.requires.p_le_pairs, laid_pairs c.requires.accepted.laid)) c.requires.live
+    (subst (λ (n : ℕ). RulesTook image c.args.states c.args.p n c.loop-r.after) done c.loop-r.invariant)
