@@ -2,8 +2,8 @@
 use Prim.Native.Nat.{ℕ, zero, suc, ◌+◌, ◌*◌, ◌-◌, ◌/◌, ◌%◌, ◌^◌, ◌<◌, ◌≤◌, min}
 use native.Mathlib.Nat.{zero-add, suc-add, add-suc, add-zero, pow-succ'}
 use native.Mathlib.Omega.{arith}
-use native.Mathlib.Decide.{dec_le, dec_lt}
-use mathlib.Core.Bool.{Bool, false, ◌||◌, not, cond}
+use native.Mathlib.Decide.{dec_lt}
+use mathlib.Core.Bool.{Bool, true, false, ◌||◌, not, cond}
 use mathlib.Core.Path.{◌≡◌, refl, sym, ap, ap₂, ◌∙◌, subst}
 use mathlib.Core.List.{List, [], ◌∷◌, ◌++◌, append_assoc, append-nil, Memᴰ}
 use lib.ListN.{length, take, drop, set, length-append, length-take, length-drop, drop_of_length-le}
@@ -12,7 +12,8 @@ use lib.Dec.{T, leb, ltb, eqb, eqb→eq}
 use lib.Count.{ones, ones_step, count_trailing_zeros}
 use lib.Arith.{mod-mul}
 use lib.Pow.{shr-shr, pow_pos}
-use borrow.Author.Tests.{eq-eqb, ne_eqb, le-leb, lt-leb}
+use borrow.Author.Tests.{eq-eqb, ne_eqb}
+use Rattle.std.specs.Int.{w64, to_le_bytes, bytes_low_first, from_bool}
 use Rattle.model.specs.Lists.{below, every, any, count, first, byte, bit}
 use Rattle.model.specs.Lexicon.{may_stop, goes_to, right_ways, way_count}
 use Rattle.model.proofs.Booleans.{out3}
@@ -22,12 +23,10 @@ use Rattle.digits.proofs.Bits.{lowest, digit_most, digits_few}
 use Rattle.conversion.specs.Conversion.{digits_from, way_bytes, to_many, to_one, other_entry}
 use Rattle.conversion.proofs.Ways.{count_more, count_alike, count_one, first_below}
 
-pub no_more : (n : ℕ) → eqb n 0 ≡ leb (n + 1) 1
-no_more n = go (dec_le (n + 1) 1)
-  where
-    go : Dec (n + 1 ≤ 1) → eqb n 0 ≡ leb (n + 1) 1
-    go (yes l) = eq-eqb n 0 (omega arith) ∙ sym (le-leb (n + 1) 1 l)
-    go (no l) = ne_eqb n 0 (λ e. omega arith) ∙ sym (lt-leb (n + 1) 1 (omega arith))
+-- an ending as a number
+pub ending_number : (stop : Bool) → from_bool stop ≡ cond stop 1 0
+ending_number true = refl
+ending_number false = refl
 
 -- how many lexicons a set names, as the machine counts
 count_shift : (f : ℕ → Bool) (k : ℕ) → count f (below (suc k)) ≡ cond (f 0) 1 0 + count (λ x. f (suc x)) (below k)
@@ -97,6 +96,13 @@ digits_are f (suc m) n i e =
 
 pub way_byte : (n j : ℕ) → digits_from (bit n) 8 (8 * j) ≡ n / 2 ^ (8 * j) % 256
 way_byte n j = digits_are (bit n) 8 (n / 2 ^ (8 * j)) (8 * j) (λ x l. bit_at n (8 * j) x)
+
+-- the set as the bytes of its number, the lowest first
+pub ways_written : (n : ℕ) → to_le_bytes w64 n ≡ way_bytes (bit n)
+unfolding way_bytes
+ways_written n =
+    let low : n % 256 ≡ n / 1 % 256 = omega arith in
+    ap (λ (b : ℕ). b ∷ bytes_low_first 1 7 n) low ∙ map_same (λ j. n / 2 ^ (8 * j) % 256) (λ j. digits_from (bit n) 8 (8 * j)) (below 8) (λ j m. sym (way_byte n j))
 
 digits_same : (f h : ℕ → Bool) (m i : ℕ) → i + m ≤ 64 → ((x : ℕ) → x < 64 → f x ≡ h x) → digits_from f m i ≡ digits_from h m i
 digits_same f h zero i l e = refl

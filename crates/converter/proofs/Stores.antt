@@ -1,38 +1,16 @@
--- Lists written in place: byte after byte, and part after part.
-use Prim.Native.Nat.{ℕ, zero, suc, ◌+◌, ◌*◌, ◌-◌, ◌<◌}
+-- Lists written in place, part after part.
+use Prim.Native.Nat.{ℕ, zero, suc, ◌+◌, ◌*◌, ◌-◌}
 use native.Mathlib.Nat.{mul-suc}
 use native.Mathlib.Numerals.{add-one}
 use native.Mathlib.Omega.{arith}
-use mathlib.Core.Path.{◌≡◌, refl, sym, ap, ap₂, ◌∙◌}
+use mathlib.Core.Path.{◌≡◌, sym, ap, ap₂, ◌∙◌}
 use mathlib.Core.List.{List, ◌++◌, append_assoc}
-use lib.ListN.{length, take, drop, set, replicate, length-append}
-use lib.Seq.{take-suc, drop-cons, append_snoc, length-take-le, take_all, take_at, drop_at, drop-drop, set_at}
+use lib.ListN.{length, take, drop, replicate, length-append}
+use lib.Seq.{take_at, drop_at, drop-drop}
 use borrow.Rule.Slice.PartMut.{put_mid}
-use Rattle.model.specs.Lists.{below, flat_map, byte}
+use Rattle.model.specs.Lists.{below, flat_map}
 use Rattle.model.proofs.Lists.{flat_map_below, length_below}
 use Rattle.model.proofs.Parts.{Wide, length_parts}
-
--- the first k bytes of one list, and then what another had
-module _ (new old : List ℕ) where
-  unfoldable pub written_to : ℕ → List ℕ
-  written_to k = take k new ++ drop k old
-
-  pub written_none : old ≡ written_to 0
-  unfolding written_to
-  written_none = refl
-
-  pub written_more : (k v : ℕ) (now : List ℕ) → k < length new → k < length old → now ≡ written_to k → v ≡ byte new k → set now k v ≡ written_to (k + 1)
-  unfolding written_to
-  written_more k v now there room e is =
-      ap₂ (λ (l : List ℕ) (v : ℕ). set l k v) (e ∙ ap (λ (r : List ℕ). take k new ++ r) (drop-cons old k 0 room)) is
-      ∙ set_at (take k new) (byte old k) (drop (suc k) old) (byte new k) k (length-take-le k new (omega arith))
-      ∙ sym (append_snoc (take k new) (byte new k) (drop (suc k) old))
-      ∙ ap (λ (p : List ℕ). p ++ drop (suc k) old) (sym (take-suc new k 0 there))
-      ∙ ap (λ (n : ℕ). take n new ++ drop n old) (sym (add-one k))
-
-  pub written_all : (k : ℕ) → k ≡ length new → written_to k ≡ new ++ drop k old
-  unfolding written_to
-  written_all k e = ap (λ (p : List ℕ). p ++ drop k old) (take_all k new (omega arith))
 
 -- parts of width w one after the other, behind a front and before what stood there
 module _ (front : List ℕ) (f : ℕ → List ℕ) (w : ℕ) (base : List ℕ) where

@@ -1,16 +1,16 @@
 -- The converter's answer in document 02's words and number, and what its parts may take for granted once the tests are passed.
-use Rattle.std.specs.Prelude.{ℕ, ◌≤◌, ◌≡◌, List, T}
+use Rattle.std.specs.Prelude.{ℕ, ◌≤◌, ◌≡◌, List, T, Result, Ok, Err}
 use Rattle.model.specs.Blocks.{Header, header, block_total}
 use Rattle.model.specs.Lexicon.{entry, right_ways, way_count}
 use Rattle.model.specs.Refusals.{accepted, image_verdict}
 use Rattle.conversion.specs.Conversion as model
 use Rattle.conversion.specs.Conversion.{other_header, one_ways}
-use Rattle.converter.specs.declared.Conversion.{Conversion}
-use Rattle.converter.specs.declared.Conversion.TheVariants.{Converted, Refused}
+use Rattle.refusal.specs.declared.Refusal.{Refusal}
+use Rattle.refusal.specs.Numbers.{number_of}
 
-abbrev pub conversion_of : Conversion → model.Conversion
-conversion_of Converted = model.Conversion.converted
-conversion_of (Refused k) = model.Conversion.refused k
+abbrev pub conversion_of : Result (Unit {0}) Refusal → model.Conversion
+conversion_of (Ok _) = model.Conversion.converted
+conversion_of (Err r) = model.Conversion.refused (number_of r)
 
 -- an entry that can be said in either form
 pub record OneWay (image : List ℕ) (form lexicons e : ℕ) : Type 0 where

@@ -6,7 +6,8 @@ ghost use Rattle.built.specs.Built.{built_block};
 ghost use Rattle.conversion.specs.Conversion.{other_header, other_records, converted_image};
 ghost use Rattle.converter.specs.Answers.{Converting};
 
-use crate::{entries, writing};
+use crate::entries;
+use image::kinds::Kind;
 use image::{Header, kinds, seal};
 
 // The counts of the image in the other form.
@@ -16,12 +17,7 @@ pub fn other_header(h: Header) -> Header
 {
     Header {
         form: 3 - h.form,
-        letters: h.letters,
-        pairs: h.pairs,
-        rules: h.rules,
-        lexicons: h.lexicons,
-        entries: h.entries,
-        sets: h.sets,
+        ..h
     }
 }
 
@@ -31,7 +27,8 @@ fn put_same(image: &[u8], h: Header, o: Header, k: usize, block: &mut [u8])
     requires block_len { (length block.old ≡ 512) × (k < first_block (header_of o) 6) }
     ensures { sealed_block k block.new ≡ sealed_block k (built_block (header_of o) (other_records image.now) k) }
 {
-    writing::copy(image, 512 * k, block, 512);
+    let from = 512 * k;
+    block.copy_from_slice(&image[from..from + 512]);
     if k == 0 {
         seal::put_number(block, 4, o.form);
     }
@@ -42,7 +39,7 @@ fn open_block(block: &mut [u8], n: usize)
     requires { (length block.old ≡ 512) × (n < 256) }
     ensures { block.new ≡ 0 ∷ 0 ∷ 6 ∷ n ∷ replicate 508 0 }
 {
-    writing::clear(block);
+    block.fill(0);
     block[2] = 6;
     block[3] = n as u8;
 }
@@ -54,16 +51,13 @@ fn put_entries(image: &[u8], h: Header, o: Header, k: usize, block: &mut [u8])
     requires o_bound { (first_block (header_of o) 6 ≤ k) × (k < block_total (header_of o)) }
     ensures { block.new ≡ built_block (header_of o) (other_records image.now) k }
 {
-    let wide = kinds::width(o, 6);
-    let before = kinds::per_block(o, 6) * (k - kinds::first_block(o, 6));
-    let n = layout::records_at(o, 6, k);
+    let wide = kinds::width(o, Kind::Entries);
+    let before = kinds::per_block(o, Kind::Entries) * (k - kinds::first_block(o, Kind::Entries));
+    let n = layout::records_at(o, Kind::Entries, k);
     open_block(block, n);
-    let mut i: usize = 0;
-    while i < n {
+    for i in 0..n {
         let from = 4 + wide * i;
-        let to = from + wide;
-        entries::put_entry(image, h, before + i, &mut block[from..to]);
-        i += 1;
+        entries::put_entry(image, h, before + i, &mut block[from..from + wide]);
     }
 }
 
@@ -73,12 +67,11 @@ fn put_block(image: &[u8], h: Header, o: Header, k: usize, block: &mut [u8])
     requires block_len { (length block.old ≡ 512) × (k < block_total (header_of o)) }
     ensures { block.new ≡ sealed_block k (built_block (header_of o) (other_records image.now) k) }
 {
-    if k < kinds::first_block(o, 6) {
+    if k < kinds::first_block(o, Kind::Entries) {
         put_same(image, h, o, k, block);
-        seal::seal_block(block, k);
-        return;
+    } else {
+        put_entries(image, h, o, k, block);
     }
-    put_entries(image, h, o, k, block);
     seal::seal_block(block, k);
 }
 
@@ -89,11 +82,8 @@ pub fn put_blocks(image: &[u8], h: Header, o: Header, target: &mut [u8])
     ensures { target.new ≡ converted_image image.now }
 {
     let total = target.len() / 512;
-    let mut k: usize = 0;
-    while k < total {
+    for k in 0..total {
         let from = 512 * k;
-        let to = from + 512;
-        put_block(image, h, o, k, &mut target[from..to]);
-        k += 1;
+        put_block(image, h, o, k, &mut target[from..from + 512]);
     }
 }

@@ -8,7 +8,6 @@ ghost use Rattle.conversion.specs.Conversion.{way_bytes, other_entry, one_ways};
 ghost use Rattle.model.specs.Lists.{below, any, count, first, bit};
 ghost use Rattle.converter.specs.Answers.{OneWay};
 
-use crate::writing;
 use image::Header;
 use lexicon::ways;
 
@@ -16,11 +15,7 @@ use lexicon::ways;
 fn few_ways(bits: u64, stop: bool) -> bool
     ensures { result ≡ leb (count (bit bits) (below 64) + cond stop 1 0) 1 }
 {
-    let named = u64::count_ones(bits);
-    if stop {
-        return named == 0;
-    }
-    named <= 1
+    bits.count_ones() + u32::from(stop) <= 1
 }
 
 // Test 15: no entry of an image of form 2 has more.
@@ -31,14 +26,11 @@ pub fn one_ways(image: &[u8], h: Header) -> bool
     if h.form != 2 {
         return true;
     }
-    let entries = h.entries;
-    let mut e: usize = 0;
-    while e < entries {
+    for e in 0..h.entries {
         let ways = ways::ways_of(image, h, e);
         if !few_ways(ways.bits, ways.stop) {
             return false;
         }
-        e += 1;
     }
     true
 }
@@ -52,12 +44,9 @@ fn mark_of(form: usize, bits: u64, stop: bool) -> u8
         if stop {
             return 255;
         }
-        return u64::trailing_zeros(bits) as u8;
+        return bits.trailing_zeros() as u8;
     }
-    if stop {
-        return 1;
-    }
-    0
+    u8::from(stop)
 }
 
 // The lexicons of a set, as the last eight bytes of an entry.
@@ -65,11 +54,7 @@ fn put_ways(bits: u64, out: &mut [u8])
     requires { length out.old ≡ 24 }
     ensures { out.new ≡ take 16 out.old ++ way_bytes (bit bits) }
 {
-    let mut j: usize = 0;
-    while j < 8 {
-        out[16 + j] = ((bits >> (8 * j)) % 256) as u8;
-        j += 1;
-    }
+    out[16..].copy_from_slice(&bits.to_le_bytes());
 }
 
 // Entry e in the other form.
@@ -81,7 +66,7 @@ pub fn put_entry(image: &[u8], h: Header, e: usize, out: &mut [u8])
 {
     let at = lexicon::entry_start(h, e);
     let ways = ways::ways_of(image, h, e);
-    writing::copy(image, at, out, 16);
+    out[..16].copy_from_slice(&image[at..at + 16]);
     out[13] = mark_of(h.form, ways.bits, ways.stop);
     if h.form == 1 {
         put_ways(ways.bits, out);

@@ -12,49 +12,39 @@ ghost use Rattle.image.specs.Index.{column_row};
 ghost use Rattle.grammar.specs.Answers.{verdict_of, form_reply_of, tables_verdict, records_verdict, lexicon_verdict};
 
 use image::Header;
-
-#[derive(Clone, Copy)]
-pub enum Verdict {
-    Accepted,
-    Refused(u8),
-}
+use refusal::Refusal;
 
 // Tests 1 to 8 and then 14, each over the whole image before the next.
-pub fn check(image: &[u8]) -> Verdict
+pub fn check(image: &[u8]) -> Result<(), Refusal>
     ensures { verdict_of result ≡ image_verdict image.now }
 {
-    let early = check_tables(image);
-    match early {
-        Verdict::Refused(k) => Verdict::Refused(k),
-        Verdict::Accepted => {
-            let h = image::read_header(image);
-            if !tables::right_columns(image, h) {
-                return Verdict::Refused(7);
-            }
-            check_lexicon(image, h)
-        }
+    check_tables(image)?;
+    let h = image::read_header(image);
+    if !tables::right_columns(image, h) {
+        return Err(Refusal::Columns);
     }
+    check_lexicon(image, h)
 }
 
 // Tests 1 to 6, which need no index: callers that go on to make one clear it only for an image that passes them.
-pub fn check_tables(image: &[u8]) -> Verdict
+pub fn check_tables(image: &[u8]) -> Result<(), Refusal>
     ensures { verdict_of result ≡ tables_verdict image.now }
 {
     if !image::seal::right_length(image.len()) {
-        return Verdict::Refused(1);
+        return Err(Refusal::ImageLength);
     }
     if !layout::right_checks(image) {
-        return Verdict::Refused(2);
+        return Err(Refusal::Checks);
     }
     if !layout::right_layout(image) {
-        return Verdict::Refused(3);
+        return Err(Refusal::Layout);
     }
     check_records(image, image::read_header(image))
 }
 
 // The other tests, of an image that passes those: test 7 keeps the columns that it finds as the index's first rows. `index` is all 0 before; after a
 // refusal it may have anything.
-pub fn check_columns(image: &[u8], index: &mut [u8]) -> Verdict
+pub fn check_columns(image: &[u8], index: &mut [u8]) -> Result<(), Refusal>
     requires image_value { tables_verdict image.now ≡ accepted }
     requires index_value { index.old ≡ replicate 39424 0 }
     ensures verdict { verdict_of result ≡ image_verdict image.now }
@@ -62,74 +52,62 @@ pub fn check_columns(image: &[u8], index: &mut [u8]) -> Verdict
 {
     let h = image::read_header(image);
     if !tables::keep_columns(image, h, &mut index[0..8192]) {
-        return Verdict::Refused(7);
+        return Err(Refusal::Columns);
     }
     check_lexicon(image, h)
 }
 
 // Tests 4 to 6, on an image whose blocks are laid out.
-fn check_records(image: &[u8], h: Header) -> Verdict
+fn check_records(image: &[u8], h: Header) -> Result<(), Refusal>
     requires { Laid image.now (header_of h) }
     ensures { verdict_of result ≡ records_verdict image.now }
 {
     if !letters::right_letters(image, h) {
-        return Verdict::Refused(4);
+        return Err(Refusal::Letters);
     }
     if !letters::right_pairs(image, h) {
-        return Verdict::Refused(5);
+        return Err(Refusal::Pairs);
     }
     if !tables::right_tables(image, h) {
-        return Verdict::Refused(6);
+        return Err(Refusal::Tables);
     }
-    Verdict::Accepted
+    Ok(())
 }
 
 // Tests 8 and then 14, made in one walk, and told apart where one fails.
-fn check_lexicon(image: &[u8], h: Header) -> Verdict
+fn check_lexicon(image: &[u8], h: Header) -> Result<(), Refusal>
     requires laid { Laid image.now (header_of h) }
     requires t { T (right_pairs image.now) }
     ensures { verdict_of result ≡ lexicon_verdict image.now }
 {
     if lexicon::right_lexicon(image, h) {
-        return Verdict::Accepted;
+        return Ok(());
     }
     if !lexicon::right_entries(image, h) {
-        return Verdict::Refused(8);
+        return Err(Refusal::Entries);
     }
-    Verdict::Refused(14)
-}
-
-#[derive(Clone, Copy)]
-pub enum FormReply {
-    Letters(usize),
-    Refused(u8),
+    Err(Refusal::FormLetters)
 }
 
 // The length of an entry's form, or the refusal.
-pub fn form_reply(image: &[u8], e: usize) -> FormReply
+pub fn form_reply(image: &[u8], e: usize) -> Result<usize, Refusal>
     ensures { form_reply_of result ≡ form_reply image.now e }
 {
-    let verdict = check(image);
-    match verdict {
-        Verdict::Refused(k) => FormReply::Refused(k),
-        Verdict::Accepted => {
-            let h = image::read_header(image);
-            if h.entries <= e {
-                return FormReply::Refused(12);
-            }
-            FormReply::Letters(lexicon::form_length(image, h, e))
-        }
+    check(image)?;
+    let h = image::read_header(image);
+    if h.entries <= e {
+        return Err(Refusal::PathLinks);
     }
+    Ok(lexicon::form_length(image, h, e))
 }
 
 // The letters of an entry's form, as the part of the image where they stand; the empty part after a refusal.
 pub fn form_view(image: &[u8], e: usize) -> &[u8]
     ensures { result.now ≡ viewed image.now e }
 {
-    let reply = form_reply(image, e);
-    match reply {
-        FormReply::Refused(_) => &image[0..0],
-        FormReply::Letters(n) => form_part(image, e, n),
+    match form_reply(image, e) {
+        Err(_) => &image[0..0],
+        Ok(n) => form_part(image, e, n),
     }
 }
 
@@ -140,6 +118,5 @@ pub fn form_part(image: &[u8], e: usize, n: usize) -> &[u8]
 {
     let h = image::read_header(image);
     let from = lexicon::entry_start(h, e) + 1;
-    let to = from + n;
-    &image[from..to]
+    &image[from..from + n]
 }

@@ -2,6 +2,7 @@
 use Prim.Native.Nat.{ℕ}
 use mathlib.Core.Bool.{Bool, true, false}
 use mathlib.Core.Path.{◌≡◌, refl, sym, ap}
+use Rattle.std.specs.Prelude.{Ok}
 use mathlib.Core.List.{List, ◌++◌}
 use Rattle.model.specs.Blocks.{header}
 use Rattle.model.specs.GrammarOf.{grammar_of}
@@ -12,8 +13,13 @@ use Rattle.model.specs.Beside.{Judgement, judgement_after, judged}
 use Rattle.model.proofs.Tests.{tests_refused, tests_accepted}
 use Rattle.rules.proofs.PathLaws.{length_right}
 use Rattle.judge.specs.Reading.{judged_reading}
-use Rattle.judge.specs.Answers.{judged_accepted}
+use Rattle.judge.specs.Answers.{judgement_of, judged_accepted}
 use Rattle.judge.proofs.PairingLaws.{pairing_right}
+
+-- what is told where no test fails
+pub told : (b : Bool) → judgement_of (Ok b) ≡ judgement_after accepted b
+told true = refl
+told false = refl
 
 module _ (image path pairing : List ℕ) where
   -- tests 11, 12, 13 as the definitions have them

@@ -5,20 +5,25 @@ use native.Mathlib.Decide.{dec_lt}
 use mathlib.Core.Bool.{Bool, true, false, ◌&&◌}
 use mathlib.Core.Path.{◌≡◌, refl, sym, ap, ◌∙◌, subst}
 use mathlib.Core.List.{List, [], ◌∷◌, map}
-use lib.ListN.{length, get_or, take, drop, length-map, drop_of_length-le, get_or-eq_default}
-use lib.Dec.{T, leb, ltb, eqb, ltb→lt, leb→le}
-use borrow.Author.Tests.{ne_eqb, eqb-true}
+use lib.ListN.{length, get_or, take, drop, length-map, drop_of_length-le}
+use lib.Dec.{T, ltb, eqb, ltb→lt}
+use borrow.Author.Tests.{ne_eqb, eq-eqb, eqb-true}
+use Rattle.std.specs.List.{list_all}
+use Rattle.std.specs.Prelude.{Option, Some, None, MatchOption, is_none}
+use Rattle.std.specs.Option.{option_eq}
 use Rattle.model.specs.Lists.{every, same_list}
 use Rattle.model.specs.Blocks.{header}
 use Rattle.model.specs.RuleTables.{pairs, boundary_pair}
 use Rattle.model.specs.GrammarOf.{grammar_of}
 use Rattle.model.specs.Readings.{nulls, without_nulls, spelled, pairing_length, passes}
-use Rattle.model.proofs.Booleans.{true_of, false_of}
+use Rattle.model.proofs.Booleans.{true_of, false_of, of_true}
 use Rattle.model.proofs.Rest.{drop_step, every_get_d}
 use Rattle.model.proofs.Rules.{passes_from, start_to, start_alive, start_from, passes_alive, passes_from_lem, passes_to, finish_from, finish_to}
 use Rattle.image.specs.Accepted.{Accepted}
 use Rattle.model.proofs.Booleans.{within_below, within_above, within_true}
-use Rattle.rules.specs.Live.{Live, StepOf, BegunOf, step_of, begun_of, finish_of}
+use Rattle.rules.specs.Live.{Live, Held, step_of, begun_of, alive_of, finish_of}
+use Rattle.rules.specs.Paths.{LetterOf}
+use Rattle.letters.specs.declared.Lexical.{Lexical}
 use Rattle.judge.specs.Reading.{Listed}
 use Rattle.rules.proofs.Stepping.{live_alive}
 
@@ -29,6 +34,11 @@ same_tests false false f g = refl
 
 pub listed_at : (image pairing : List ℕ) (i : ℕ) → Listed image pairing → i < length pairing → get_or pairing i 0 < (header image).pairs
 listed_at image pairing i t h = ltb→lt (get_or pairing i 0) (header image).pairs (every_get_d (λ p. ltb p (header image).pairs) pairing i 0 h t)
+
+-- `every` as the library has it
+pub every-list_all : (f : ℕ → Bool) (xs : List ℕ) → every f xs ≡ list_all f xs
+every-list_all f [] = refl
+every-list_all f (x ∷ xs) = ap (λ (b : Bool). f x && b) (every-list_all f xs)
 
 -- test 13, by the length and then pair by pair
 module _ (pairs : ℕ) (ps : List ℕ) where
@@ -121,37 +131,48 @@ module _ (side : ℕ → ℕ) (ps : List ℕ) where
     pub counted_all : length ps ≤ i → (count ≡ nulls (map side ps)) × (count ≤ length ps)
     counted_all end = (omega (arith, c.all, nulls_end side ps i end), omega (arith, c.in_passed, c.in_pairs))
 
+-- whether what is told of letter t, none after the last, is letter x
+module _ (same : Lexical → Lexical → Bool) (same_is : (x y : Lexical) → same x y ≡ eqb x.0 y.0) (letters : List ℕ) (t : ℕ) where
+  pub told_same : (told : Option Lexical) (x : Lexical) → MatchOption told (length letters ≤ t) (LetterOf letters t) → option_eq same told (Some x) ≡ true
+      → (t < length letters) × (get_or letters t 0 ≡ x.0)
+  told_same (Some y) x l e = (l.0, sym l.1 ∙ eqb-true y.0 x.0 (sym (same_is y x) ∙ e))
+  told_same None x l e = absurd (of_true false e)
+
+  pub told_other : (told : Option Lexical) (x : Lexical) → MatchOption told (length letters ≤ t) (LetterOf letters t) → option_eq same told (Some x) ≡ false
+      → t < length letters → get_or letters t 0 ≡ x.0 → ⊥
+  told_other (Some y) x l e h z = of_true false (sym (sym (same_is y x) ∙ e) ∙ eq-eqb y.0 x.0 (l.1 ∙ z))
+  told_other None x l e h z = omega arith
+
 -- the letters spelled and the letters asked for, of which t are passed
 module _ (side : ℕ → ℕ) (ps asked : List ℕ) (i t : ℕ) where
-  pub spells_null : i < length ps → side (get_or ps i 0) ≡ 0 → same_list (spelled side (drop i ps)) (drop t asked) ≡ same_list (spelled side (drop (i + 1) ps)) (drop t asked)
+  pub spells_null : i < length ps → side (get_or ps i 0) ≡ 0
+      → same_list (spelled side (drop i ps)) (drop t asked) ≡ same_list (spelled side (drop (i + 1) ps)) (drop t asked)
   spells_null h e = ap (λ (l : List ℕ). same_list l (drop t asked)) (spelled_same side ps i h e)
 
-  spells_here : i < length ps → (side (get_or ps i 0) ≡ 0 → ⊥) → same_list (spelled side (drop i ps)) (drop t asked) ≡ same_list (side (get_or ps i 0) ∷ spelled side (drop (i + 1) ps)) (drop t asked)
+  spells_here : i < length ps → (side (get_or ps i 0) ≡ 0 → ⊥)
+      → same_list (spelled side (drop i ps)) (drop t asked) ≡ same_list (side (get_or ps i 0) ∷ spelled side (drop (i + 1) ps)) (drop t asked)
   spells_here h some = ap (λ (l : List ℕ). same_list l (drop t asked)) (spelled_more side ps i h some)
 
-  pub spells_other : i < length ps → (side (get_or ps i 0) ≡ 0 → ⊥) → eqb (side (get_or ps i 0)) (get_or asked t 0) ≡ false → same_list (spelled side (drop i ps)) (drop t asked) ≡ false
+  pub spells_other : i < length ps → (side (get_or ps i 0) ≡ 0 → ⊥) → (t < length asked → get_or asked t 0 ≡ side (get_or ps i 0) → ⊥)
+      → same_list (spelled side (drop i ps)) (drop t asked) ≡ false
   spells_other h some e = spells_here h some ∙ go (dec_lt t (length asked))
     where
       go : Dec (t < length asked) → same_list (side (get_or ps i 0) ∷ spelled side (drop (i + 1) ps)) (drop t asked) ≡ false
-      go (yes l) = rw (drop_step asked 0 t l, e) refl
+      go (yes l) = rw (drop_step asked 0 t l, ne_eqb (side (get_or ps i 0)) (get_or asked t 0) (λ z. e l (sym z))) refl
       go (no l) = rw (drop_of_length-le asked {i = t} (omega arith)) refl
 
-  pub spells_letter : i < length ps → (side (get_or ps i 0) ≡ 0 → ⊥) → eqb (side (get_or ps i 0)) (get_or asked t 0) ≡ true → same_list (spelled side (drop i ps)) (drop t asked) ≡ same_list (spelled side (drop (i + 1) ps)) (drop (t + 1) asked)
-  spells_letter h some e = spells_here h some ∙ go (dec_lt t (length asked))
-    where
-      go : Dec (t < length asked) → same_list (side (get_or ps i 0) ∷ spelled side (drop (i + 1) ps)) (drop t asked) ≡ same_list (spelled side (drop (i + 1) ps)) (drop (t + 1) asked)
-      go (yes l) = rw (drop_step asked 0 t l, e) refl
-      go (no l) = absurd (some (eqb-true (side (get_or ps i 0)) (get_or asked t 0) e ∙ get_or-eq_default asked 0 {n = t} (omega arith)))
+  pub spells_letter : i < length ps → (side (get_or ps i 0) ≡ 0 → ⊥) → t < length asked → get_or asked t 0 ≡ side (get_or ps i 0)
+      → same_list (spelled side (drop i ps)) (drop t asked) ≡ same_list (spelled side (drop (i + 1) ps)) (drop (t + 1) asked)
+  spells_letter h some l e = spells_here h some ∙ rw (drop_step asked 0 t l, e, eq-eqb (side (get_or ps i 0)) (side (get_or ps i 0)) refl) refl
 
-  -- a 0 stands after the last letter asked for, and nowhere before
-  pub spells_end : length ps ≤ i → T (every (λ x. leb 2 x) asked) → same_list (spelled side (drop i ps)) (drop t asked) ≡ eqb (get_or asked t 0) 0
-  spells_end h letters = ap (λ (l : List ℕ). same_list (without_nulls l) (drop t asked)) (sides_end side ps i h) ∙ go (dec_lt t (length asked))
+  -- no pair is left: whether a letter is
+  pub spells_end : length ps ≤ i → (told : Option Lexical) → MatchOption told (length asked ≤ t) (LetterOf asked t)
+      → same_list (spelled side (drop i ps)) (drop t asked) ≡ is_none told
+  spells_end h told l = ap (λ (l : List ℕ). same_list (without_nulls l) (drop t asked)) (sides_end side ps i h) ∙ go told l
     where
-      go : Dec (t < length asked) → same_list [] (drop t asked) ≡ eqb (get_or asked t 0) 0
-      go (yes l) =
-          let two = leb→le 2 (get_or asked t 0) (every_get_d (λ x. leb 2 x) asked t 0 l letters) in
-          rw (drop_step asked 0 t l, ne_eqb (get_or asked t 0) 0 (λ z. omega arith)) refl
-      go (no l) = rw (drop_of_length-le asked {i = t} (omega arith), get_or-eq_default asked 0 {n = t} (omega arith)) refl
+      go : (told : Option Lexical) → MatchOption told (length asked ≤ t) (LetterOf asked t) → same_list [] (drop t asked) ≡ is_none told
+      go (Some x) l = ap (same_list []) (drop_step asked 0 t l.0)
+      go None l = ap (same_list []) (drop_of_length-le asked l)
 
 -- the rules, in these states, accept the rest of a pairing
 abbrev pub passes_in : List ℕ → List ℕ → List ℕ → Bool
@@ -159,19 +180,19 @@ passes_in image states ps = passes_from (grammar_of image).rules (grammar_of ima
 
 -- the whole pairing, by the states after the front
 module _ {image states : List ℕ} (ps : List ℕ) where
-  pub pass_begun : BegunOf image true states → passes_in image states ps ≡ passes (grammar_of image) ps
+  pub pass_begun : Held image (begun_of (grammar_of image)) states → passes_in image states ps ≡ passes (grammar_of image) ps
   unfolding passes
   pass_begun front =
       let g = grammar_of image in
-      ap (λ (l : List ℕ). passes_from g.rules g.next g.final g.pairs l ps) (front.states_are refl)
+      ap (λ (l : List ℕ). passes_from g.rules g.next g.final g.pairs l ps) front.states_are
       ∙ same_tests (passes_from g.rules g.next g.final g.pairs (begun_of g) ps) (passes g ps) (start_from g.rules g.next g.final g.pairs ps) (start_to g.rules g.next g.final g.pairs ps)
 
-  -- a rule has failed there
-  pub pass_dead : BegunOf image false states → passes (grammar_of image) ps ≡ false
-  unfolding passes
-  pass_dead front =
-      let g = grammar_of image in
-      false_of (passes g ps) (λ t. subst T (sym front.alive_is) (start_alive g.rules g.next g.final g.pairs ps t))
+-- a rule has failed there
+pub pass_dead : (image ps : List ℕ) → alive_of (grammar_of image) (begun_of (grammar_of image)) ≡ false → passes (grammar_of image) ps ≡ false
+unfolding passes
+pass_dead image ps dead =
+    let g = grammar_of image in
+    false_of (passes g ps) (λ t. subst T dead (start_alive g.rules g.next g.final g.pairs ps t))
 
 -- the rules' states over a pairing
 module _ {image : List ℕ} (ok : Accepted image (header image)) where
@@ -187,19 +208,21 @@ module _ {image : List ℕ} (ok : Accepted image (header image)) where
       pass_step : passes_in image states (drop i ps) ≡ passes_in image states (p ∷ drop (i + 1) ps)
       pass_step = ap (passes_in image states) (drop_step ps 0 i inside ∙ ap {B = List ℕ} (λ x. x ∷ drop (i + 1) ps) (sym this))
 
-      pub pass_on : (after : List ℕ) → Live image states → StepOf image states p true after → passes_in image states (drop i ps) ≡ passes_in image after (drop (i + 1) ps)
+      pub pass_on : (after : List ℕ) → Live image states → Held image (step_of (grammar_of image) states p) after → passes_in image states (drop i ps) ≡ passes_in image after (drop (i + 1) ps)
       pass_on after live step =
           let g = grammar_of image in
           let s = take g.rules states in
           let rest = drop (i + 1) ps in
           pass_step
-          ∙ same_tests (passes_in image states (p ∷ rest)) (passes_from g.rules g.next g.final g.pairs (step_of g states p) rest) (passes_from_lem g.rules g.next g.final g.pairs p s rest) (passes_to g.rules g.next g.final g.pairs p s rest (live_alive ok states live))
-          ∙ ap (λ (l : List ℕ). passes_from g.rules g.next g.final g.pairs l rest) (sym (step.states_are refl))
+          ∙ same_tests (passes_in image states (p ∷ rest)) (passes_from g.rules g.next g.final g.pairs (step_of g states p) rest)
+          (passes_from_lem g.rules g.next g.final g.pairs p s rest) (passes_to g.rules g.next g.final g.pairs p s rest (live_alive ok states live))
+          ∙ ap (λ (l : List ℕ). passes_from g.rules g.next g.final g.pairs l rest) (sym step.states_are)
 
-      pub pass_fails : (after : List ℕ) → StepOf image states p false after → passes_in image states (drop i ps) ≡ false
-      pass_fails after step =
+      pub pass_fails : alive_of (grammar_of image) (step_of (grammar_of image) states p) ≡ false → passes_in image states (drop i ps) ≡ false
+      pass_fails dead =
           let g = grammar_of image in
           let s = take g.rules states in
           let rest = drop (i + 1) ps in
+          let on = λ (t : _). passes_alive g.rules g.next g.final g.pairs (step_of g states p) rest (passes_from_lem g.rules g.next g.final g.pairs p s rest t) in
           pass_step
-          ∙ false_of (passes_in image states (p ∷ rest)) (λ t. subst T (sym step.alive_is) (passes_alive g.rules g.next g.final g.pairs (step_of g states p) rest (passes_from_lem g.rules g.next g.final g.pairs p s rest t)))
+          ∙ false_of (passes_in image states (p ∷ rest)) (λ t. subst T dead (on t))

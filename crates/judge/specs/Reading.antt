@@ -1,5 +1,5 @@
 -- What the judge is handed, in the model's words: pairs that the image has, the two levels, and the reading.
-use Rattle.std.specs.Prelude.{ℕ, Bool, ◌&&◌, List, T, ltb}
+use Rattle.std.specs.Prelude.{ℕ, Bool, ◌&&◌, ◌≡◌, ◌<◌, List, length, get_or, T, ltb, eqb}
 use Rattle.model.specs.Lists.{every, same_list}
 use Rattle.model.specs.Blocks.{header}
 use Rattle.model.specs.GrammarOf.{grammar_of}
@@ -10,6 +10,10 @@ use Rattle.rules.specs.Paths.{forms_of}
 -- each number of a pairing is a pair's
 abbrev pub Listed : List ℕ → List ℕ → Type 0
 Listed image pairing = T (every (λ p. ltb p (header image).pairs) pairing)
+
+-- a call tells of each pair of a pairing whether it has a null on the level that has these sides
+abbrev pub NullsTold : (ℕ → Bool → Type 0) → (ℕ → ℕ) → List ℕ → Type 0
+NullsTold Tells side pairing = (i : ℕ) (b : Bool) → i < length pairing → Tells (get_or pairing i 0) b → b ≡ eqb (side (get_or pairing i 0)) 0
 
 -- what a reading asks of the two levels, but for the rules
 abbrev pub levels_right : List ℕ → List ℕ → List ℕ → Bool

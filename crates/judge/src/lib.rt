@@ -14,41 +14,26 @@ ghost use Rattle.image.specs.Index.{column_row};
 ghost use Rattle.grammar.specs.Answers.{tables_verdict};
 ghost use Rattle.judge.specs.Answers.{judgement_of, judged_accepted};
 
-use grammar::Verdict;
 use image::Header;
-
-#[derive(Clone, Copy)]
-pub enum Judgement {
-    Holds,
-    Fails,
-    Refused(u8),
-}
+use refusal::Refusal;
 
 // The image check, and then the tests of the path and the pairing. An image that tests 1 to 6 refuse costs no index.
-pub fn judge(image: &[u8], path: &[u8], pairing: &[u8]) -> Judgement
+pub fn judge(image: &[u8], path: &[u8], pairing: &[u8]) -> Result<bool, Refusal>
     ensures { judgement_of result ≡ judged image.now path.now pairing.now }
 {
-    let early = grammar::check_tables(image);
-    match early {
-        Verdict::Refused(k) => Judgement::Refused(k),
-        Verdict::Accepted => judge_tabled(image, path, pairing),
-    }
+    grammar::check_tables(image)?;
+    judge_tabled(image, path, pairing)
 }
 
 // The image's other tests, which keep the index's first rows.
-fn judge_tabled(image: &[u8], path: &[u8], pairing: &[u8]) -> Judgement
+fn judge_tabled(image: &[u8], path: &[u8], pairing: &[u8]) -> Result<bool, Refusal>
     requires { tables_verdict image.now ≡ accepted }
     ensures { judgement_of result ≡ judged image.now path.now pairing.now }
 {
     let mut index = [0u8; 39424];
-    let verdict = grammar::check_columns(image, &mut index);
-    match verdict {
-        Verdict::Refused(k) => Judgement::Refused(k),
-        Verdict::Accepted => {
-            let h = image::read_header(image);
-            judge_accepted(image, h, &mut index, path, pairing)
-        }
-    }
+    grammar::check_columns(image, &mut index)?;
+    let h = image::read_header(image);
+    judge_accepted(image, h, &mut index, path, pairing)
 }
 
 // Tests 11 to 13 in order, and then the reading. The index, which has the rows of columns and is all 0 after them, is filled where they hold.
@@ -58,23 +43,20 @@ fn judge_accepted(
     index: &mut [u8],
     path: &[u8],
     pairing: &[u8],
-) -> Judgement
+) -> Result<bool, Refusal>
     requires accepted { Accepted image.now (header_of h) }
     requires index_value { index.old ≡ flat_map (column_row image.now) (below 32) ++ replicate 31232 0 }
     ensures { judgement_of result ≡ judged_accepted image.now path.now pairing.now }
 {
     if !rules::paths::path_length_right(path) {
-        return Judgement::Refused(11);
+        return Err(Refusal::PathLength);
     }
     if !rules::paths::path_linked(image, h, path) {
-        return Judgement::Refused(12);
+        return Err(Refusal::PathLinks);
     }
     if !crate::reading::pairing_right(h, pairing) {
-        return Judgement::Refused(13);
+        return Err(Refusal::Pairing);
     }
     index::fill_index(image, h, index);
-    if crate::reading::is_reading(image, index, h, path, pairing) {
-        return Judgement::Holds;
-    }
-    Judgement::Fails
+    Ok(crate::reading::is_reading(image, index, h, path, pairing))
 }

@@ -1,5 +1,5 @@
 // Test 13, and whether a path and a pairing that passed their tests are a reading.
-ghost use Rattle.std.specs.Prelude.{◌&&◌, ◌≡◌, map, ◌≤◌, ◌%◌, length, T, ltb, eqb};
+ghost use Rattle.std.specs.Prelude.{◌&&◌, ◌≡◌, ℕ, map, ◌<◌, ◌≤◌, ◌%◌, length, slice_index, T, ltb, eqb};
 ghost use Rattle.model.specs.Lists.{every, same_list};
 ghost use Rattle.model.specs.Blocks.{header};
 ghost use Rattle.model.specs.Lexicon.{path_length};
@@ -7,11 +7,10 @@ ghost use Rattle.model.specs.GrammarOf.{grammar_of};
 ghost use Rattle.model.specs.Readings.{nulls, spelled, is_linked, pairing_length, passes, is_reading};
 ghost use Rattle.model.specs.Query.{entry_numbers};
 ghost use Rattle.image.specs.Header.{header_of};
-ghost use Rattle.image.specs.Laid.{Laid};
 ghost use Rattle.image.specs.Accepted.{Accepted};
 ghost use Rattle.image.specs.Index.{index_of};
 ghost use Rattle.rules.specs.Paths.{Entered, forms_of};
-ghost use Rattle.judge.specs.Reading.{Listed, levels_right, judged_reading};
+ghost use Rattle.judge.specs.Reading.{Listed, NullsTold, levels_right, judged_reading};
 
 use image::Header;
 
@@ -20,21 +19,10 @@ pub fn pairing_right(h: Header, pairing: &[u8]) -> bool
     ensures { result ≡ (pairing_length pairing.now && every (λ p. ltb p h.pairs) pairing.now) }
 {
     let n = pairing.len();
-    let pairs = h.pairs;
-    if n < 1 {
+    if n < 1 || 40 < n {
         return false;
     }
-    if 40 < n {
-        return false;
-    }
-    let mut i: usize = 0;
-    while i < n {
-        if image::byte_at(pairing, i) >= pairs {
-            return false;
-        }
-        i += 1;
-    }
-    true
+    pairing.iter().all(|&p| usize::from(p) < h.pairs)
 }
 
 // Whether the lexical sides without nulls are the joined forms.
@@ -43,52 +31,30 @@ fn spells_forms(image: &[u8], h: Header, path: &[u8], pairing: &[u8]) -> bool
     requires entered { Entered image.now path.now × Listed image.now pairing.now }
     ensures { result ≡ same_list (spelled (grammar_of image.now).lexical pairing.now) (forms_of image.now path.now) }
 {
-    let n = pairing.len();
-    let mut t: usize = 0;
-    let mut i: usize = 0;
-    while i < n {
-        let side = letters::lexical_side(image, h, image::byte_at(pairing, i));
+    let mut t = 0;
+    for &p in pairing {
+        let side = letters::lexical_side(image, h, usize::from(p));
         if side.0 != 0 {
-            if !letters::same_lexical(side, rules::paths::letter_at(image, h, path, t)) {
+            if rules::paths::letter_at(image, h, path, t) != Some(side) {
                 return false;
             }
             t += 1;
         }
-        i += 1;
     }
-    rules::paths::letter_at(image, h, path, t).0 == 0
+    rules::paths::letter_at(image, h, path, t).is_none()
 }
 
-// How many pairs have a lexical null.
-fn lexical_nulls(image: &[u8], h: Header, pairing: &[u8]) -> usize
-    requires { Laid image.now (header_of h) × Listed image.now pairing.now }
-    ensures { (result ≡ nulls (map (grammar_of image.now).lexical pairing.now)) × (result ≤ length pairing.now) }
+// How many pairs have a null on one level, where `null` tells whether a pair has one there.
+fn count_nulls<F: Fn(u8) -> bool>(pairing: &[u8], null: F) -> usize
+    requires { (i : ℕ) → i < length pairing.now → F.pre null (slice_index pairing.now i) }
+    ensures count { (side : ℕ → ℕ) → NullsTold (F.post null) side pairing.now → result ≡ nulls (map side pairing.now) }
+    ensures most { result ≤ length pairing.now }
 {
-    let n = pairing.len();
-    let mut count: usize = 0;
-    let mut i: usize = 0;
-    while i < n {
-        if letters::lexical_side(image, h, image::byte_at(pairing, i)).0 == 0 {
+    let mut count = 0;
+    for &p in pairing {
+        if null(p) {
             count += 1;
         }
-        i += 1;
-    }
-    count
-}
-
-// How many pairs have a surface null.
-fn surface_nulls(image: &[u8], h: Header, pairing: &[u8]) -> usize
-    requires { Laid image.now (header_of h) × Listed image.now pairing.now }
-    ensures { (result ≡ nulls (map (grammar_of image.now).surface pairing.now)) × (result ≤ length pairing.now) }
-{
-    let n = pairing.len();
-    let mut count: usize = 0;
-    let mut i: usize = 0;
-    while i < n {
-        if letters::surface_side(image, h, image::byte_at(pairing, i)).0 == 0 {
-            count += 1;
-        }
-        i += 1;
     }
     count
 }
@@ -100,22 +66,14 @@ fn pairing_passes(image: &[u8], index: &[u8], h: Header, pairing: &[u8]) -> bool
     requires listed { Listed image.now pairing.now }
     ensures { result ≡ passes (grammar_of image.now) pairing.now }
 {
-    let n = pairing.len();
-    let begun = rules::states::begin_all(image, index, h);
-    if !begun.alive {
+    let Some(mut states) = rules::states::begin_all(image, index, h) else {
         return false;
-    }
-    let mut states = begun.states;
-    let mut i: usize = 0;
-    while i < n {
-        let p = image::byte_at(pairing, i);
-        let stepped = rules::states::step_all(image, index, h, states, p);
-        if !stepped.alive {
+    };
+    for &p in pairing {
+        let Some(next) = rules::states::step_all(image, index, h, states, usize::from(p)) else {
             return false;
-        }
-        let after = stepped.states;
-        states = after;
-        i += 1;
+        };
+        states = next;
     }
     rules::states::finish_all(image, index, h, states)
 }
@@ -129,18 +87,22 @@ fn levels_right(image: &[u8], h: Header, path: &[u8], pairing: &[u8]) -> bool
     if !spells_forms(image, h, path, pairing) {
         return false;
     }
-    if lexical_nulls(image, h, pairing) > 8 {
+    let lexical_nulls = count_nulls(
+        pairing,
+        |p| letters::lexical_side(image, h, usize::from(p)).0 == 0,
+    );
+    if lexical_nulls > 8 {
         return false;
     }
-    let nulls = surface_nulls(image, h, pairing);
-    let letters = pairing.len() - nulls;
-    if letters < 1 {
+    let surface_nulls = count_nulls(
+        pairing,
+        |p| letters::surface_side(image, h, usize::from(p)).0 == 0,
+    );
+    let letters = pairing.len() - surface_nulls;
+    if letters < 1 || 32 < letters {
         return false;
     }
-    if letters > 32 {
-        return false;
-    }
-    nulls <= 8
+    surface_nulls <= 8
 }
 
 // Whether path and pairing, which passed tests 11 to 13, are a reading of the word that they spell.
@@ -151,8 +113,5 @@ pub fn is_reading(image: &[u8], index: &[u8], h: Header, path: &[u8], pairing: &
     requires t_2 { T (pairing_length pairing.now && every (λ p. ltb p (header image.now).pairs) pairing.now) }
     ensures { result ≡ is_reading (grammar_of image.now) (judged_reading path.now pairing.now) }
 {
-    if levels_right(image, h, path, pairing) {
-        return pairing_passes(image, index, h, pairing);
-    }
-    false
+    levels_right(image, h, path, pairing) && pairing_passes(image, index, h, pairing)
 }

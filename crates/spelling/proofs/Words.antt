@@ -1,10 +1,10 @@
 -- A word's letters: which code point each has, and the word in the room that it is found in and in the output.
 use Prim.Native.Nat.{ℕ, zero, suc, ◌*◌, ◌-◌, ◌/◌, ◌<◌, ◌≤◌}
 use native.Mathlib.Omega.{arith}
-use mathlib.Core.Path.{◌≡◌, refl, ap, ap₂, ◌∙◌}
+use mathlib.Core.Path.{◌≡◌, refl, ap, ◌∙◌}
 use mathlib.Core.List.{List, [], ◌∷◌, ◌++◌, map}
-use lib.ListN.{length, get_or, take, drop, length-take, length-append}
-use lib.Seq.{take_all, take_at}
+use lib.ListN.{length, get_or, take, length-take, length-append}
+use lib.Seq.{take_at}
 use Rattle.model.specs.Lists.{number, numbers}
 use Rattle.model.specs.Spelling.{letter_spelled, word_spelled}
 use Rattle.model.proofs.Lists.{length_numbers, number_in}
@@ -23,16 +23,6 @@ module _ (image points : List ℕ) where
   pub spelled_at : (i : ℕ) → i < length points / 2 → get_or (word_spelled image points) i 0 ≡ letter_spelled image (number points (2 * i))
   unfolding word_spelled
   spelled_at i h = get_d_map (letter_spelled image) (numbers points) i (omega (arith, length_numbers points)) ∙ ap (letter_spelled image) (number_in points i h)
-
--- a part of the word copied to the front of the output, as many letters as it has
-pub part_copied : (word out : List ℕ) (written : ℕ) → written ≤ length word
-    → let part = take (written - 0) word in
-    take (length part) part ++ drop (length part) out ≡ take written word ++ drop written out
-part_copied word out written h =
-    let size : length (take written word) ≡ written = omega (arith, length-take written word) in
-    let whole : written - 0 ≡ written = omega arith in
-    rw whole
-    (ap₂ (λ (l m : List ℕ). l ++ m) (take_all (length (take written word)) (take written word) (omega arith)) (ap (λ (n : ℕ). drop n out) size))
 
 -- room for a word in 32 bytes, and the word out of it
 pub room_for : (room : List ℕ) (n : ℕ) → n ≤ length room → length (take (n - 0) room) ≡ n

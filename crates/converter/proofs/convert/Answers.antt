@@ -1,99 +1,67 @@
--- `convert` meets its contract: each refusal is that of the first test that fails, and where all pass the blocks are put.
+-- `convert` meets its contract: the tests of the image, then 15, 16 and 17, and then the blocks.
 use borrow.Author.Rules.{rules}
-use Prim.Native.Nat.{ℕ, ◌*◌, ◌≤◌}
 use native.Mathlib.Omega.{arith}
+use Prim.Native.Nat.{ℕ, ◌*◌, ◌≤◌}
 use mathlib.Core.Bool.{true}
-use mathlib.Core.Path.{◌≡◌, sym, ap, ◌∙◌, subst}
+use mathlib.Core.Path.{◌≡◌, sym, ap, subst, ◌∙◌}
 use mathlib.Core.List.{List}
 use lib.ListN.{length}
-use borrow.Author.Tests.{not-true, not-false}
-use Rattle.model.specs.Blocks.{header, block_total}
+use Rattle.model.specs.Blocks.{Header, header, block_total}
 use Rattle.model.specs.Refusals.{accepted, image_verdict}
 use Rattle.model.proofs.Booleans.{of_true}
-use Rattle.image.specs.Header.{header_of}
 use Rattle.image.specs.Laid.{Counted, Laid}
-use Rattle.grammar.specs.Answers.{verdict_of}
 use Rattle.grammar.proofs.Verdicts.{accepted_image, laid_some}
 use Rattle.conversion.specs.Conversion.{other_header, one_ways, converted_blocks}
+use Rattle.refusal.proofs.Given.{same_refusal}
+use Rattle.converter.specs.Answers.{conversion_of}
 use Rattle.conversion.proofs.Replies.{refused_image, refused_15, refused_16, refused_17, all_passed}
 use Rattle.converter.proofs.BlockLaws.{other_counted}
 use Rattle.converter.proofs.convert.Goals as goal
-use Rattle.converter.proofs.convert.Goals.{After-block_total-total, After-read_header-h, In-Accepted}
-use Rattle.converter.proofs.convert.Lts as lts
-use Rattle.converter.proofs.convert.Tie as tie
-use Rattle.converter.proofs.convert.Reads as reads
 
--- places, without what the types tell there
-abbrev Plain-In-Accepted : Type 0
-Plain-In-Accepted = lts.Past-After-enum_told tie.the-claims reads.Pre reads.Post tie.handed_clauses
+-- an image that is accepted, by the header that was read
+is_laid : {image : List ℕ} {h : Header} → accepted ≡ image_verdict image → h ≡ header image → Laid image h
+is_laid {image} ok read = subst (Laid image) (sym read) (accepted_image image (sym ok)).laid
 
-abbrev Plain-Else-not-one_ways : Type 0
-Plain-Else-not-one_ways = lts.Else1 tie.the-claims reads.Pre reads.Post tie.handed_clauses
+-- and by the header in the other form
+counted : (image : List ℕ) {h o : Header} → accepted ≡ image_verdict image → h ≡ header image → o ≡ other_header h → Counted o
+counted image ok read other = subst Counted (sym other) (other_counted _ (is_laid {image = image} ok read).limits)
 
-abbrev Plain-After-other_header-o : Type 0
-Plain-After-other_header-o = lts.After-other_header tie.the-claims reads.Pre reads.Post tie.handed_clauses
-
--- an image that is accepted, and its header
-module _ (c : Plain-In-Accepted) where
-  abbrev image : List ℕ
-  image = c.args.image.now
-
-  abbrev target : List ℕ
-  target = c.args.target.now
-
-  ok : image_verdict image ≡ accepted
-  ok = sym c.check-verdict.ensures ∙ ap verdict_of c.in-Accepted.is
-
-  is_laid : Laid image (header image)
-  is_laid = (accepted_image image ok).laid
-
-module _ (r : After-read_header-h) where
-  read_laid : Laid (image r.before.before) (header_of r.read_header-h.result)
-  read_laid = subst (Laid (image r.before.before)) (sym r.read_header-h.ensures) (is_laid r.before.before)
+total_is : (image : List ℕ) {h o : Header} {total : ℕ} → h ≡ header image → o ≡ other_header h → total ≡ block_total o → total ≡ converted_blocks image
+total_is image read other e = e ∙ ap block_total (other ∙ ap other_header read)
 
 pub read_header-h-requires : goal.read_header-h-requires
-read_header-h-requires c = laid_some (image c.before) (header (image c.before)) (is_laid c.before)
+read_header-h-requires c = let image = c.args.image.now in laid_some image (header image) (accepted_image image (sym c.in_ok-check.ensures)).laid
 
 pub one_ways-requires : goal.one_ways-requires
-one_ways-requires c = read_laid c
+one_ways-requires c = is_laid c.in_ok-check.ensures c.read_header-h.ensures
 
 pub returns-then-not-one_ways : goal.returns-then-not-one_ways
 returns-then-not-one_ways c =
-    record { reply = (refused_15 (image (goal.at.returns-then-not-one_ways c).In-Accepted.before) (target (goal.at.returns-then-not-one_ways c).In-Accepted.before) (ok (goal.at.returns-then-not-one_ways c).In-Accepted.before) (sym c.one_ways.ensures ∙ not-true c.one_ways.result c.if-not-one_ways.true-raw)).0; target = (refused_15 (image (goal.at.returns-then-not-one_ways c).In-Accepted.before) (target (goal.at.returns-then-not-one_ways c).In-Accepted.before) (ok (goal.at.returns-then-not-one_ways c).In-Accepted.before) (sym c.one_ways.ensures ∙ not-true c.one_ways.result c.if-not-one_ways.true-raw)).1 }
-
--- past test 15
-module _ (c : Plain-Else-not-one_ways) where
-  fifteen : one_ways (image c.before.before.before) ≡ true
-  fifteen = sym c.one_ways.ensures ∙ not-false c.one_ways.result c.if-not-one_ways.false-raw
+    let r = refused_15 c.args.image.now c.args.target.now (sym c.in_ok-check.ensures) (sym c.if-not-one_ways.ensures) in
+    record { reply = r.0; target = r.1 }
 
 pub other_header-o-requires : goal.other_header-o-requires
-other_header-o-requires c = omega (arith, (read_laid (goal.at.other_header-o-requires c).After-read_header-h).limits.form_most)
-
--- the counts in the other form
-module _ (c : Plain-After-other_header-o) where
-  o_is : header_of c.other_header-o.result ≡ other_header (header (image c.before.before.before.before))
-  o_is = c.other_header-o.ensures ∙ ap other_header c.read_header-h.ensures
+other_header-o-requires c = omega (arith, (is_laid c.in_ok-check.ensures c.read_header-h.ensures).limits.form_most)
 
 pub block_total-total-requires : goal.block_total-total-requires
-block_total-total-requires c = subst Counted (sym c.other_header-o.ensures) (other_counted _ (read_laid (goal.at.block_total-total-requires c).After-read_header-h).limits)
-
-module _ (c : After-block_total-total) where
-  total_is : c.block_total-total.result ≡ converted_blocks c.args.image.now
-  total_is = c.block_total-total.ensures ∙ ap block_total (o_is c.before.before)
-
-  one_way : one_ways c.args.image.now ≡ true
-  one_way = fifteen c.before.before.before
+block_total-total-requires c = counted c.args.image.now c.in_ok-check.ensures c.read_header-h.ensures c.other_header-o.ensures
 
 pub returns-then-total-gt128 : goal.returns-then-total-gt128
-returns-then-total-gt128 c = record { reply = (refused_16 (image (goal.at.returns-then-total-gt128 c).In-Accepted.before) (target (goal.at.returns-then-total-gt128 c).In-Accepted.before) (ok (goal.at.returns-then-total-gt128 c).In-Accepted.before) (one_way (goal.at.returns-then-total-gt128 c).After-block_total-total) (omega (arith, total_is (goal.at.returns-then-total-gt128 c).After-block_total-total, c.if-total-gt128.true))).0; target = (refused_16 (image (goal.at.returns-then-total-gt128 c).In-Accepted.before) (target (goal.at.returns-then-total-gt128 c).In-Accepted.before) (ok (goal.at.returns-then-total-gt128 c).In-Accepted.before) (one_way (goal.at.returns-then-total-gt128 c).After-block_total-total) (omega (arith, total_is (goal.at.returns-then-total-gt128 c).After-block_total-total, c.if-total-gt128.true))).1 }
+returns-then-total-gt128 c =
+    let total = total_is c.args.image.now c.read_header-h.ensures c.other_header-o.ensures c.block_total-total.ensures in
+    let r = refused_16 c.args.image.now c.args.target.now (sym c.in_ok-check.ensures) (sym c.if-not-one_ways.ensures) (omega (arith, total, c.if-total-gt128.true)) in
+    record { reply = r.0; target = r.1 }
 
 pub overflow_mul-total : goal.overflow_mul-total
 overflow_mul-total c = let l = c.if-total-gt128.false in search rules
 
 pub returns-then-target-total : goal.returns-then-target-total
 returns-then-target-total c =
-    let few : converted_blocks (image (goal.at.returns-then-target-total c).In-Accepted.before) ≤ 128 = omega (arith, total_is (goal.at.returns-then-target-total c).After-block_total-total, c.if-total-gt128.false) in
-    record { reply = (refused_17 (image (goal.at.returns-then-target-total c).In-Accepted.before) (target (goal.at.returns-then-target-total c).In-Accepted.before) (ok (goal.at.returns-then-target-total c).In-Accepted.before) (one_way (goal.at.returns-then-target-total c).After-block_total-total) few (λ d. omega (arith, d, total_is (goal.at.returns-then-target-total c).After-block_total-total, c.if-target-total.true))).0; target = (refused_17 (image (goal.at.returns-then-target-total c).In-Accepted.before) (target (goal.at.returns-then-target-total c).In-Accepted.before) (ok (goal.at.returns-then-target-total c).In-Accepted.before) (one_way (goal.at.returns-then-target-total c).After-block_total-total) few (λ d. omega (arith, d, total_is (goal.at.returns-then-target-total c).After-block_total-total, c.if-target-total.true))).1 }
+    let image = c.args.image.now in
+    let total = total_is c.args.image.now c.read_header-h.ensures c.other_header-o.ensures c.block_total-total.ensures in
+    let few : converted_blocks image ≤ 128 = omega (arith, total, c.if-total-gt128.false) in
+    let r = refused_17 image c.args.target.now (sym c.in_ok-check.ensures) (sym c.if-not-one_ways.ensures) few (λ d. omega (arith, d, total, c.if-target-total.true)) in
+    record { reply = r.0; target = r.1 }
 
 pub put_blocks-requires : goal.put_blocks-requires
 put_blocks-requires c =
@@ -101,20 +69,24 @@ put_blocks-requires c =
       converting = record {
         header_is = c.read_header-h.ensures;
         other_is = c.other_header-o.ensures;
-        ok = ok (goal.at.put_blocks-requires c).In-Accepted.before;
-        one_ways_lem = of_true _ (one_way (goal.at.put_blocks-requires c).After-block_total-total);
+        ok = sym c.in_ok-check.ensures;
+        one_ways_lem = of_true _ (sym c.if-not-one_ways.ensures);
         few = omega (arith, c.block_total-total.ensures, c.if-total-gt128.false);
       };
       target_len = omega (arith, c.block_total-total.ensures, c.if-target-total.false);
     }
 
-pub returns-in-Refused : goal.returns-in-Refused
-returns-in-Refused c =
-    record { reply = (refused_image c.args.image.now c.args.target.now c.in-Refused.k (sym c.check-verdict.ensures ∙ ap verdict_of c.in-Refused.is)).0; target = (refused_image c.args.image.now c.args.target.now c.in-Refused.k (sym c.check-verdict.ensures ∙ ap verdict_of c.in-Refused.is)).1 }
+pub returns-in_err-check : goal.returns-in_err-check
+returns-in_err-check c =
+    let r = refused_image c.args.image.now c.args.target.now _ (sym c.in_err-check.ensures) in
+    record { reply = ap conversion_of (same_refusal c.from_residual.result _ c.from_residual.ensures.1) ∙ r.0; target = r.1 }
 
-pub returns-else-target-total : goal.returns-else-target-total
-returns-else-target-total c =
-    let few : converted_blocks (image (goal.at.returns-else-target-total c).In-Accepted.before) ≤ 128 = omega (arith, total_is (goal.at.returns-else-target-total c).After-block_total-total, c.if-total-gt128.false) in
-    let long : length (target (goal.at.returns-else-target-total c).In-Accepted.before) ≡ 512 * converted_blocks (image (goal.at.returns-else-target-total c).In-Accepted.before) = omega (arith, total_is (goal.at.returns-else-target-total c).After-block_total-total, c.if-target-total.false) in
-    let a = all_passed (image (goal.at.returns-else-target-total c).In-Accepted.before) (target (goal.at.returns-else-target-total c).In-Accepted.before) (ok (goal.at.returns-else-target-total c).In-Accepted.before) (one_way (goal.at.returns-else-target-total c).After-block_total-total) few long in
-    record { reply = a.0; target = c.put_blocks.ensures ∙ a.1 }
+pub returns : goal.returns
+returns c =
+    let image = c.args.image.now in
+    let target = c.args.target.now in
+    let total = total_is c.args.image.now c.read_header-h.ensures c.other_header-o.ensures c.block_total-total.ensures in
+    let few : converted_blocks image ≤ 128 = omega (arith, total, c.if-total-gt128.false) in
+    let long : length target ≡ 512 * converted_blocks image = omega (arith, total, c.if-target-total.false) in
+    let r = all_passed image target (sym c.in_ok-check.ensures) (sym c.if-not-one_ways.ensures) few long in
+    record { reply = r.0; target = c.put_blocks.ensures ∙ r.1 }

@@ -1,5 +1,4 @@
 -- `check_columns` meets its contract: after tests 1 to 6 the verdict of `check`, and of an accepted image the columns that test 7 found.
-use borrow.Author.Tests.{not-true, not-false}
 use mathlib.Core.Path.{refl, sym, ap, ap₂, subst, ◌∙◌}
 use mathlib.Core.List.{List, ◌++◌}
 use Prim.Native.Nat.{ℕ}
@@ -30,18 +29,30 @@ slice_bounds-keep_columns-end c = omega (arith, ap length c.requires.index_value
 
 pub keep_columns-requires : goal.keep_columns-requires
 keep_columns-requires c =
+    let here = goal.at.keep_columns-requires c in
     let pre = c.requires in
-    record { laid = read_laid (goal.at.keep_columns-requires c).After-read_header-h; t = of_true _ (early_passed (image (goal.at.keep_columns-requires c).After-read_header-h) pre.image_value).2; out_value = ap (take 8192) pre.index_value ∙ take_replicate 8192 39424 0 (omega arith) }
+    record {
+      laid = read_laid here.After-read_header-h;
+      t = of_true _ (early_passed (image here.After-read_header-h) pre.image_value).2;
+      out_value = ap (take 8192) pre.index_value ∙ take_replicate 8192 39424 0 (omega arith);
+    }
 
 pub returns-then-not-keep_columns : goal.returns-then-not-keep_columns
 returns-then-not-keep_columns c =
-    record { verdict = refused_7 (image (goal.at.returns-then-not-keep_columns c).After-read_header-h) c.requires.image_value (sym c.keep_columns.ensures.value ∙ not-true c.keep_columns.result c.if-not-keep_columns.true-raw); rows = λ e. clash (cc) }
+    let here = goal.at.returns-then-not-keep_columns c in
+    record { verdict = refused_7 (image here.After-read_header-h) c.requires.image_value (sym c.keep_columns.ensures.value ∙ c.if-not-keep_columns.true); rows = λ e. clash (cc) }
 
 pub check_lexicon-requires : goal.check_lexicon-requires
 check_lexicon-requires c =
-    record { laid = read_laid (goal.at.check_lexicon-requires c).After-read_header-h; t = of_true _ (early_passed (image (goal.at.check_lexicon-requires c).After-read_header-h) c.requires.image_value).1 }
+    let here = goal.at.check_lexicon-requires c in
+    record { laid = read_laid here.After-read_header-h; t = of_true _ (early_passed (image here.After-read_header-h) c.requires.image_value).1 }
 
 pub returns : goal.returns
 returns c =
-    let right = not-false c.keep_columns.result c.if-not-keep_columns.false-raw in
-    record { verdict = c.check_lexicon.ensures ∙ lexicon_judged (image (goal.at.returns c).After-read_header-h) c.requires.image_value (sym c.keep_columns.ensures.value ∙ right); rows = λ e. ap₂ (λ (x y : List ℕ). x ++ y) (c.keep_columns.ensures.out_after right) (drop_replicate c.args.index.now 39424 8192 8192 31232 0 c.requires.index_value refl refl) }
+    let here = goal.at.returns c in
+    let right = c.if-not-keep_columns.false in
+    let rest = drop_replicate c.args.index.now 39424 8192 8192 31232 0 c.requires.index_value refl refl in
+    record {
+      verdict = c.check_lexicon.ensures ∙ lexicon_judged (image here.After-read_header-h) c.requires.image_value (sym c.keep_columns.ensures.value ∙ right);
+      rows = λ e. ap₂ (λ (x y : List ℕ). x ++ y) (c.keep_columns.ensures.out_after right) rest;
+    }

@@ -24,10 +24,14 @@ pub read_header-h-requires : goal.read_header-h-requires
 read_header-h-requires c = (there (goal.at.read_header-h-requires c).Start).some
 
 pub entry_start-from-requires : goal.entry_start-from-requires
-entry_start-from-requires c = let v = there (goal.at.entry_start-from-requires c).Start in record { limited = subst Limited (sym c.read_header-h.ensures) v.limits; e_lt_entries = omega (arith, v.entry_there, ap (λ (h : Header). h.entries) c.read_header-h.ensures) }
+entry_start-from-requires c =
+    let here = goal.at.entry_start-from-requires c in
+    let v = there here.Start in
+    let header_is = c.read_header-h.ensures in
+    record { limited = subst Limited (sym header_is) v.limits; e_lt_entries = omega (arith, v.entry_there, ap (λ (h : Header). h.entries) header_is) }
 
-pub overflow_add-to : goal.overflow_add-to
-overflow_add-to c = let v = there (goal.at.overflow_add-to c).Start in omega (arith, v.inside, starts c)
+pub overflow_add-result : goal.overflow_add-result
+overflow_add-result c = let v = there (goal.at.overflow_add-result c).Start in omega (arith, v.inside, starts c)
 
 pub slice_bounds-result-end : goal.slice_bounds-result-end
 slice_bounds-result-end c = let v = there (goal.at.slice_bounds-result-end c).Start in omega (arith, v.inside, starts c)

@@ -5,8 +5,8 @@ use Rattle.grammar.proofs.Verdicts.{view_none}
 use Rattle.grammar.proofs.form_view.Goals as goal
 
 pub form_part-requires : goal.form_part-requires
-form_part-requires c = sym c.form_reply-reply.ensures ∙ ap form_reply_of c.in-Letters.is
+form_part-requires c = sym c.form_reply.ensures ∙ ap form_reply_of c.in-Ok.is
 
-pub returns-in-Refused : goal.returns-in-Refused
-returns-in-Refused c =
-    view_none c.args.image.now c.args.e _ (sym c.form_reply-reply.ensures ∙ ap form_reply_of c.in-Refused.is)
+pub returns-in-Err : goal.returns-in-Err
+returns-in-Err c =
+    view_none c.args.image.now c.args.e _ (sym c.form_reply.ensures ∙ ap form_reply_of c.in-Err.is)

@@ -1,9 +1,9 @@
 -- `judge_accepted` meets its contract: tests 11 to 13 in order, and then the reading.
-use mathlib.Core.Bool.{true, false}
+use mathlib.Core.Bool.{true}
 use mathlib.Core.Path.{◌≡◌, sym, ap, ◌∙◌}
 use Rattle.model.specs.Blocks.{Header, header}
 use Rattle.model.proofs.Booleans.{of_true}
-use Rattle.judge.proofs.Judgements.{test11, test12, test13, refused_11, refused_12, refused_13, decided}
+use Rattle.judge.proofs.Judgements.{test11, test12, test13, refused_11, refused_12, refused_13, decided, told}
 use Rattle.judge.proofs.judge_accepted.Goals as goal
 use Rattle.judge.proofs.judge_accepted.Goals.{After-pairing_right, Else-not-pairing_right, Else-not-path_length_right, Else-not-path_linked}
 use Rattle.judge.proofs.judge_accepted.Lts as lts
@@ -48,12 +48,7 @@ pub is_reading-requires : goal.is_reading-requires
 is_reading-requires c =
     record { accepted = c.requires.accepted; index_value = c.fill_index.ensures; t = (of_true _ (length_right (goal.at.is_reading-requires c).Else-not-path_length_right), of_true _ (path_right (goal.at.is_reading-requires c).Else-not-path_linked)); t_2 = of_true _ (pairing_right (goal.at.is_reading-requires c).Else-not-pairing_right) }
 
-pub returns-then-is_reading : goal.returns-then-is_reading
-returns-then-is_reading c =
-    let a = c.args in
-    decided a.image.now a.path.now a.pairing.now (length_right (goal.at.returns-then-is_reading c).Else-not-path_length_right) (path_right (goal.at.returns-then-is_reading c).Else-not-path_linked) (pairing_right (goal.at.returns-then-is_reading c).Else-not-pairing_right) true (sym c.is_reading.ensures ∙ c.if-is_reading.true)
-
 pub returns : goal.returns
 returns c =
     let a = c.args in
-    decided a.image.now a.path.now a.pairing.now (length_right (goal.at.returns c).Else-not-path_length_right) (path_right (goal.at.returns c).Else-not-path_linked) (pairing_right (goal.at.returns c).Else-not-pairing_right) false (sym c.is_reading.ensures ∙ c.if-is_reading.false)
+    told c.is_reading.result ∙ decided a.image.now a.path.now a.pairing.now (length_right (goal.at.returns c).Else-not-path_length_right) (path_right (goal.at.returns c).Else-not-path_linked) (pairing_right (goal.at.returns c).Else-not-pairing_right) c.is_reading.result (sym c.is_reading.ensures)

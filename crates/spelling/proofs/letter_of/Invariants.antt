@@ -1,4 +1,4 @@
-use Prim.Native.Nat.{◌+◌, ◌-◌}
+use Prim.Native.Nat.{◌+◌}
 use mathlib.Core.Path.{◌≡◌}
 use lib.ListN.{drop}
 use Rattle.model.specs.RuleTables.{code_points}
@@ -7,6 +7,3 @@ use Rattle.spelling.proofs.letter_of.Given as goal
 
 abbrev pub invariant-loop-i : goal.invariant-loop-i
 invariant-loop-i l = letter_of l.image l.c ≡ letter_from (l.i + 1) l.c (drop l.i (code_points l.image))
-
-abbrev pub decreases-loop-i : goal.decreases-loop-i
-decreases-loop-i l = l.letters - l.i

@@ -1,4 +1,3 @@
-use Prim.Native.Nat.{◌-◌, ◌≤◌}
 use mathlib.Core.Path.{◌≡◌}
 use mathlib.Core.List.{◌++◌}
 use lib.ListN.{length, take, drop}
@@ -9,10 +8,6 @@ use Rattle.spelling.proofs.spell_points.Given as goal
 
 abbrev pub invariant-loop-i : goal.invariant-loop-i
 invariant-loop-i l =
-    (l.i ≤ l.n)
-    × (l.word ≡ take l.i (word_spelled l.image l.points) ++ drop l.i l.initial.word)
+    (l.word ≡ take l.i (word_spelled l.image l.points) ++ drop l.i l.initial.word)
     × (length l.word ≡ length l.initial.word)
     × (l.right ≡ every (leb 2) (take l.i (word_spelled l.image l.points)))
-
-abbrev pub decreases-loop-i : goal.decreases-loop-i
-decreases-loop-i l = l.n - l.i

@@ -11,8 +11,8 @@ pub overflow_cast-block : goal.overflow_cast-block
 overflow_cast-block c = record { fits = omega (arith, c.requires.1) }
 
 pub bounds-block-2 : goal.bounds-block-2
-bounds-block-2 c = omega (arith, c.clear.auto.bytes, c.requires.0)
+bounds-block-2 c = omega (arith, c.fill.auto.self, c.requires.0)
 
 pub returns : goal.returns
 returns c =
-    ap (λ (l : List ℕ). set (set l 2 6) 3 c.args.n) (c.clear.ensures ∙ ap zeros c.requires.0)
+    ap (λ (l : List ℕ). set (set l 2 6) 3 c.args.n) (c.fill.ensures.after (λ y e. e) ∙ ap zeros c.requires.0)

@@ -22,7 +22,7 @@ unfolding parts_to
 all_made f target n e = ap (λ (l : List ℕ). flat_map f (below n) ++ l) (drop_of_length-le target {i = 0 + 512 * n} (omega arith)) ∙ append-nil (flat_map f (below n))
 
 pub loop-k-init : goal.loop-k-init
-loop-k-init c = (omega arith, (refl, none_yet _ _))
+loop-k-init c = (refl, none_yet _ _)
 
 pub put_block-requires : goal.put_block-requires
 put_block-requires c =
@@ -31,7 +31,9 @@ put_block-requires c =
     let target = c.loop-k.target in
     let part = length-take (from + 512 - from) (drop from target) in
     let rest = length-drop from target in
-    record { converting = c.requires.converting; block_len = (omega (arith, part, rest, c.loop-k.invariant.1.0, c.requires.target_len, c.loop-k-test.true), omega (arith, c.requires.target_len, c.loop-k-test.true)) }
+    let inside = c.loop-k-test.true in
+    let long = c.requires.target_len in
+    record { converting = c.requires.converting; block_len = (omega (arith, part, rest, c.loop-k.invariant.0, long, inside), omega (arith, long, inside)) }
 
 pub loop-k-preserved : goal.loop-k-preserved
 loop-k-preserved c =
@@ -41,14 +43,14 @@ loop-k-preserved c =
     let begins : from ≡ 0 + 512 * k = omega arith in
     let target = c.loop-k.target in
     let part = c.put_block.new.block in
-    let long = same_len_mid from (from + 512 - from) target part c.put_block.auto.block ∙ c.loop-k.invariant.1.0 in
+    let long = same_len_mid from (from + 512 - from) target part c.put_block.auto.block ∙ c.loop-k.invariant.0 in
     let f = block_of c.args.image.now (header_of c.args.o) in
     let wides = blocks_wide c.requires.converting k in
-    let more = parts_more [] f 512 c.args.target.now k from (from + 512 - from) target part begins size wides c.loop-k.invariant.1.1 c.put_block.ensures in
-    (omega (arith, c.loop-k-test.true), (long, more))
+    let more = parts_more [] f 512 c.args.target.now k from (from + 512 - from) target part begins size wides c.loop-k.invariant.1 c.put_block.ensures in
+    (long, more)
 
 pub returns : goal.returns
 returns c =
     let f = block_of c.args.image.now (header_of c.args.o) in
-    let all : c.loop-k.k ≡ block_total (header_of c.args.o) = omega (arith, c.loop-k.invariant.0, c.loop-k-test.false, c.requires.target_len) in
-    c.loop-k.invariant.1.1 ∙ ap (parts_to [] f 512 c.args.target.now) all ∙ all_made f c.args.target.now (block_total (header_of c.args.o)) c.requires.target_len ∙ image_made c.requires.converting
+    let all : c.loop-k.k ≡ block_total (header_of c.args.o) = omega (arith, c.requires.target_len) in
+    c.loop-k.invariant.1 ∙ ap (parts_to [] f 512 c.args.target.now) all ∙ all_made f c.args.target.now (block_total (header_of c.args.o)) c.requires.target_len ∙ image_made c.requires.converting

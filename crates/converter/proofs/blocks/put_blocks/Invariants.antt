@@ -1,4 +1,4 @@
-use Prim.Native.Nat.{ℕ, ◌-◌, ◌≤◌}
+use Prim.Native.Nat.{ℕ}
 use mathlib.Core.Path.{◌≡◌}
 use mathlib.Core.List.{List, []}
 use lib.ListN.{length}
@@ -13,7 +13,4 @@ abbrev pub block_of : List ℕ → Header → ℕ → List ℕ
 block_of image o k = sealed_block k (built_block o (other_records image) k)
 
 abbrev pub invariant-loop-k : goal.invariant-loop-k
-invariant-loop-k l = (l.k ≤ l.total) × ((length l.target ≡ length l.initial.target) × (l.target ≡ parts_to [] (block_of l.image (header_of l.o)) 512 l.initial.target l.k))
-
-abbrev pub decreases-loop-k : goal.decreases-loop-k
-decreases-loop-k l = l.total - l.k
+invariant-loop-k l = (length l.target ≡ length l.initial.target) × (l.target ≡ parts_to [] (block_of l.image (header_of l.o)) 512 l.initial.target l.k)

@@ -5,7 +5,7 @@ use native.Mathlib.Nat.{le_refl, mul-le-mul, mul-suc, div-le_self}
 use native.Mathlib.Omega.{arith}
 use mathlib.Core.Path.{◌≡◌, refl, sym, ap, ap₂, ◌∙◌, subst}
 use mathlib.Core.List.{List, [], ◌∷◌}
-use lib.ListN.{length, drop, length-take, length-drop}
+use lib.ListN.{drop, length-take, length-drop}
 use borrow.Rule.Slice.PartMut.{same_len_mid}
 use Rattle.model.specs.Lists.{below}
 use Rattle.model.specs.Blocks.{Header, header, entry_width, record_width, per_block, first_block, records_at}
@@ -23,17 +23,6 @@ use Rattle.model.proofs.Parts.{Wide}
 use Rattle.converter.proofs.blocks.put_entries.Invariants.{madeTo}
 use Rattle.converter.proofs.blocks.put_entries.Goals as goal
 use Rattle.converter.proofs.blocks.put_entries.Goals.{After-records_at-n, In-loop-i}
-use Rattle.converter.proofs.blocks.put_entries.Lts as lts
-use Rattle.converter.proofs.blocks.put_entries.Tie as tie
-use Rattle.converter.proofs.blocks.put_entries.Reads as reads
-
--- places, without what the types tell there
-abbrev Plain-After-records_at-n : Type 0
-Plain-After-records_at-n = lts.After-records_at tie.the-claims reads.Pre reads.Post goal.the-invariant-loop-i goal.the-decreases-loop-i tie.handed_clauses
-
--- from a place to the ones before it
-abbrev records_at_n_from_loop_i : In-loop-i → Plain-After-records_at-n
-records_at_n_from_loop_i c = let half = c.before.before.before.before in half.before.before.before
 
 made_none : (image : List ℕ) (o : Header) (k wide n : ℕ) → 0 ∷ 0 ∷ 6 ∷ n ∷ zeros 508 ≡ madeTo image o k wide n 0
 unfolding parts_to
@@ -45,7 +34,7 @@ unfolding other_header
 other_wide h o e = width_is o ∙ ap (λ (g : Header). entry_width g.form) e
 
 -- what is known before the loop
-module _ (c : Plain-After-records_at-n) where
+module _ (c : After-records_at-n) where
   abbrev image : List ℕ
   image = c.args.image.now
 
@@ -102,25 +91,8 @@ module _ (c : Plain-After-records_at-n) where
       let here = subst (λ (w : ℕ). Wide w (record_in o (other_records image) k) (below i)) (sym wide_is) all in
       subst (λ (g : Header). Wide wide (record_in g (other_records image) k) (below i)) (o_is v) here
 
--- a turn of the loop
-module _ (t : In-loop-i) where
-  abbrev i : ℕ
-  i = t.loop-i.i
-
-  abbrev from : ℕ
-  from = 4 + t.width-wide.result * i
-
-  abbrev block : List ℕ
-  block = t.loop-i.block
-
-  block_long : length block ≡ 512
-  block_long = t.loop-i.invariant.1.0
-
-  here : t.width-wide.result * i + t.width-wide.result ≤ 506
-  here = fits_one (records_at_n_from_loop_i t) i t.loop-i-test.true
-
 pub first_block-requires : goal.first_block-requires
-first_block-requires c = record { counted = counted _ (o_limits c.requires.converting); kind = (omega arith, omega arith) }
+first_block-requires c = counted _ (o_limits c.requires.converting)
 
 pub overflow_mul-before : goal.overflow_mul-before
 overflow_mul-before c =
@@ -131,55 +103,65 @@ overflow_mul-before c =
 
 pub records_at-n-requires : goal.records_at-n-requires
 records_at-n-requires c =
-    record { counted = counted _ (o_limits c.requires.converting); placed = (entries_placed _ c.args.k c.requires.o_bound.0 c.requires.o_bound.1, omega (arith, c.requires.converting.few, c.requires.o_bound.1)) }
+    let v = c.requires.converting in
+    let bound = c.requires.o_bound in
+    record { counted = counted _ (o_limits v); placed = (entries_placed _ c.args.k bound.0 bound.1, omega (arith, v.few, bound.1)) }
 
 pub open_block-requires : goal.open_block-requires
-open_block-requires c = (c.requires.block_len, few_records (goal.at.open_block-requires c).After-records_at-n.before)
+open_block-requires c = (c.requires.block_len, few_records (goal.at.open_block-requires c).After-records_at-n)
 
 pub loop-i-init : goal.loop-i-init
 loop-i-init c =
-    (omega arith, (c.open_block.auto.block ∙ c.requires.block_len, c.open_block.ensures ∙ made_none (image (goal.at.loop-i-init c).After-records_at-n.before) (other_header (header (image (goal.at.loop-i-init c).After-records_at-n.before))) (k (goal.at.loop-i-init c).After-records_at-n.before) (wide (goal.at.loop-i-init c).After-records_at-n.before) (n (goal.at.loop-i-init c).After-records_at-n.before)))
+    let r = (goal.at.loop-i-init c).After-records_at-n in
+    (c.open_block.auto.block ∙ c.requires.block_len, c.open_block.ensures ∙ made_none (image r) (other_header (header (image r))) (k r) (wide r) (n r))
 
 pub overflow_mul-from : goal.overflow_mul-from
-overflow_mul-from c = let f = here c in search rules
+overflow_mul-from c = let f = fits_one (goal.at.overflow_mul-from c).After-records_at-n c.loop-i.i c.loop-i-test.true in search rules
 
 pub overflow_add-from : goal.overflow_add-from
-overflow_add-from c = let f = here c in search rules
-
-pub overflow_add-to : goal.overflow_add-to
-overflow_add-to c = let f = here c in search rules
+overflow_add-from c = let f = fits_one (goal.at.overflow_add-from c).After-records_at-n c.loop-i.i c.loop-i-test.true in search rules
 
 pub overflow_add-before : goal.overflow_add-before
-overflow_add-before c = let e = number_is (goal.at.overflow_add-before c).After-records_at-n.before (i c) c.loop-i-test.true in let l = (h_laid (goal.at.overflow_add-before c).After-records_at-n.before).limits.entries_most in search rules
-
-pub slice_bounds-put_entry-end : goal.slice_bounds-put_entry-end
-slice_bounds-put_entry-end c = let f = here c in search rules
+overflow_add-before c =
+    let r = (goal.at.overflow_add-before c).After-records_at-n in
+    let e = number_is r c.loop-i.i c.loop-i-test.true in
+    let l = (h_laid r).limits.entries_most in
+    search rules
 
 pub put_entry-requires : goal.put_entry-requires
 put_entry-requires c =
-    let e = number_is (goal.at.put_entry-requires c).After-records_at-n.before (i (goal.at.put_entry-requires c).In-loop-i) c.loop-i-test.true in
-    let part = length-take (from (goal.at.put_entry-requires c).In-loop-i + wide (goal.at.put_entry-requires c).After-records_at-n.before - from (goal.at.put_entry-requires c).In-loop-i) (drop (from (goal.at.put_entry-requires c).In-loop-i) (block (goal.at.put_entry-requires c).In-loop-i)) in
-    let rest = length-drop (from (goal.at.put_entry-requires c).In-loop-i) (block (goal.at.put_entry-requires c).In-loop-i) in
-    let width = other_wide (h (goal.at.put_entry-requires c).After-records_at-n.before) (o (goal.at.put_entry-requires c).After-records_at-n.before) (v (goal.at.put_entry-requires c).After-records_at-n.before).other_is in
-    record { laid = h_laid (goal.at.put_entry-requires c).After-records_at-n.before; e_lt_entries = (e, omega (arith, here (goal.at.put_entry-requires c).In-loop-i, part, rest, block_long (goal.at.put_entry-requires c).In-loop-i, wide_is (goal.at.put_entry-requires c).After-records_at-n.before, width)); one_way = entry_asked (v (goal.at.put_entry-requires c).After-records_at-n.before) _ e }
+    let r = (goal.at.put_entry-requires c).After-records_at-n in
+    let i = c.loop-i.i in
+    let from = 4 + wide r * i in
+    let block = c.loop-i.block in
+    let e = number_is r i c.loop-i-test.true in
+    let part = length-take (from + wide r - from) (drop from block) in
+    let rest = length-drop from block in
+    let width = other_wide (h r) (o r) (v r).other_is in
+    let fits = fits_one r i c.loop-i-test.true in
+    record { laid = h_laid r; e_lt_entries = (e, omega (arith, fits, part, rest, c.loop-i.invariant.0, wide_is r, width)); one_way = entry_asked (v r) _ e }
 
 pub loop-i-preserved : goal.loop-i-preserved
 loop-i-preserved c =
-    let size : from (goal.at.loop-i-preserved c).In-loop-i + wide (goal.at.loop-i-preserved c).After-records_at-n.before - from (goal.at.loop-i-preserved c).In-loop-i ≡ wide (goal.at.loop-i-preserved c).After-records_at-n.before = omega arith in
+    let r = (goal.at.loop-i-preserved c).After-records_at-n in
+    let i = c.loop-i.i in
+    let from = 4 + wide r * i in
+    let block = c.loop-i.block in
+    let size : from + wide r - from ≡ wide r = omega arith in
     let part = c.put_entry.new.out in
-    let entry-put = c.put_entry.ensures ∙ ap (λ (b : ℕ). other_entry (h (goal.at.loop-i-preserved c).After-records_at-n.before).form (entry (image (goal.at.loop-i-preserved c).After-records_at-n.before) (b + i (goal.at.loop-i-preserved c).In-loop-i))) (before_is (goal.at.loop-i-preserved c).After-records_at-n.before) in
-    let record_is = record_put (v (goal.at.loop-i-preserved c).After-records_at-n.before) (k (goal.at.loop-i-preserved c).After-records_at-n.before) c.requires.o_bound.0 c.requires.o_bound.1 (i (goal.at.loop-i-preserved c).In-loop-i) in
-    let made : part ≡ recordOf (goal.at.loop-i-preserved c).After-records_at-n.before (i (goal.at.loop-i-preserved c).In-loop-i) = entry-put ∙ sym record_is ∙ ap (λ (g : Header). record_in g (other_records (image (goal.at.loop-i-preserved c).After-records_at-n.before)) (k (goal.at.loop-i-preserved c).After-records_at-n.before) (i (goal.at.loop-i-preserved c).In-loop-i)) (o_is (v (goal.at.loop-i-preserved c).After-records_at-n.before)) in
-    let long = same_len_mid (from (goal.at.loop-i-preserved c).In-loop-i) (from (goal.at.loop-i-preserved c).In-loop-i + wide (goal.at.loop-i-preserved c).After-records_at-n.before - from (goal.at.loop-i-preserved c).In-loop-i) (block (goal.at.loop-i-preserved c).In-loop-i) part c.put_entry.auto.out ∙ block_long (goal.at.loop-i-preserved c).In-loop-i in
-    let wides = sized (goal.at.loop-i-preserved c).After-records_at-n.before (i (goal.at.loop-i-preserved c).In-loop-i) c.loop-i-test.true in
-    let more =
-    parts_more (0 ∷ 0 ∷ 6 ∷ n (goal.at.loop-i-preserved c).After-records_at-n.before ∷ []) (recordOf (goal.at.loop-i-preserved c).After-records_at-n.before) (wide (goal.at.loop-i-preserved c).After-records_at-n.before) (0 ∷ 0 ∷ 6 ∷ n (goal.at.loop-i-preserved c).After-records_at-n.before ∷ zeros 508) (i (goal.at.loop-i-preserved c).In-loop-i) (from (goal.at.loop-i-preserved c).In-loop-i) (from (goal.at.loop-i-preserved c).In-loop-i + wide (goal.at.loop-i-preserved c).After-records_at-n.before - from (goal.at.loop-i-preserved c).In-loop-i) (block (goal.at.loop-i-preserved c).In-loop-i) part refl size wides
-    c.loop-i.invariant.1.1 made in
-    (omega (arith, c.loop-i-test.true), (long, more))
+    let entry-put = c.put_entry.ensures ∙ ap (λ (b : ℕ). other_entry (h r).form (entry (image r) (b + i))) (before_is r) in
+    let record_is = record_put (v r) (k r) c.requires.o_bound.0 c.requires.o_bound.1 i in
+    let made : part ≡ recordOf r i = entry-put ∙ sym record_is ∙ ap (λ (g : Header). record_in g (other_records (image r)) (k r) i) (o_is (v r)) in
+    let long = same_len_mid from (from + wide r - from) block part c.put_entry.auto.out ∙ c.loop-i.invariant.0 in
+    let wides = sized r i c.loop-i-test.true in
+    let front : List ℕ = 0 ∷ 0 ∷ 6 ∷ n r ∷ [] in
+    let base : List ℕ = 0 ∷ 0 ∷ 6 ∷ n r ∷ zeros 508 in
+    (long, parts_more front (recordOf r) (wide r) base i from (from + wide r - from) block part refl size wides c.loop-i.invariant.1 made)
 
 pub returns : goal.returns
 returns c =
-    let all : c.loop-i.i ≡ n (goal.at.returns c).After-records_at-n.before = omega (arith, c.loop-i.invariant.0, c.loop-i-test.false) in
-    c.loop-i.invariant.1.1
-    ∙ (λ j. madeTo (image (goal.at.returns c).After-records_at-n.before) (sym (o_is (v (goal.at.returns c).After-records_at-n.before)) j) (k (goal.at.returns c).After-records_at-n.before) (wide_is (goal.at.returns c).After-records_at-n.before j) (n_is (goal.at.returns c).After-records_at-n.before j) ((all ∙ n_is (goal.at.returns c).After-records_at-n.before) j))
-    ∙ block_made (v (goal.at.returns c).After-records_at-n.before) (k (goal.at.returns c).After-records_at-n.before) c.requires.o_bound.0 c.requires.o_bound.1
+    let r = (goal.at.returns c).After-records_at-n in
+    let all : c.loop-i.i ≡ n r = omega arith in
+    c.loop-i.invariant.1
+    ∙ (λ j. madeTo (image r) (sym (o_is (v r)) j) (k r) (wide_is r j) (n_is r j) ((all ∙ n_is r) j))
+    ∙ block_made (v r) (k r) c.requires.o_bound.0 c.requires.o_bound.1

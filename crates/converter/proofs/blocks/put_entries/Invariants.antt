@@ -1,4 +1,4 @@
-use Prim.Native.Nat.{ℕ, ◌-◌, ◌≤◌}
+use Prim.Native.Nat.{ℕ}
 use mathlib.Core.Path.{◌≡◌}
 use mathlib.Core.List.{List, [], ◌∷◌}
 use lib.ListN.{length}
@@ -13,7 +13,4 @@ abbrev pub madeTo : List ℕ → Header → ℕ → ℕ → ℕ → ℕ → List
 madeTo image o k wide n i = parts_to (0 ∷ 0 ∷ 6 ∷ n ∷ []) (record_in o (other_records image) k) wide (0 ∷ 0 ∷ 6 ∷ n ∷ zeros 508) i
 
 abbrev pub invariant-loop-i : goal.invariant-loop-i
-invariant-loop-i l = (l.i ≤ l.n) × ((length l.block ≡ 512) × (l.block ≡ madeTo l.image (other_header (header l.image)) l.k l.wide l.n l.i))
-
-abbrev pub decreases-loop-i : goal.decreases-loop-i
-decreases-loop-i l = l.n - l.i
+invariant-loop-i l = (length l.block ≡ 512) × (l.block ≡ madeTo l.image (other_header (header l.image)) l.k l.wide l.n l.i)

@@ -1,13 +1,13 @@
--- `mark_of` meets its contract: to form 1 the end is 255 and the one lexicon its number; to form 2 the end is 1 and a lexicon 0.
+-- `mark_of` meets its contract: to form 1 the end is 255 and the one lexicon its number; to form 2 the end is the number of its truth.
 use Prim.Native.Nat.{ℕ, ◌<◌}
 use native.Mathlib.Omega.{arith}
 use mathlib.Core.Bool.{Bool, true, false, cond}
-use mathlib.Core.Path.{◌≡◌, sym, ap₂, ◌∙◌}
+use mathlib.Core.Path.{◌≡◌, sym, ap, ap₂, ◌∙◌}
 use lib.Count.{count_trailing_zeros}
 use lib.Dec.{eqb}
 use borrow.Author.Tests.{eq-eqb, ne_eqb}
 use Rattle.model.specs.Lists.{below, first, bit}
-use Rattle.converter.proofs.EntryLaws.{first_named}
+use Rattle.converter.proofs.EntryLaws.{first_named, ending_number}
 use Rattle.converter.proofs.entries.mark_of.Goals as goal
 use Rattle.converter.proofs.entries.mark_of.Goals.{Else-stop}
 
@@ -33,8 +33,8 @@ returns-then-stop c = marked c.args.form c.args.stop true true (lowest_of c.args
 pub returns-then-form-eq2 : goal.returns-then-form-eq2
 returns-then-form-eq2 c = (sole c).0 ∙ marked c.args.form c.args.stop true false (lowest_of c.args.bits) (eq-eqb c.args.form 2 c.if-form-eq2.true) c.if-stop.false
 
-pub returns-then-stop-2 : goal.returns-then-stop-2
-returns-then-stop-2 c = marked c.args.form c.args.stop false true (lowest_of c.args.bits) (ne_eqb c.args.form 2 c.if-form-eq2.false) c.if-stop-2.true
-
 pub returns : goal.returns
-returns c = marked c.args.form c.args.stop false false (lowest_of c.args.bits) (ne_eqb c.args.form 2 c.if-form-eq2.false) c.if-stop-2.false
+returns c =
+    let stop = c.args.stop in
+    let other = ne_eqb c.args.form 2 c.if-form-eq2.false in
+    c.from.ensures ∙ ending_number stop ∙ sym (ap (λ (two : Bool). cond two (cond stop 255 (lowest_of c.args.bits)) (cond stop 1 0)) other)

@@ -1,12 +1,11 @@
 -- `one_ways` meets its contract: in form 1 nothing is asked; in form 2 the entries passed have one way on, and the first that has more decides.
-use borrow.Author.Rules.{rules}
 use Prim.Native.Nat.{ℕ, ◌+◌}
 use native.Mathlib.Omega.{arith}
 use mathlib.Core.Bool.{Bool, true, ◌||◌, not, cond}
 use mathlib.Core.Path.{◌≡◌, refl, sym, ap, ap₂, ◌∙◌}
 use mathlib.Core.List.{List}
 use lib.Dec.{leb, eqb}
-use borrow.Author.Tests.{not-true, not-false, eq-eqb, ne_eqb}
+use borrow.Author.Tests.{eq-eqb, ne_eqb}
 use Rattle.model.specs.Lists.{below, every, count, bit}
 use Rattle.model.specs.Blocks.{Header, header}
 use Rattle.model.specs.Lexicon.{entry, may_stop, goes_to, way_count}
@@ -55,19 +54,19 @@ pub returns-then-h-ne2 : goal.returns-then-h-ne2
 returns-then-h-ne2 c = other_form c.args.image.now (header_of c.args.h) c.requires c.if-h-ne2.true
 
 pub loop-e-init : goal.loop-e-init
-loop-e-init c = (search rules, refl)
+loop-e-init c = refl
 
 pub returns-then-not-few_ways : goal.returns-then-not-few_ways
 returns-then-not-few_ways c =
     let image = c.args.image.now in
-    sym (every_fails (fewAt image) c.args.h.entries c.loop-e.e (omega arith) (sym (looked (goal.at.returns-then-not-few_ways c).After-few_ways) ∙ not-true c.few_ways.result c.if-not-few_ways.true-raw))
+    sym (every_fails (fewAt image) c.args.h.entries c.loop-e.e (omega arith) (sym (looked (goal.at.returns-then-not-few_ways c).After-few_ways) ∙ c.if-not-few_ways.true))
     ∙ by_entries image (header_of c.args.h) c.requires (two (goal.at.returns-then-not-few_ways c).After-few_ways)
 
 pub loop-e-preserved : goal.loop-e-preserved
 loop-e-preserved c =
-    (search rules, every_more (fewAt c.args.image.now) c.loop-e.e c.loop-e.invariant.1 (sym (looked (goal.at.loop-e-preserved c).After-few_ways) ∙ not-false c.few_ways.result c.if-not-few_ways.false-raw))
+    every_more (fewAt c.args.image.now) c.loop-e.e c.loop-e.invariant (sym (looked (goal.at.loop-e-preserved c).After-few_ways) ∙ c.if-not-few_ways.false)
 
 pub returns : goal.returns
 returns c =
-    let all : c.loop-e.e ≡ c.args.h.entries = omega (arith, c.loop-e.invariant.0, c.loop-e-test.false) in
-    sym c.loop-e.invariant.1 ∙ ap (λ (n : ℕ). every (fewAt c.args.image.now) (below n)) all ∙ by_entries c.args.image.now (header_of c.args.h) c.requires c.if-h-ne2.false
+    let all : c.loop-e.e ≡ c.args.h.entries = omega arith in
+    sym c.loop-e.invariant ∙ ap (λ (n : ℕ). every (fewAt c.args.image.now) (below n)) all ∙ by_entries c.args.image.now (header_of c.args.h) c.requires c.if-h-ne2.false

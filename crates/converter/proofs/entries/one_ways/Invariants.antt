@@ -1,4 +1,4 @@
-use Prim.Native.Nat.{ℕ, ◌-◌, ◌≤◌}
+use Prim.Native.Nat.{ℕ}
 use mathlib.Core.Bool.{Bool, true}
 use mathlib.Core.Path.{◌≡◌}
 use mathlib.Core.List.{List}
@@ -11,7 +11,4 @@ abbrev pub fewAt : List ℕ → ℕ → Bool
 fewAt image e = leb (way_count (entry image e) 2) 1
 
 abbrev pub invariant-loop-e : goal.invariant-loop-e
-invariant-loop-e l = (l.e ≤ l.entries) × (every (fewAt l.image) (below l.e) ≡ true)
-
-abbrev pub decreases-loop-e : goal.decreases-loop-e
-decreases-loop-e l = l.entries - l.e
+invariant-loop-e l = every (fewAt l.image) (below l.e) ≡ true

@@ -3,7 +3,7 @@ use Prim.Native.Nat.{ℕ, ◌+◌, ◌-◌, ◌<◌, ◌≤◌}
 use native.Mathlib.Omega.{arith}
 use mathlib.Core.Path.{◌≡◌, sym, ap, ap₂, ◌∙◌}
 use mathlib.Core.List.{List, ◌++◌}
-use lib.ListN.{length, take, drop, set, length-drop, length-set}
+use lib.ListN.{length, take, drop, set, length-append, length-take, length-drop, length-set}
 use Rattle.model.specs.Lists.{bit}
 use Rattle.model.specs.Blocks.{Header, entry_width}
 use Rattle.model.specs.Lexicon.{entry}
@@ -13,7 +13,7 @@ use Rattle.lexicon.proofs.Laws.{width_is, entry_room}
 use Rattle.conversion.specs.Conversion.{way_bytes}
 use Rattle.converter.proofs.EntryLaws.{asks_one, one_stored, many_stored}
 use Rattle.converter.proofs.entries.put_entry.Goals as goal
-use Rattle.converter.proofs.entries.put_entry.Goals.{After-copy, After-ways_of-ways}
+use Rattle.converter.proofs.entries.put_entry.Goals.{After-copy_from_slice, After-ways_of-ways}
 
 -- the entry, where it begins, and its ways on
 module _ (w : After-ways_of-ways) where
@@ -41,50 +41,83 @@ module _ (w : After-ways_of-ways) where
   out_wide : 16 ≤ length w.args.out.now
   out_wide = omega (arith, w.requires.e_lt_entries.1, entry_wide (3 - h.form))
 
--- what the call of `copy` leaves is as long as it was
-copied_long : (c : After-copy) → length c.copy.new.target ≡ length c.args.out.now
-copied_long c = c.copy.auto.target
+-- the sixteen bytes that are copied
+module _ (c : After-copy_from_slice) where
+  abbrev front : List ℕ
+  front = c.copy_from_slice.new.self
 
-pub copy-requires : goal.copy-requires
-copy-requires c = (omega (arith, room (goal.at.copy-requires c).After-ways_of-ways, entry_wide (h (goal.at.copy-requires c).After-ways_of-ways).form), omega (arith, out_wide (goal.at.copy-requires c).After-ways_of-ways))
+  front_long : length front ≡ length (take 16 c.args.out.now)
+  front_long = c.copy_from_slice.ensures.len
+
+  copied : front ++ drop 16 c.args.out.now ≡ take 16 (drop c.entry_start-at.result c.args.image.now) ++ drop 16 c.args.out.now
+  copied =
+      let at = c.entry_start-at.result in
+      let long : at + 16 - at ≡ 16 = omega arith in
+      ap (λ (l : List ℕ). l ++ drop 16 c.args.out.now) (c.copy_from_slice.ensures.after ∙ ap (λ (n : ℕ). take n (drop at c.args.image.now)) long)
+
+  copied_long : 16 ≤ length c.args.out.now → length (front ++ drop 16 c.args.out.now) ≡ length c.args.out.now
+  copied_long wide = let out = c.args.out.now in omega (arith, length-append front (drop 16 out), front_long, length-take 16 out, length-drop 16 out)
+
+pub slice_bounds-copy_from_slice-end-3 : goal.slice_bounds-copy_from_slice-end-3
+slice_bounds-copy_from_slice-end-3 c =
+    let w = (goal.at.slice_bounds-copy_from_slice-end-3 c).After-ways_of-ways in
+    omega (arith, room w, entry_wide (h w).form)
+
+pub copy_from_slice-requires : goal.copy_from_slice-requires
+copy_from_slice-requires c =
+    let w = (goal.at.copy_from_slice-requires c).After-ways_of-ways in
+    let out = c.args.out.now in
+    let rest = drop (at w) (image w) in
+    omega (arith, length-take 16 out, out_wide w, length-take (at w + 16 - at w) rest, there w)
 
 pub mark_of-requires : goal.mark_of-requires
 mark_of-requires c =
+    let w = (goal.at.mark_of-requires c).After-ways_of-ways in
     let p = c.requires.one_way in
-    λ two off. asks_one (e (goal.at.mark_of-requires c).After-ways_of-ways) (h (goal.at.mark_of-requires c).After-ways_of-ways).form (h (goal.at.mark_of-requires c).After-ways_of-ways).lexicons c.ways_of-ways.result.bits c.ways_of-ways.result.stop two p.right (p.one two) c.ways_of-ways.ensures.stop c.ways_of-ways.ensures.bits off
+    let ways = c.ways_of-ways in
+    λ two off. asks_one (e w) (h w).form (h w).lexicons ways.result.bits ways.result.stop two p.right (p.one two) ways.ensures.stop ways.ensures.bits off
 
 pub bounds-out-13 : goal.bounds-out-13
-bounds-out-13 c = omega (arith, copied_long (goal.at.bounds-out-13 c).After-copy, out_wide (goal.at.bounds-out-13 c).After-ways_of-ways)
+bounds-out-13 c =
+    let goes = goal.at.bounds-out-13 c in
+    let wide = out_wide goes.After-ways_of-ways in
+    omega (arith, copied_long goes.After-copy_from_slice wide, wide)
 
 -- past the test of the form
 pub put_ways-requires : goal.put_ways-requires
 put_ways-requires c =
-    let wide : entry_width (3 - (h (goal.at.put_ways-requires c).After-ways_of-ways).form) ≡ 24 = ap (λ (f : ℕ). entry_width (3 - f)) c.if-h-eq1.true in
-    omega (arith, copied_long (goal.at.put_ways-requires c).After-copy, length-set c.copy.new.target 13 c.mark_of.result, c.requires.e_lt_entries.1, wide)
+    let goes = goal.at.put_ways-requires c in
+    let form = (h goes.After-ways_of-ways).form in
+    let wide : entry_width (3 - form) ≡ 24 = ap (λ (f : ℕ). entry_width (3 - f)) c.if-h-eq1.true in
+    let long = copied_long goes.After-copy_from_slice (out_wide goes.After-ways_of-ways) in
+    omega (arith, length-set (front goes.After-copy_from_slice ++ drop 16 c.args.out.now) 13 c.mark_of.result, long, c.requires.e_lt_entries.1, wide)
 
 -- form 1 becomes form 2
 pub returns-then-h-eq1 : goal.returns-then-h-eq1
 returns-then-h-eq1 c =
+    let goes = goal.at.returns-then-h-eq1 c in
+    let w = goes.After-ways_of-ways in
     let m = c.mark_of.result in
-    let bits = c.ways_of-ways.result.bits in
+    let ways = c.ways_of-ways in
+    let bits = ways.result.bits in
     let one = c.if-h-eq1.true in
+    let rest = drop (at w) (image w) in
+    let is = e_is w ∙ ap (λ (f : ℕ). take (entry_width f) rest) one in
     c.put_ways.ensures
-    ∙ ap (λ (l : List ℕ). take 16 (set l 13 m) ++ way_bytes (bit bits)) c.copy.ensures
-    ∙ many_stored (e (goal.at.returns-then-h-eq1 c).After-ways_of-ways) (drop (at (goal.at.returns-then-h-eq1 c).After-ways_of-ways) (image (goal.at.returns-then-h-eq1 c).After-ways_of-ways)) c.args.out.now (h (goal.at.returns-then-h-eq1 c).After-ways_of-ways).form bits c.ways_of-ways.result.stop m c.ways_of-ways.ensures.stop c.ways_of-ways.ensures.bits
-    c.mark_of.ensures (there (goal.at.returns-then-h-eq1 c).After-ways_of-ways) one
-    (e_is (goal.at.returns-then-h-eq1 c).After-ways_of-ways ∙ ap (λ (f : ℕ). take (entry_width f) (drop (at (goal.at.returns-then-h-eq1 c).After-ways_of-ways) (image (goal.at.returns-then-h-eq1 c).After-ways_of-ways))) one)
+    ∙ ap (λ (l : List ℕ). take 16 (set l 13 m) ++ way_bytes (bit bits)) (copied goes.After-copy_from_slice)
+    ∙ many_stored (e w) rest c.args.out.now (h w).form bits ways.result.stop m ways.ensures.stop ways.ensures.bits c.mark_of.ensures (there w) one is
 
 -- form 2 becomes form 1
 pub returns-else-h-eq1 : goal.returns-else-h-eq1
 returns-else-h-eq1 c =
+    let goes = goal.at.returns-else-h-eq1 c in
+    let w = goes.After-ways_of-ways in
     let m = c.mark_of.result in
-    let two : (h (goal.at.returns-else-h-eq1 c).After-ways_of-ways).form ≡ 2 = omega (arith, c.requires.one_way.is_form, c.if-h-eq1.false) in
-    let narrow : entry_width (3 - (h (goal.at.returns-else-h-eq1 c).After-ways_of-ways).form) ≡ 16 = ap (λ (f : ℕ). entry_width (3 - f)) two in
-    ap (λ (l : List ℕ). set l 13 m) c.copy.ensures
-    ∙ one_stored (e (goal.at.returns-else-h-eq1 c).After-ways_of-ways) (drop (at (goal.at.returns-else-h-eq1 c).After-ways_of-ways) (image (goal.at.returns-else-h-eq1 c).After-ways_of-ways)) c.args.out.now (h (goal.at.returns-else-h-eq1 c).After-ways_of-ways).form c.ways_of-ways.result.bits c.ways_of-ways.result.stop m c.ways_of-ways.ensures.stop c.ways_of-ways.ensures.bits
-    c.mark_of.ensures (there (goal.at.returns-else-h-eq1 c).After-ways_of-ways) two
-    (e_is (goal.at.returns-else-h-eq1 c).After-ways_of-ways ∙ ap (λ (f : ℕ). take (entry_width f) (drop (at (goal.at.returns-else-h-eq1 c).After-ways_of-ways) (image (goal.at.returns-else-h-eq1 c).After-ways_of-ways))) two) (omega (arith, c.requires.e_lt_entries.1, narrow))
-
-pub shape_of-out-then-h-eq1 : goal.shape_of-out-then-h-eq1
-shape_of-out-then-h-eq1 c =
-    omega (arith, c.put_ways.auto.out, length-set c.copy.new.target 13 c.mark_of.result, copied_long (goal.at.shape_of-out-then-h-eq1 c).After-copy)
+    let ways = c.ways_of-ways in
+    let two : (h w).form ≡ 2 = omega (arith, c.requires.one_way.is_form, c.if-h-eq1.false) in
+    let narrow : entry_width (3 - (h w).form) ≡ 16 = ap (λ (f : ℕ). entry_width (3 - f)) two in
+    let rest = drop (at w) (image w) in
+    let is = e_is w ∙ ap (λ (f : ℕ). take (entry_width f) rest) two in
+    let long : length c.args.out.now ≡ 16 = omega (arith, c.requires.e_lt_entries.1, narrow) in
+    ap (λ (l : List ℕ). set l 13 m) (copied goes.After-copy_from_slice)
+    ∙ one_stored (e w) rest c.args.out.now (h w).form ways.result.bits ways.result.stop m ways.ensures.stop ways.ensures.bits c.mark_of.ensures (there w) two is long

@@ -26,9 +26,10 @@ returns-then-levels_right c =
     ∙ ap (λ (b : Bool). b && passes (grammar_of image) pairing) (sym c.if-levels_right.true ∙ c.levels_right.ensures)
     ∙ sym (reading_is image c.args.path.now pairing c.requires.t.0 c.requires.t.1 c.requires.t_2)
 
-pub returns : goal.returns
-returns c =
+pub returns-else-levels_right : goal.returns-else-levels_right
+returns-else-levels_right c =
     let image = c.args.image.now in
     let pairing = c.args.pairing.now in
-    ap (λ (b : Bool). b && passes (grammar_of image) pairing) (sym c.if-levels_right.false ∙ c.levels_right.ensures)
+    c.if-levels_right.false
+    ∙ ap (λ (b : Bool). b && passes (grammar_of image) pairing) (sym c.if-levels_right.false ∙ c.levels_right.ensures)
     ∙ sym (reading_is image c.args.path.now pairing c.requires.t.0 c.requires.t.1 c.requires.t_2)

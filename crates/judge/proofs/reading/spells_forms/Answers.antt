@@ -1,68 +1,83 @@
 -- `spells_forms` meets its contract: the pairs that are left and the letters that are left decide.
 use borrow.Author.Rules.{rules}
+use borrow.Author.Tests.{not-true, not-false}
 use native.Mathlib.Omega.{arith}
-use mathlib.Core.Path.{◌≡◌, refl, sym, ap, ap₂, ◌∙◌}
+use mathlib.Core.Bool.{not, not-not}
+use mathlib.Core.Path.{◌≡◌, refl, sym, ap, ◌∙◌}
+use mathlib.Core.List.{List}
 use Prim.Native.Nat.{ℕ, ◌+◌, ◌<◌}
 use lib.ListN.{length, get_or, drop}
-use lib.Dec.{eqb}
 use Rattle.model.specs.Lists.{same_list}
 use Rattle.model.specs.GrammarOf.{grammar_of}
 use Rattle.model.specs.Readings.{spelled}
 use Rattle.letters.proofs.Laws.{laid_pairs}
 use Rattle.rules.specs.Paths.{forms_of}
-use Rattle.rules.proofs.PathLaws.{forms_letters}
-use Rattle.judge.proofs.PairingLaws.{listed_at, lexical_is, spells_null, spells_other, spells_letter, spells_end}
+use Rattle.judge.proofs.PairingLaws.{listed_at, lexical_is, spells_null, spells_other, spells_letter, spells_end, told_same, told_other}
 use Rattle.judge.proofs.reading.spells_forms.Goals as goal
-use Rattle.judge.proofs.reading.spells_forms.Goals.{else-side-ne0, then-side-ne0+else-not-same_lexical}
+use Rattle.judge.proofs.reading.spells_forms.Goals.{else-side-ne0, then-side-ne0+else-ne}
 use Rattle.judge.proofs.reading.spells_forms.Goals.{After-lexical_side-side}
 
 -- the lexical side of the pair that is passed
 module _ (c : After-lexical_side-side) where
-  inside : c.loop-i.i < length c.args.pairing.now
-  inside = c.loop-i-test.true
+  abbrev side : ℕ → ℕ
+  side = (grammar_of c.args.image.now).lexical
 
-  this : c.lexical_side-side.result.0 ≡ (grammar_of c.args.image.now).lexical (get_or c.args.pairing.now c.loop-i.i 0)
-  this = lexical_is c.args.image.now c.byte_at.ensures.0 c.lexical_side-side.ensures
+  abbrev ps : List ℕ
+  ps = c.args.pairing.now
 
-pub loop-i-init : goal.loop-i-init
-loop-i-init c = (search rules, (search rules, refl))
+  abbrev forms : List ℕ
+  forms = forms_of c.args.image.now c.args.path.now
+
+  abbrev i : ℕ
+  i = c.loop-p.p-index
+
+  abbrev t : ℕ
+  t = c.loop-p.t
+
+  abbrev inside : i < length ps
+  inside = c.loop-p-test.true
+
+  this : c.lexical_side-side.result.0 ≡ side (get_or ps i 0)
+  this = lexical_is c.args.image.now c.from.ensures c.lexical_side-side.ensures
+
+  some : (c.lexical_side-side.result.0 ≡ 0 → ⊥) → side (get_or ps i 0) ≡ 0 → ⊥
+  some n z = n (this ∙ z)
+
+pub loop-p-init : goal.loop-p-init
+loop-p-init c = (search rules, refl)
 
 pub lexical_side-side-requires : goal.lexical_side-side-requires
 lexical_side-side-requires c =
-    (c.requires.accepted.laid, omega (arith, laid_pairs c.requires.accepted.laid, listed_at c.args.image.now c.args.pairing.now c.loop-i.i c.requires.entered.1 c.loop-i-test.true, c.byte_at.ensures.0))
+    let laid = c.requires.accepted.laid in
+    let here = listed_at c.args.image.now c.args.pairing.now c.loop-p.p-index c.requires.entered.1 c.loop-p-test.true in
+    (laid, omega (arith, laid_pairs laid, here, c.from.ensures))
 
 pub letter_at-requires : goal.letter_at-requires
 letter_at-requires c = record { accepted = c.requires.accepted; entered = c.requires.entered.0 }
 
-pub returns-then-not-same_lexical : goal.returns-then-not-same_lexical
-returns-then-not-same_lexical c =
-    let side = (grammar_of c.args.image.now).lexical in
-    sym (spells_other side c.args.pairing.now (forms_of c.args.image.now c.args.path.now) c.loop-i.i c.loop-i.t (inside (goal.at.returns-then-not-same_lexical c).After-lexical_side-side) (λ z. c.if-side-ne0.true (this (goal.at.returns-then-not-same_lexical c).After-lexical_side-side ∙ z)) (sym (ap₂ eqb (this (goal.at.returns-then-not-same_lexical c).After-lexical_side-side) c.letter_at.ensures) ∙ sym c.same_lexical.ensures ∙ c.if-not-same_lexical.true))
-    ∙ c.loop-i.invariant.1.1
+pub returns-then-ne : goal.returns-then-ne
+returns-then-ne c =
+    let at = (goal.at.returns-then-ne c).After-lexical_side-side in
+    let told = c.letter_at in
+    let unlike = not-true _ (sym c.ne.ensures ∙ c.if-ne.true) in
+    let other = told_other _ (λ x y. refl) (forms at) (t at) told.result c.lexical_side-side.result told.ensures unlike in
+    sym (spells_other (side at) (ps at) (forms at) (i at) (t at) (inside at) (some at c.if-side-ne0.true) (λ h z. other h (z ∙ sym (this at)))) ∙ c.loop-p.invariant.1
 
-pub loop-i-preserved : goal.loop-i-preserved
-loop-i-preserved c =
-    let ps = c.args.pairing.now in
-    let forms = forms_of c.args.image.now c.args.path.now in
-    let side = (grammar_of c.args.image.now).lexical in
+pub loop-p-preserved : goal.loop-p-preserved
+loop-p-preserved c =
+    let at = (goal.at.loop-p-preserved c).After-lexical_side-side in
+    let left = λ (n : ℕ). same_list (spelled (side at) (drop (i at + 1) (ps at))) (drop n (forms at)) in
     elim c.if-side-ne0.branch [
-      | then-side-ne0+else-not-same_lexical w ↦ (
-        omega arith,
-        (
-          omega (arith, w.t-is),
-          ap (λ (n : ℕ). same_list (spelled side (drop (c.loop-i.i + 1) ps)) (drop n forms)) w.t-is
-              ∙ sym (spells_letter side ps forms c.loop-i.i c.loop-i.t (inside (goal.at.loop-i-preserved c).After-lexical_side-side) (λ z. w.if-side-ne0.true (this (goal.at.loop-i-preserved c).After-lexical_side-side ∙ z)) (sym (ap₂ eqb (this (goal.at.loop-i-preserved c).After-lexical_side-side) w.letter_at.ensures) ∙ sym w.same_lexical.ensures ∙ w.if-not-same_lexical.false))
-              ∙ c.loop-i.invariant.1.1,
-        ),
+      | then-side-ne0+else-ne w ↦ (
+        omega (arith, w.t-is),
+        let told = w.letter_at in
+            let alike = not-false _ (sym w.ne.ensures ∙ w.if-ne.false) in
+            let same = told_same _ (λ x y. refl) (forms at) (t at) told.result c.lexical_side-side.result told.ensures alike in
+            ap left w.t-is ∙ sym (spells_letter (side at) (ps at) (forms at) (i at) (t at) (inside at) (some at w.if-side-ne0.true) same.0 (same.1 ∙ this at)) ∙ c.loop-p.invariant.1,
       )
       | else-side-ne0 w ↦ (
-        omega arith,
-        (
-          omega (arith, w.t-is),
-          ap (λ (n : ℕ). same_list (spelled side (drop (c.loop-i.i + 1) ps)) (drop n forms)) w.t-is
-              ∙ sym (spells_null side ps forms c.loop-i.i c.loop-i.t (inside (goal.at.loop-i-preserved c).After-lexical_side-side) (sym (this (goal.at.loop-i-preserved c).After-lexical_side-side) ∙ w.if-side-ne0.false))
-              ∙ c.loop-i.invariant.1.1,
-        ),
+        omega (arith, w.t-is),
+        ap left w.t-is ∙ sym (spells_null (side at) (ps at) (forms at) (i at) (t at) (inside at) (sym (this at) ∙ w.if-side-ne0.false)) ∙ c.loop-p.invariant.1,
       )
     ]
 
@@ -72,6 +87,6 @@ letter_at-requires-2 c = record { accepted = c.requires.accepted; entered = c.re
 pub returns : goal.returns
 returns c =
     let forms = forms_of c.args.image.now c.args.path.now in
-    ap (λ (n : ℕ). eqb n 0) c.letter_at-2.ensures
-    ∙ sym (spells_end (grammar_of c.args.image.now).lexical c.args.pairing.now forms c.loop-i.i c.loop-i.t c.loop-i-test.false (forms_letters c.requires.accepted c.args.path.now c.requires.entered.0))
-    ∙ c.loop-i.invariant.1.1
+    let told = c.letter_at-2 in
+    let end = spells_end (grammar_of c.args.image.now).lexical c.args.pairing.now forms c.loop-p.p-index c.loop-p.t c.loop-p-test.false told.result told.ensures in
+    sym (not-not c.is_none.result) ∙ ap not (sym c.is_none.ensures) ∙ sym end ∙ c.loop-p.invariant.1

@@ -1,5 +1,7 @@
 use mathlib.Core.Path.{◌≡◌}
-use Prim.Native.Nat.{◌-◌, ◌≤◌}
+use mathlib.Core.Bool.{Bool}
+use mathlib.Core.List.{List}
+use Prim.Native.Nat.{ℕ, ◌≤◌}
 use lib.ListN.{drop}
 use Rattle.model.specs.Lists.{same_list}
 use Rattle.model.specs.GrammarOf.{grammar_of}
@@ -7,8 +9,9 @@ use Rattle.model.specs.Readings.{spelled}
 use Rattle.rules.specs.Paths.{forms_of}
 use Rattle.judge.proofs.reading.spells_forms.Given as goal
 
-abbrev pub invariant-loop-i : goal.invariant-loop-i
-invariant-loop-i l = (l.i ≤ l.n) × ((l.t ≤ l.i) × (same_list (spelled (grammar_of l.image).lexical (drop l.i l.pairing)) (drop l.t (forms_of l.image l.path)) ≡ same_list (spelled (grammar_of l.image).lexical l.pairing) (forms_of l.image l.path)))
+-- whether the pairs from i on spell the letters of the forms from t on
+abbrev pub spell_on : List ℕ → List ℕ → List ℕ → ℕ → ℕ → Bool
+spell_on image path pairing i t = same_list (spelled (grammar_of image).lexical (drop i pairing)) (drop t (forms_of image path))
 
-abbrev pub decreases-loop-i : goal.decreases-loop-i
-decreases-loop-i l = l.n - l.i
+abbrev pub invariant-loop-p : goal.invariant-loop-p
+invariant-loop-p l = (l.t ≤ l.p-index) × (spell_on l.image l.path l.pairing l.p-index l.t ≡ same_list (spelled (grammar_of l.image).lexical l.pairing) (forms_of l.image l.path))
