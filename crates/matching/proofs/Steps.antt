@@ -1,23 +1,24 @@
 -- Each level's step, from the steps that it is made of.
 use Prim.Native.Nat.{ℕ, zero, suc, ◌+◌, ◌-◌, ◌≤◌, ◌<◌}
 use native.Mathlib.Omega.{arith}
-use mathlib.Core.Bool.{Bool, true, false, ◌&&◌, ◌||◌, true≢false, false≢true}
+use mathlib.Core.Bool.{Bool, true, false, ◌&&◌, ◌||◌}
 use mathlib.Core.Path.{◌≡◌, refl, sym, ap, ap₂, ◌∙◌, fun_ext}
 use mathlib.Core.List.{List}
 use lib.ListN.{length, drop, length-drop}
 use lib.Seq.{drop-drop}
 use lib.Dec.{eqb}
-use Rattle.contexts.specs.Context.{Context, any, star, sequence, either, bracket, Level, side, whole}
-use Rattle.contexts.specs.Reader.{starts_with, begins_atom, Read, failed, got, and_then, read_pair, closed, more_of_side, more_sides}
+use Rattle.contexts.specs.Context.{Context, any, star, sequence, either, bracket, Level, tight, side, whole}
+use Rattle.contexts.specs.Reader.{starts_with, begins_atom, Read, failed, got, and_then, read_stars, closed, more_of_side, more_sides}
 use Rattle.contexts.specs.Fuel.{read_text, read_atom, starred}
 use Rattle.contexts.specs.Meaning.{Places, ends}
 use Rattle.contexts.specs.Relation.{one, through}
-use Rattle.contexts.proofs.Fuel.{shorter}
+use Rattle.contexts.proofs.Fuel.{shorter, unfold_tight, unfold_side, unfold_whole}
 use Rattle.contexts.proofs.Soundness.{read_off}
 use Rattle.contexts.proofs.Places.{Within}
 use Rattle.contexts.proofs.Stars.{star_stars, ends_within}
 use Rattle.contexts.proofs.Relation.{additive, star_row}
 use Rattle.relations.specs.Rows.{row, RowsAre, Relates, Starred}
+use Rattle.std.proofs.Common.{Option, Some, None}
 use Rattle.matching.specs.Steps.{Follows}
 use Rattle.matching.specs.declared.Step.{Step}
 use lib.Dec.{eqb→eq}
@@ -61,95 +62,164 @@ module _ (s : List ℕ) where
   stars_table n c r f j l = f j l ∙ sym (star_stars s n c (one j) (one_within j l))
 
 module _ (t s : List ℕ) where
-  -- what a step that read says
-  pub record Known (x : Read) (r : Step) : Type 0 where
+  -- what a step that was read says
+  pub record Known (x : Read) (a : Step) : Type 0 where
     pub context : Context
     pub rest : List ℕ
     pub same : x ≡ got context rest
-    pub goes_on : rest ≡ drop r.at t
-    pub inside : r.at ≤ length t
-    pub relates : Relates s context r.rows
+    pub goes_on : rest ≡ drop a.at t
+    pub inside : a.at ≤ length t
+    pub relates : Relates s context a.rows
 
-  pub known : (x : Read) (r : Step) → Follows t s x r → r.read ≡ true → Known x r
-  known failed r f e = absurd (false≢true (sym f ∙ e))
-  known (got c u) r f e = record { context = c; rest = u; same = refl; goes_on = f.1; inside = f.2; relates = f.3 }
+  stepped : (x : Read) (a : Step) → Follows t s x (Some a) → Known x a
+  stepped failed a f = absurd f
+  stepped (got c u) a f = record { context = c; rest = u; same = refl; goes_on = f.0; inside = f.1; relates = f.2 }
 
-  pub missed : (x : Read) (r : Step) → Follows t s x r → r.read ≡ false → x ≡ failed
-  missed failed r f e = refl
-  missed (got c u) r f e = absurd (true≢false (sym f.0 ∙ e))
+  pub known : (x : Read) (o : Option Step) (a : Step) → Follows t s x o → o ≡ Some a → Known x a
+  known x o a f e = stepped x a (rw e at f)
+
+  none_read : (x : Read) → Follows t s x None → x ≡ failed
+  none_read failed f = refl
+  none_read (got c u) f = absurd f
+
+  pub missed : (x : Read) (o : Option Step) → Follows t s x o → o ≡ None → x ≡ failed
+  missed x o f e = none_read x (rw e at f)
 
   -- the step of a text that begins with none, and of one that begins with c
-  pub is_wrong : (x : Read) (r : Step) → x ≡ failed → r.read ≡ false → Follows t s x r
-  is_wrong x r e f = rw e f
+  pub is_wrong : (x : Read) → x ≡ failed → Follows t s x None
+  is_wrong x e = rw e tt
 
-  pub is_right : (x : Read) (c : Context) (at : ℕ) (rows : List ℕ) → x ≡ got c (drop at t) → at ≤ length t → Relates s c rows → Follows t s x (record { read = true; at = at; rows = rows })
-  is_right x c at rows e h f = rw e (refl, refl, h, f)
+  pub is_right : (x : Read) (c : Context) (a : Step) → x ≡ got c (drop a.at t) → a.at ≤ length t → Relates s c a.rows → Follows t s x (Some a)
+  is_right x c a e h f = rw e (refl, h, f)
 
-  pub then_missed : (x : Read) (f : Context → List ℕ → Read) → x ≡ failed → and_then x f ≡ failed
+  then_missed : (x : Read) (f : Context → List ℕ → Read) → x ≡ failed → and_then x f ≡ failed
   then_missed x f e = rw e refl
 
-  pub then_known : (x : Read) (r : Step) (f : Context → List ℕ → Read) (k : Known x r) → and_then x f ≡ f k.context (drop r.at t)
-  then_known x r f k = ap (λ (y : Read). and_then y f) k.same ∙ ap (f k.context) k.goes_on
+  then_known : (x : Read) (a : Step) (f : Context → List ℕ → Read) (k : Known x a) → and_then x f ≡ f k.context (drop a.at t)
+  then_known x a f k = ap (λ (y : Read). and_then y f) k.same ∙ ap (f k.context) k.goes_on
 
-  pub after_byte : (at : ℕ) → drop 1 (drop at t) ≡ drop (at + 1) t
+  after_byte : (at : ℕ) → drop 1 (drop at t) ≡ drop (at + 1) t
   after_byte at = drop-drop 1 at t
 
-  pub progress : (l : Level) (b from : ℕ) (r : Step) → from ≤ length t → Known (read_text l b (drop from t)) r → from < r.at
+  pub progress : (l : Level) (b from : ℕ) (a : Step) → from ≤ length t → Known (read_text l b (drop from t)) a → from < a.at
   unfolding read_text
-  progress l b from r h k =
+  progress l b from a h k =
       let o = read_off (length (drop from t)) l b (drop from t) k.context k.rest k.same in
-      omega (arith, shorter l b (drop from t) k.context k.rest o, length-drop from t, length-drop r.at t, ap length k.goes_on, k.inside)
+      omega (arith, shorter l b (drop from t) k.context k.rest o, length-drop from t, length-drop a.at t, ap length k.goes_on, k.inside)
 
-  -- atoms
+  -- what stands at a place, with b brackets still to be opened
   module _ (b from : ℕ) where
-    pub no_brackets : starts_with 40 (drop from t) ≡ true → b ≡ 0 → read_atom read_text b (drop from t) ≡ failed
-    no_brackets e f = rw (e, f) refl
+    abbrev u : List ℕ
+    u = drop from t
 
-    pub opened : starts_with 40 (drop from t) ≡ true → (b ≡ 0 → ⊥) → read_atom read_text b (drop from t) ≡ and_then (read_text whole (b - 1) (drop (from + 1) t)) closed
-    opened e f = go b refl
-      where
-        go : (m : ℕ) → b ≡ m → read_atom read_text b (drop from t) ≡ and_then (read_text whole (b - 1) (drop (from + 1) t)) closed
-        go zero g = absurd (f g)
-        go (suc m) g =
-            let h : suc m - 1 ≡ m = omega arith in
-            rw (e, g, h) (ap (λ (u : List ℕ). and_then (read_text whole m u) closed) (after_byte from))
+    -- atoms
+    pub any_atom : (rows : List ℕ) → starts_with 40 u ≡ false → starts_with 46 u ≡ true → from < length t → Relates s any rows
+        → Follows t s (read_atom read_text b u) (Some (record { at = from + 1; rows = rows }))
+    any_atom rows e f h r =
+        is_right (read_atom read_text b u) any (record { at = from + 1; rows = rows }) (rw (e, f) (ap (got any) (after_byte from))) (omega arith) r
 
-    pub any_atom : starts_with 40 (drop from t) ≡ false → starts_with 46 (drop from t) ≡ true → read_atom read_text b (drop from t) ≡ got any (drop (from + 1) t)
-    any_atom e f = rw (e, f) (ap (got any) (after_byte from))
+    abbrev pub inner : Read
+    inner = read_text whole (b - 1) (drop (from + 1) t)
 
-    pub pair_atom : starts_with 40 (drop from t) ≡ false → starts_with 46 (drop from t) ≡ false → read_atom read_text b (drop from t) ≡ read_pair (drop from t)
-    pair_atom e f = rw (e, f) refl
+    module _ (e : starts_with 40 u ≡ true) (f : b ≡ 0 → ⊥) where
+      opened : read_atom read_text b u ≡ and_then inner closed
+      opened = go b refl
+        where
+          go : (m : ℕ) → b ≡ m → read_atom read_text b u ≡ and_then inner closed
+          go zero g = absurd (f g)
+          go (suc m) g =
+              let h : suc m - 1 ≡ m = omega arith in
+              rw (e, g, h) (ap (λ (v : List ℕ). and_then (read_text whole m v) closed) (after_byte from))
 
-  pub is_closed : (c : Context) (at : ℕ) → starts_with 41 (drop at t) ≡ true → closed c (drop at t) ≡ got (bracket c) (drop (at + 1) t)
-  is_closed c at e = rw e (ap (got (bracket c)) (after_byte at))
+      pub nothing_in_brackets : inner ≡ failed → Follows t s (read_atom read_text b u) None
+      nothing_in_brackets g = is_wrong (read_atom read_text b u) (opened ∙ then_missed inner closed g)
 
-  pub not_closed : (c : Context) (at : ℕ) → starts_with 41 (drop at t) ≡ false → closed c (drop at t) ≡ failed
-  not_closed c at e = rw e refl
+      module _ (a : Step) (k : Known inner a) where
+        pub not_closed : starts_with 41 (drop a.at t) ≡ false → Follows t s (read_atom read_text b u) None
+        not_closed g = is_wrong (read_atom read_text b u) (opened ∙ then_known inner a closed k ∙ rw g refl)
 
-  -- sides
-  pub side_more : (b : ℕ) (c : Context) (at : ℕ) → begins_atom (drop at t) ≡ true → more_of_side read_text b c (begins_atom (drop at t)) (drop at t) ≡ and_then (read_text side b (drop at t)) (λ d r. got (sequence c d) r)
-  side_more b c at e = rw e refl
+        pub is_closed : starts_with 41 (drop a.at t) ≡ true → a.at < length t → Follows t s (read_atom read_text b u) (Some (record { at = a.at + 1; rows = a.rows }))
+        is_closed g h =
+            let same : closed k.context (drop a.at t) ≡ got (bracket k.context) (drop (a.at + 1) t) = rw g (ap (got (bracket k.context)) (after_byte a.at)) in
+            is_right (read_atom read_text b u) (bracket k.context) (record { at = a.at + 1; rows = a.rows }) (opened ∙ then_known inner a closed k ∙ same) (omega arith) k.relates
 
-  pub side_stop : (b : ℕ) (c : Context) (at : ℕ) → begins_atom (drop at t) ≡ false → more_of_side read_text b c (begins_atom (drop at t)) (drop at t) ≡ got c (drop at t)
-  side_stop b c at e = rw e refl
+    -- with the stars after it
+    pub no_tight : read_atom read_text b u ≡ failed → Follows t s (read_text tight b u) None
+    no_tight g = is_wrong (read_text tight b u) (unfold_tight b u ∙ then_missed (read_atom read_text b u) read_stars g)
 
-  pub whole_more : (b : ℕ) (c : Context) (at : ℕ) → starts_with 124 (drop at t) ≡ true → more_sides read_text b c (starts_with 124 (drop at t)) (drop at t) ≡ and_then (read_text whole b (drop (at + 1) t)) (λ d r. got (either c d) r)
-  whole_more b c at e = rw (e, after_byte at) refl
+    module _ (a : Step) (k : Known (read_atom read_text b u) a) (end : ℕ) (passed : (c : Context) → read_stars c (drop a.at t) ≡ got (starred (end - a.at) c) (drop end t)) where
+      with_stars : read_text tight b u ≡ got (starred (end - a.at) k.context) (drop end t)
+      with_stars = unfold_tight b u ∙ then_known (read_atom read_text b u) a read_stars k ∙ passed k.context
 
-  pub whole_stop : (b : ℕ) (c : Context) (at : ℕ) → starts_with 124 (drop at t) ≡ false → more_sides read_text b c (starts_with 124 (drop at t)) (drop at t) ≡ got c (drop at t)
-  whole_stop b c at e = rw e refl
+      pub no_stars : end ≡ a.at → Follows t s (read_text tight b u) (Some a)
+      no_stars e =
+          let z : end - a.at ≡ 0 = omega arith in
+          is_right (read_text tight b u) k.context a (with_stars ∙ rw (z, e) refl) k.inside k.relates
 
-  -- a step handed on as it is
-  pub handed_on : (x : Read) (r : Step) (c : Context) → x ≡ got c (drop r.at t) → r.read ≡ true → r.at ≤ length t → Relates s c r.rows → Follows t s x r
-  handed_on x r c e f h k = rw e (f, refl, h, k)
+      pub stars : (rows : List ℕ) → a.at ≤ end → (end ≡ a.at → ⊥) → end ≤ length t → Starred (row a.rows) (length s) (row rows)
+          → Follows t s (read_text tight b u) (Some (record { at = end; rows = rows }))
+      stars rows h d l f =
+          let m = end - a.at - 1 in
+          let z : end - a.at ≡ suc m = omega arith in
+          is_right (read_text tight b u) (starred (suc m) k.context) (record { at = end; rows = rows })
+          (with_stars ∙ ap (λ (n : ℕ). got (starred n k.context) (drop end t)) z) l (stars_table s m k.context rows (star_table s k.context a.rows rows k.relates f))
 
-  -- stars
-  pub no_stars : (c : Context) (at end : ℕ) → end ≡ at → got (starred (end - at) c) (drop end t) ≡ got c (drop at t)
-  no_stars c at end e = let z : end - at ≡ 0 = omega arith in rw (z, e) refl
+    -- sides
+    abbrev goes_on_side : Context → List ℕ → Read
+    goes_on_side c r = more_of_side read_text b c (begins_atom r) r
 
-  pub starry : (x : Read) (c : Context) (at end : ℕ) (rows : List ℕ) → x ≡ got (starred (end - at) c) (drop end t) → at ≤ end → (end ≡ at → ⊥) → end ≤ length t → Relates s (star c) rows
-      → Follows t s x (record { read = true; at = end; rows = rows })
-  starry x c at end rows e h d l f =
-      let m = end - at - 1 in
-      let z : end - at ≡ suc m = omega arith in
-      is_right x (starred (suc m) c) end rows (e ∙ ap (λ (n : ℕ). got (starred n c) (drop end t)) z) l (stars_table s m c rows f)
+    pub no_side : read_text tight b u ≡ failed → Follows t s (read_text side b u) None
+    no_side g = is_wrong (read_text side b u) (unfold_side b u ∙ then_missed (read_text tight b u) goes_on_side g)
+
+    module _ (a : Step) (k : Known (read_text tight b u) a) where
+      first_of_side : read_text side b u ≡ goes_on_side k.context (drop a.at t)
+      first_of_side = unfold_side b u ∙ then_known (read_text tight b u) a goes_on_side k
+
+      pub last_of_side : begins_atom (drop a.at t) ≡ false → Follows t s (read_text side b u) (Some a)
+      last_of_side e = is_right (read_text side b u) k.context a (first_of_side ∙ rw e refl) k.inside k.relates
+
+      abbrev pub further : Read
+      further = read_text side b (drop a.at t)
+
+      module _ (e : begins_atom (drop a.at t) ≡ true) where
+        followed : read_text side b u ≡ and_then further (λ d r. got (sequence k.context d) r)
+        followed = first_of_side ∙ rw e refl
+
+        pub not_followed : further ≡ failed → Follows t s (read_text side b u) None
+        not_followed g = is_wrong (read_text side b u) (followed ∙ then_missed further (λ d r. got (sequence k.context d) r) g)
+
+        pub one_after_other : (d : Step) (rows : List ℕ) → Known further d → RowsAre rows (length s) (λ j. through (suc (length s)) (row a.rows j) (row d.rows))
+            → Follows t s (read_text side b u) (Some (record { at = d.at; rows = rows }))
+        one_after_other d rows l h =
+            is_right (read_text side b u) (sequence k.context l.context) (record { at = d.at; rows = rows })
+            (followed ∙ then_known further d (λ d r. got (sequence k.context d) r) l) l.inside (sequence_table s k.context l.context a.rows d.rows rows k.relates l.relates h)
+
+    -- a whole context
+    abbrev goes_on_whole : Context → List ℕ → Read
+    goes_on_whole c r = more_sides read_text b c (starts_with 124 r) r
+
+    pub no_whole : read_text side b u ≡ failed → Follows t s (read_text whole b u) None
+    no_whole g = is_wrong (read_text whole b u) (unfold_whole b u ∙ then_missed (read_text side b u) goes_on_whole g)
+
+    module _ (a : Step) (k : Known (read_text side b u) a) where
+      first_of_whole : read_text whole b u ≡ goes_on_whole k.context (drop a.at t)
+      first_of_whole = unfold_whole b u ∙ then_known (read_text side b u) a goes_on_whole k
+
+      pub last_of_whole : starts_with 124 (drop a.at t) ≡ false → Follows t s (read_text whole b u) (Some a)
+      last_of_whole e = is_right (read_text whole b u) k.context a (first_of_whole ∙ rw e refl) k.inside k.relates
+
+      abbrev pub others : Read
+      others = read_text whole b (drop (a.at + 1) t)
+
+      module _ (e : starts_with 124 (drop a.at t) ≡ true) where
+        barred : read_text whole b u ≡ and_then others (λ d r. got (either k.context d) r)
+        barred = first_of_whole ∙ rw (e, after_byte a.at) refl
+
+        pub no_others : others ≡ failed → Follows t s (read_text whole b u) None
+        no_others g = is_wrong (read_text whole b u) (barred ∙ then_missed others (λ d r. got (either k.context d) r) g)
+
+        pub one_or_other : (d : Step) (rows : List ℕ) → Known others d → RowsAre rows (length s) (λ j k. row a.rows j k || row d.rows j k)
+            → Follows t s (read_text whole b u) (Some (record { at = d.at; rows = rows }))
+        one_or_other d rows l h =
+            is_right (read_text whole b u) (either k.context l.context) (record { at = d.at; rows = rows })
+            (barred ∙ then_known others d (λ d r. got (either k.context d) r) l) l.inside (either_table s k.context l.context a.rows d.rows rows k.relates l.relates h)

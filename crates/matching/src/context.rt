@@ -4,22 +4,22 @@ ghost use Rattle.contexts.specs.Reader.{read_context, is_right};
 ghost use Rattle.contexts.specs.Operators.{left, right};
 ghost use Rattle.relations.specs.Sets.{holds};
 
+use relations::{places, tables};
+
 // Whether a text is a context's: none, or one of at most 64 bytes with brackets to depth 8.
 pub fn is_context(text: &[u8]) -> bool
     ensures { result ≡ is_right (read_context text.now) }
 {
-    let n = text.len();
-    if n == 0 {
+    if text.is_empty() {
         return true;
     }
-    if n > 64 {
+    if text.len() > 64 {
         return false;
     }
-    let step = super::match_whole(text, 0, 8, &text[..0]);
-    if !step.read {
-        return false;
+    match super::match_whole(text, 0, 8, &[]) {
+        Some(step) => step.at == text.len(),
+        None => false,
     }
-    step.at == n
 }
 
 // The places 0 to n.
@@ -27,29 +27,24 @@ fn all_places(n: usize) -> u64
     requires { n < 63 }
     ensures { (j : ℕ) → holds result j ≡ leb j n }
 {
-    let mut out: u64 = 0;
-    let mut j = 0;
-    while j <= n {
-        out = relations::places::with(out, j);
-        j += 1;
+    let mut out = 0;
+    for j in 0..=n {
+        out = places::with(out, j);
     }
     out
 }
 
-// The places before which a run ends.
+// The places before which a run ends. Of the right texts the empty one alone has no run, and holds everywhere.
 pub fn left_places(text: &[u8], s: &[u8]) -> u64
     requires text_value { is_right (read_context text.now) ≡ true }
     requires s_len_bound { length s.now < 63 }
     ensures { (i : ℕ) → i ≤ length s.now → holds result i ≡ left (read_context text.now) s.now i }
 {
-    let n = s.len();
-    let every = all_places(n);
-    if text.len() == 0 {
-        return every;
+    let every = all_places(s.len());
+    match super::match_whole(text, 0, 8, s) {
+        Some(step) => tables::reached(every, &step.rows, s.len()),
+        None => every,
     }
-    let step = super::match_whole(text, 0, 8, s);
-    let rows = step.rows;
-    relations::tables::reached(every, &rows, n)
 }
 
 // The places after which a run begins.
@@ -58,11 +53,8 @@ pub fn right_places(text: &[u8], s: &[u8]) -> u64
     requires s_len_bound { length s.now < 63 }
     ensures { (i : ℕ) → i < length s.now → holds result i ≡ right (read_context text.now) s.now i }
 {
-    let n = s.len();
-    if text.len() == 0 {
-        return all_places(n);
+    match super::match_whole(text, 0, 8, s) {
+        Some(step) => tables::beginning(&step.rows, s.len()),
+        None => all_places(s.len()),
     }
-    let step = super::match_whole(text, 0, 8, s);
-    let rows = step.rows;
-    relations::tables::beginning(&rows, n)
 }

@@ -1,9 +1,8 @@
 -- Sets filled place by place, and places looked for one by one.
 use Prim.Native.Nat.{ℕ, suc, ◌+◌, ◌≤◌, ◌<◌}
-use native.Mathlib.Numerals.{add-one}
 use native.Mathlib.Omega.{arith}
 use native.Mathlib.Decide.{ℕ_discrete, dec_lt}
-use mathlib.Core.Bool.{Bool, true, false, ◌&&◌, ◌||◌, and-false, or-false}
+use mathlib.Core.Bool.{Bool, true, ◌&&◌, ◌||◌, and-false, or-false}
 use mathlib.Core.Path.{◌≡◌, refl, sym, ap, ◌∙◌}
 use lib.Dec.{eqb, ltb}
 use borrow.Author.Tests.{lt-ltb, le-ltb, eq-eqb, ne_eqb}
@@ -29,11 +28,5 @@ count_more f i out x c h k = h k ∙ ap (λ (b : Bool). b || (f i && eqb k i)) (
     go (no e) (yes l) = rw (lt-ltb k i l, lt-ltb k (i + 1) (omega arith), ne_eqb k i e, and-false (f i)) (or-false (f k))
     go (no e) (no l) = rw (le-ltb k i (omega arith), le-ltb k (i + 1) (omega arith), ne_eqb k i e) (and-false (f i))
 
-pub count_done : (f : ℕ → Bool) (i out k : ℕ) → Counted f i out → k < i → holds out k ≡ f k
-count_done f i out k c h = c k ∙ rw (lt-ltb k i h) refl
-
 pub found : (p : Places) (n k : ℕ) → k ≤ n → p k ≡ true → true ≡ some p (suc n)
 found p n k h e = sym (true_of (some p (suc n)) (some_in p (suc n) k (omega arith) (of_true (p k) e)))
-
-pub none_more : (p : Places) (k : ℕ) → some p k ≡ false → p k ≡ false → some p (k + 1) ≡ false
-none_more p k e f = rw (add-one k, e, f) refl

@@ -1,18 +1,18 @@
--- The first byte b of a text: where it stands, and what stands before it and after it.
+-- The first byte b of a text: where it stands, what stands before it and after it, and that the text is cut there.
 use Prim.Native.Nat.{ℕ, suc, ◌+◌, ◌-◌, ◌≤◌, ◌<◌}
 use native.Mathlib.Omega.{arith}
-use mathlib.Core.Bool.{Bool, true, false, not, ◌||◌, cond}
+use mathlib.Core.Bool.{Bool, true, false, not, ◌||◌, cond, true≢false}
 use mathlib.Core.Path.{◌≡◌, refl, sym, ap, ◌∙◌}
 use mathlib.Core.List.{List, [], ◌∷◌}
 use lib.ListN.{length, take, drop, length-drop}
-use lib.Seq.{take-length, drop-drop}
-use lib.Dec.{ltb, eqb}
+use lib.Seq.{take-length}
+use lib.Dec.{ltb, eqb, leb-suc-suc}
 use native.Mathlib.Decide.{dec_lt}
 use borrow.Author.Tests.{lt-ltb, le-ltb}
 use Rattle.std.specs.List.{position, position_or_len}
-use Rattle.std.proofs.Common.{Option, Some, None}
+use Rattle.std.proofs.Common.{Some, None}
 use Rattle.rule_texts.specs.Line.{up_to, after, has}
-use Rattle.rule_texts.specs.Parts.{Found}
+use Rattle.rule_texts.specs.Parts.{IsCut}
 
 -- where the first byte b of a text stands, or the text's length
 abbrev index_after : Bool → ℕ → ℕ
@@ -51,13 +51,6 @@ module _ (b : ℕ) where
       go true h = refl
       go false h = h
 
-  shifted : (i m r n from : ℕ) → r ≡ from + i → m ≡ n - from → from ≤ n → ltb i m ≡ ltb r n
-  shifted i m r n from e f h = go (dec_lt r n)
-    where
-      go : Dec (r < n) → ltb i m ≡ ltb r n
-      go (yes k) = lt-ltb i m (omega arith) ∙ sym (lt-ltb r n k)
-      go (no k) = le-ltb i m (omega arith) ∙ sym (le-ltb r n (omega arith))
-
   is_there : (t : List ℕ) → has b t ≡ ltb (index_of b t) (length t)
   unfolding index_of
   is_there [] = refl
@@ -65,21 +58,7 @@ module _ (b : ℕ) where
     where
       go : (e : Bool) → has b t ≡ ltb (index_of b t) (length t) → (e || has b t) ≡ ltb (index_after e (index_of b t)) (suc (length t))
       go true h = sym (lt-ltb 0 (suc (length t)) (omega arith))
-      go false h = h ∙ shifted (index_of b t) (length t) (suc (index_of b t)) (suc (length t)) 1 (omega arith) (omega arith) (omega arith)
-
-  -- the library's search, in these words
-  pub found : (t : List ℕ) (from r : ℕ) → from ≤ length t → r ≡ from + index_of b (drop from t) → Found b t from r
-  found t from r h at =
-      let u = drop from t in
-      let k : r - from ≡ index_of b u = omega arith in
-      let l : from + suc (index_of b u) ≡ r + 1 = omega arith in
-      record {
-        in_order = omega arith;
-        inside = omega (arith, at, index_inside u, length-drop from t);
-        passed = before_it u ∙ ap (λ (n : ℕ). take n u) (sym k);
-        left = after_it u ∙ drop-drop (suc (index_of b u)) from t ∙ ap (λ (n : ℕ). drop n t) l;
-        there = is_there u ∙ shifted (index_of b u) (length u) r (length t) from at (length-drop from t) h;
-      }
+      go false h = h ∙ sym (leb-suc-suc (suc (index_of b t)) (length t))
 
   -- std's search, in these words
   as_std : (t : List ℕ) → index_of b t ≡ position_or_len (λ x. eqb x b) t
@@ -91,28 +70,61 @@ module _ (b : ℕ) where
       go true h = refl
       go false h = omega (arith, h)
 
-  pub stands : (t : List ℕ) (i : ℕ) → position (λ x. eqb x b) t ≡ Some i → i ≡ index_of b t
-  stands t i e = go (ltb (position_or_len (λ x. eqb x b) t) (length t)) (position_or_len (λ x. eqb x b) t) (as_std t) e
+  stands : (t : List ℕ) (i : ℕ) → position (λ x. eqb x b) t ≡ Some i → (i ≡ index_of b t) × (i < length t)
+  stands t i e = go (position_or_len (λ x. eqb x b) t) (as_std t) (dec_lt (position_or_len (λ x. eqb x b) t) (length t)) e
     where
-      go : (v : Bool) (m : ℕ) → index_of b t ≡ m → cond v (Some m) None ≡ Some i → i ≡ index_of b t
-      go true m f e = cc
-      go false m f e = cc
+      go : (m : ℕ) → index_of b t ≡ m → Dec (m < length t) → cond (ltb m (length t)) (Some m) None ≡ Some i → (i ≡ index_of b t) × (i < length t)
+      go m f (yes h) e = let g : Some m ≡ Some i = (rw (lt-ltb m (length t) h) at e) in let k : m ≡ i = cc in (sym k ∙ sym f, omega arith)
+      go m f (no h) e = let g : None ≡ Some i = (rw (le-ltb m (length t) (omega arith)) at e) in cc
 
-  pub stands_not : (t : List ℕ) → position (λ x. eqb x b) t ≡ None → length t ≡ index_of b t
+  stands_not : (t : List ℕ) → position (λ x. eqb x b) t ≡ None → length t ≡ index_of b t
   stands_not t e = go (position_or_len (λ x. eqb x b) t) (as_std t) (dec_lt (position_or_len (λ x. eqb x b) t) (length t)) e
     where
       go : (m : ℕ) → index_of b t ≡ m → Dec (m < length t) → cond (ltb m (length t)) (Some m) None ≡ None → length t ≡ index_of b t
       go m f (yes h) e = let g : Some m ≡ None = (rw (lt-ltb m (length t) h) at e) in cc
       go m f (no h) e = omega (arith, index_inside t, f)
 
-  -- the text from a place on, as a slice
-  rest : (t : List ℕ) (from : ℕ) → take (length t - from) (drop from t) ≡ drop from t
-  rest t from = ap (λ (n : ℕ). take n (drop from t)) (sym (length-drop from t)) ∙ take-length (drop from t)
+  -- so it cuts the text, or stands nowhere in it
+  pub cut_there : (t : List ℕ) (i : ℕ) → position (λ x. eqb x b) t ≡ Some i → IsCut b t (take i t) (drop (i + 1) t)
+  cut_there t i e =
+      let h = stands t i e in
+      let k : suc (index_of b t) ≡ i + 1 = omega (arith, h.0) in (
+        is_there t ∙ lt-ltb (index_of b t) (length t) (omega (arith, h)),
+        sym (before_it t ∙ ap (λ (n : ℕ). take n t) (sym h.0)),
+        sym (after_it t ∙ ap (λ (n : ℕ). drop n t) k),
+      )
 
-  pub found_there : (t : List ℕ) (from i : ℕ) (r : Option ℕ) → from ≤ length t → r ≡ position (λ x. eqb x b) (take (length t - from) (drop from t)) → r ≡ Some i → Found b t from (from + i)
-  found_there t from i r h e f =
-      found t from (from + i) h (ap (λ (n : ℕ). from + n) (stands (drop from t) i (sym (ap (position (λ x. eqb x b)) (rest t from)) ∙ sym e ∙ f)))
+  pub cut_nowhere : (t : List ℕ) → position (λ x. eqb x b) t ≡ None → has b t ≡ false
+  cut_nowhere t e = is_there t ∙ le-ltb (index_of b t) (length t) (omega (arith, stands_not t e))
 
-  pub found_nowhere : (t : List ℕ) (from : ℕ) (r : Option ℕ) → from ≤ length t → r ≡ position (λ x. eqb x b) (take (length t - from) (drop from t)) → r ≡ None → Found b t from (length t)
-  found_nowhere t from r h e f =
-      found t from (length t) h (omega (arith, length-drop from t, stands_not (drop from t) (sym (ap (position (λ x. eqb x b)) (rest t from)) ∙ sym e ∙ f)))
+  -- a text without it is all before it
+  pub uncut : (t : List ℕ) → has b t ≡ false → (up_to b t ≡ t) × (after b t ≡ [])
+  uncut [] h = (refl, refl)
+  uncut (x ∷ t) h = go (eqb x b) (uncut t) h
+    where
+      go : (e : Bool) → (has b t ≡ false → (up_to b t ≡ t) × (after b t ≡ [])) → (e || has b t) ≡ false → (cond e [] (x ∷ up_to b t) ≡ x ∷ t) × (cond e t (after b t) ≡ [])
+      go true r h = absurd (true≢false h)
+      go false r h = let k = r h in (ap {B = List ℕ} (λ l. x ∷ l) k.0, k.1)
+
+  after_shorter : (t : List ℕ) → length (after b t) ≤ length t
+  after_shorter [] = omega arith
+  after_shorter (x ∷ t) = go (eqb x b) (after_shorter t)
+    where
+      go : (e : Bool) → length (after b t) ≤ length t → length (cond e t (after b t)) ≤ suc (length t)
+      go true h = omega arith
+      go false h = omega arith
+
+  pub rest_shorter : (t : List ℕ) → (length t ≡ 0 → ⊥) → length (after b t) < length t
+  rest_shorter [] f = absurd (f refl)
+  rest_shorter (x ∷ t) f = go (eqb x b) (after_shorter t)
+    where
+      go : (e : Bool) → length (after b t) ≤ length t → length (cond e t (after b t)) < suc (length t)
+      go true h = omega arith
+      go false h = omega arith
+
+-- a text from a place on, as a slice
+pub rest_whole : (t : List ℕ) (k : ℕ) → take (length t - k) (drop k t) ≡ drop k t
+rest_whole t k = ap (λ (n : ℕ). take n (drop k t)) (sym (length-drop k t)) ∙ take-length (drop k t)
+
+pub cut_rest : (b : ℕ) (t : List ℕ) (k : ℕ) (u v : List ℕ) → IsCut b (take (length t - k) (drop k t)) u v → IsCut b (drop k t) u v
+cut_rest b t k u v h = rw (rest_whole t k) at h

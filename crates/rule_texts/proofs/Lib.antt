@@ -1,8 +1,7 @@
 mod Found
-mod Signs
 pub mod Dividing
 mod Scan
-mod Passing
+mod Signs
 pub mod Lines
 mod Split
 mod Digits

@@ -5,8 +5,9 @@
 pub mod line;
 pub mod text;
 
-ghost use Rattle.std.specs.Prelude.{◌≡◌, ◌==◌, ◌≤◌, length, position};
-ghost use Rattle.rule_texts.specs.Parts.{Found};
+ghost use Rattle.std.specs.Prelude.{false, ◌≡◌, ◌==◌, MatchOption, position};
+ghost use Rattle.rule_texts.specs.Line.{has};
+ghost use Rattle.rule_texts.specs.Parts.{IsCut};
 
 // Where the first byte `b` stands, if any does.
 fn first(text: &[u8], b: u8) -> Option<usize>
@@ -15,13 +16,10 @@ fn first(text: &[u8], b: u8) -> Option<usize>
     text.iter().position(|x| *x == b)
 }
 
-// Where the first byte `b` from `from` on stands, or the end.
-pub fn find(text: &[u8], from: usize, b: u8) -> usize
-    requires { from ≤ length text.now }
-    ensures { Found b text.now from result }
+// What stands before the first byte `b` and what after it, where there is one.
+fn split_once(text: &[u8], b: u8) -> Option<(&[u8], &[u8])>
+    ensures { MatchOption result (has b text.now ≡ false) (λ parts. IsCut b text.now parts.0.now parts.1.now) }
 {
-    match first(&text[from..], b) {
-        Some(i) => from + i,
-        None => text.len(),
-    }
+    let at = first(text, b)?;
+    Some((&text[..at], &text[at + 1..]))
 }

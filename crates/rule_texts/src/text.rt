@@ -1,27 +1,40 @@
 // A text of rules, line by line: whether it is of the grammar, and whether its pairs are known.
-ghost use Rattle.std.specs.Prelude.{true, ◌≡◌};
+ghost use Rattle.std.specs.Prelude.{true, ◌≡◌, [], MatchOption};
 ghost use Rattle.rule_texts.specs.Text.{is_text, pairs_known};
+ghost use Rattle.rule_texts.specs.Parts.{IsFirstLine};
 
 use super::line;
 
-// Test 19: at most 32 lines, each a rule's.
-#[tactic(auto, using(crate::proofs::Each::one_too_many))]
+const MOST_RULES: u32 = 32;
+
+// The first line of a text without its end, and the text after it, where there is a line.
+pub fn first_line(text: &[u8]) -> Option<(&[u8], &[u8])>
+    ensures { MatchOption result (text.now ≡ []) (λ parts. IsFirstLine text.now parts.0.now parts.1.now) }
+{
+    if text.is_empty() {
+        return None;
+    }
+    match super::split_once(text, b'\n') {
+        Some((line, rest)) => Some((line, rest)),
+        None => Some((text, &[])),
+    }
+}
+
+// Test 19: no more lines than there may be rules, each a rule's.
 pub fn is_text(text: &[u8]) -> bool
     ensures { result ≡ is_text text.now }
 {
-    let n = text.len();
-    let mut at: usize = 0;
-    let mut count: usize = 0;
-    while at < n {
-        if count == 32 {
+    let mut rest = text;
+    let mut count = 0;
+    while let Some((line, after)) = first_line(rest) {
+        if count == MOST_RULES {
             return false;
         }
-        let end = super::find(text, at, 10);
-        if !line::is_rule(&text[at..end]) {
+        if !line::is_rule(line) {
             return false;
         }
         count += 1;
-        at = end + 1;
+        rest = after;
     }
     true
 }
@@ -31,14 +44,12 @@ pub fn pairs_known(text: &[u8], pairs: usize) -> bool
     requires { is_text text.now ≡ true }
     ensures { result ≡ pairs_known pairs text.now }
 {
-    let n = text.len();
-    let mut at: usize = 0;
-    while at < n {
-        let end = super::find(text, at, 10);
-        if !line::knows_pairs(&text[at..end], pairs) {
+    let mut rest = text;
+    while let Some((line, after)) = first_line(rest) {
+        if !line::knows_pairs(line, pairs) {
             return false;
         }
-        at = end + 1;
+        rest = after;
     }
     true
 }

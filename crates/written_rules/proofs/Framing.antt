@@ -1,6 +1,5 @@
 -- A pairing put between its boundaries.
 use Prim.Native.Nat.{ℕ, zero, suc, ◌+◌, ◌≤◌, ◌<◌}
-use native.Mathlib.Numerals.{add-one}
 use native.Mathlib.Omega.{arith}
 use native.Mathlib.Decide.{ℕ_discrete}
 use mathlib.Core.Path.{◌≡◌, refl, sym, ap, ◌∙◌}
@@ -18,21 +17,6 @@ pub record Framed (s ps : List ℕ) (i : ℕ) : Type 0 where
 
 pub frame_begun : (ps : List ℕ) → Framed (replicate 64 255) ps 0
 frame_begun ps = record { long = refl; so_far = omega arith; front = refl; inner = λ j h. absurd (omega arith); rest = λ j h k. get_or-replicate 64 j 255 0 k }
-
-pub frame_more : (s ps : List ℕ) (i : ℕ) → length ps < 61 → i < length ps → Framed s ps i → Framed (set s (i + 1) (get_or ps i 0)) ps (i + 1)
-frame_more s ps i b h f = record {
-  long = length-set s (i + 1) (get_or ps i 0) ∙ f.long;
-  so_far = omega arith;
-  front = get_or-set_other s (i + 1) 0 (get_or ps i 0) 0 (λ e. omega arith) ∙ f.front;
-  inner = λ j k. go j k (ℕ_discrete j i);
-  rest = λ j k l. get_or-set_other s (i + 1) j (get_or ps i 0) 0 (λ e. omega arith) ∙ f.rest j (omega arith) l;
-}
-  where
-    go : (j : ℕ) → j < i + 1 → Dec (j ≡ i) → get_or (set s (i + 1) (get_or ps i 0)) (suc j) 0 ≡ get_or ps j 0
-    go j k (yes e) =
-        ap (λ (m : ℕ). get_or (set s (i + 1) (get_or ps i 0)) m 0) (ap suc e ∙ sym (add-one i))
-        ∙ get_or-set_same s (i + 1) (get_or ps i 0) 0 (omega (arith, f.long)) ∙ ap (λ (m : ℕ). get_or ps m 0) (sym e)
-    go j k (no e) = get_or-set_other s (i + 1) (suc j) (get_or ps i 0) 0 (λ d. e (omega arith)) ∙ f.inner j (omega arith)
 
 pub frame_done : (s ps : List ℕ) (i : ℕ) → length ps < 61 → i ≡ length ps → Framed s ps i → take (length ps + 2) s ≡ bounded ps
 frame_done s ps i b e f = ext_get_or 0 (take (length ps + 2) s) (bounded ps) (long ∙ sym same) (λ j h. get_or-take (length ps + 2) s j 0 (omega (arith, h, long)) ∙ at j (omega (arith, h, long)))
@@ -58,9 +42,6 @@ pub record Lettered (lexical : ℕ → ℕ) (letters ps : List ℕ) (i : ℕ) : 
   pub inner : (j : ℕ) → j < i → get_or letters (suc j) 0 ≡ lexical (get_or ps j 0)
 
 module _ (lexical : ℕ → ℕ) (ps : List ℕ) where
-  pub lettered_begun : Lettered lexical (replicate 64 0) ps 0
-  lettered_begun = record { long = refl; so_far = omega arith; inner = λ j h. absurd (omega arith) }
-
   pub lettered_more : (letters : List ℕ) (i x : ℕ) → length ps ≤ 40 → i < length ps → x ≡ lexical (get_or ps i 0) → Lettered lexical letters ps i → Lettered lexical (set letters (i + 1) x) ps (i + 1)
   lettered_more letters i x few h e f = record { long = length-set letters (i + 1) x ∙ f.long; so_far = omega arith; inner = λ j k. go j k (ℕ_discrete j i) }
     where

@@ -7,8 +7,7 @@ use mathlib.Core.Path.{◌≡◌, refl, sym, ap, ap₂, ◌∙◌}
 use mathlib.Core.List.{List}
 use lib.ListN.{length, get_or}
 use lib.Dec.{eqb}
-use Rattle.contexts.specs.Reader.{Written}
-use Rattle.contexts.specs.Operators.{Operator, kept_by, all, left, right}
+use Rattle.contexts.specs.Operators.{Rule, kept_by, all, left, right, there}
 use Rattle.relations.specs.Sets.{holds}
 use Rattle.written_rules.specs.Places.{kept_at}
 
@@ -26,11 +25,11 @@ all_more f i h e g =
     rw (z, e, g) refl
 
 -- the test at a place between the boundaries, by the two sets
-module _ (o : Operator) (own letter : ℕ) (before after : Written) (s letters : List ℕ) where
-  pub test_at : (i x y : ℕ) (r : Bool) → 1 ≤ i → i < length s → ((j : ℕ) → j ≤ length s → holds x j ≡ left before s j) → ((j : ℕ) → j < length s → holds y j ≡ right after s j)
-      → r ≡ kept_by o (eqb (get_or s i 0) own) (eqb (get_or letters i 0) letter) (holds x i && holds y i) → kept_at o own letter before after s letters (i - 1) ≡ r
-  test_at i x y r h k e f g =
+module _ (r : Rule) (letter : ℕ) (s letters : List ℕ) where
+  pub test_at : (i x y : ℕ) (b : Bool) → 1 ≤ i → i < length s → ((j : ℕ) → j ≤ length s → holds x j ≡ left r.left s j) → ((j : ℕ) → j < length s → holds y j ≡ right r.right s j)
+      → b ≡ kept_by r.operator (eqb (get_or s i 0) r.own) (eqb (get_or letters i 0) letter) (holds x i && holds y i) → kept_at r letter s letters (i - 1) ≡ b
+  test_at i x y b h k e f g =
       let z : suc (i - 1) ≡ i = omega arith in
-      ap (λ (m : ℕ). kept_by o (eqb (get_or s m 0) own) (eqb (get_or letters m 0) letter) (left before s m && right after s m)) z
-      ∙ ap (kept_by o (eqb (get_or s i 0) own) (eqb (get_or letters i 0) letter)) (ap₂ (λ (a b : Bool). a && b) (sym (e i (omega arith))) (sym (f i k)))
+      ap (λ (m : ℕ). kept_by r.operator (eqb (get_or s m 0) r.own) (eqb (get_or letters m 0) letter) (there r s m)) z
+      ∙ ap (kept_by r.operator (eqb (get_or s i 0) r.own) (eqb (get_or letters i 0) letter)) (ap₂ (λ (a b : Bool). a && b) (sym (e i (omega arith))) (sym (f i k)))
       ∙ sym g

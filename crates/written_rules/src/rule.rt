@@ -1,98 +1,42 @@
 // A written rule judged over a pairing between its boundaries.
-ghost use Rattle.std.specs.Prelude.{true, ◌&&◌, ◌≡◌, ◌-◌, ◌≤◌, ◌<◌, length, get_or, eqb};
+ghost use Rattle.std.specs.Prelude.{true, ◌≡◌};
 ghost use Rattle.contexts.specs.Reader.{read_context, is_right};
-ghost use Rattle.contexts.specs.Operators.{kept_by, all};
-ghost use Rattle.relations.specs.Sets.{holds};
-ghost use Rattle.rule_texts.specs.Parts.{operator_of};
-ghost use Rattle.written_rules.specs.Places.{kept_at};
+ghost use Rattle.contexts.specs.Operators.{kept_by};
+ghost use Rattle.rule_texts.specs.Parts.{operator_of, divided_rule};
+ghost use Rattle.written_rules.specs.Places.{kept_throughout};
 
+use super::boundaries::Bounded;
 use matching::context;
 use relations::places;
-use rule_texts::line::Operator;
+use rule_texts::line::{Operator, Parts};
 
 // What the operator asks, of its own pair, of a pair with its lexical letter, and of a place where both contexts hold.
 fn asked(operator: Operator, own: bool, letter: bool, there: bool) -> bool
     ensures { result ≡ kept_by (operator_of operator) own letter there }
 {
     match operator {
-        Operator::OnlyThere => {
-            if own {
-                return there;
-            }
-            true
-        }
-        Operator::AlwaysThere => {
-            if there {
-                if letter {
-                    return own;
-                }
-                return true;
-            }
-            true
-        }
-        Operator::Both => {
-            if there {
-                if letter {
-                    return own;
-                }
-                return true;
-            }
-            !own
-        }
-        Operator::NeverThere => {
-            if there {
-                return !own;
-            }
-            true
-        }
+        Operator::OnlyThere => !own || there,
+        Operator::AlwaysThere => !there || !letter || own,
+        Operator::Both => (!own || there) && (!there || !letter || own),
+        Operator::NeverThere => !there || !own,
     }
 }
 
-// Whether the operator is kept at place i, `letter` being the lexical letter of the rule's own pair.
-fn kept_at(
-    operator: Operator,
-    own: usize,
-    letter: usize,
-    s: &[u8],
-    letters: &[u8],
-    before: u64,
-    after: u64,
-    i: usize,
-) -> bool
-    requires { (i < length s.now) × (length s.now ≡ length letters.now) × (length s.now < 63) }
-    ensures { result ≡ kept_by (operator_of operator) (eqb (get_or s.now i 0) own) (eqb (get_or letters.now i 0) letter) (holds before i && holds after i) }
+// Whether the rule's operator is kept at every place between the boundaries, `letter` being the lexical letter of its own pair.
+// Each context is matched once, for all places.
+pub fn obeys_rule(rule: Parts<'_>, letter: usize, pairing: Bounded<'_>) -> bool
+    requires { (is_right (read_context rule.left.now) ≡ true) × (is_right (read_context rule.right.now) ≡ true) }
+    ensures { result ≡ kept_throughout (divided_rule rule.entry) letter pairing.entry.pairs.now pairing.entry.letters.now }
 {
-    let is_own = s[i] as usize == own;
-    let same = letters[i] as usize == letter;
-    if places::has(before, i) {
-        return asked(operator, is_own, same, places::has(after, i));
-    }
-    asked(operator, is_own, same, false)
-}
-
-// Whether the operator is kept at every place between the boundaries. Each context is matched once, for all places.
-pub fn obeys_rule(
-    operator: Operator,
-    own: usize,
-    letter: usize,
-    before: &[u8],
-    after: &[u8],
-    s: &[u8],
-    letters: &[u8],
-) -> bool
-    requires before_value { (is_right (read_context before.now) ≡ true) × (is_right (read_context after.now) ≡ true) }
-    requires in_bounds { (2 ≤ length s.now) × (length s.now ≡ length letters.now) × (length s.now < 63) }
-    ensures { result ≡ all (kept_at (operator_of operator) own letter (read_context before.now) (read_context after.now) s.now letters.now) (length s.now - 2) }
-{
-    let ending = context::left_places(before, s);
-    let beginning = context::right_places(after, s);
-    let n = s.len();
-    let mut i = 1;
-    while i < n - 1 {
-        if !kept_at(operator, own, letter, s, letters, ending, beginning, i) {
+    let ending = context::left_places(rule.left, pairing.pairs);
+    let beginning = context::right_places(rule.right, pairing.pairs);
+    for i in 1..pairing.pairs.len() - 1 {
+        let own = usize::from(pairing.pairs[i]) == rule.own;
+        let same = usize::from(pairing.letters[i]) == letter;
+        let there = places::has(ending, i) && places::has(beginning, i);
+        if !asked(rule.operator, own, same, there) {
             return false;
         }
-        i += 1;
     }
     true
 }

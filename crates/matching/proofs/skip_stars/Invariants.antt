@@ -1,17 +1,15 @@
 use mathlib.Core.Path.{◌≡◌}
 use mathlib.Core.List.{List}
-use Prim.Native.Nat.{ℕ, ◌-◌, ◌≤◌}
-use lib.ListN.{length, drop}
+use Prim.Native.Nat.{ℕ, ◌-◌}
+use lib.ListN.{drop}
 use Rattle.contexts.specs.Context.{Context}
 use Rattle.contexts.specs.Reader.{read_stars}
 use Rattle.contexts.specs.Fuel.{starred}
 use Rattle.matching.proofs.skip_stars.Given as goal
 
+-- the bytes from `at` to `end` are stars
 abbrev pub Passed : List ℕ → ℕ → ℕ → Type 0
-Passed t at e = (c : Context) → read_stars c (drop at t) ≡ read_stars (starred (e - at) c) (drop e t)
+Passed t at end = (c : Context) → read_stars c (drop at t) ≡ read_stars (starred (end - at) c) (drop end t)
 
-abbrev pub invariant-loop-e : goal.invariant-loop-e
-invariant-loop-e l = (l.at ≤ l.e) × (l.e ≤ length l.text) × Passed l.text l.at l.e
-
-abbrev pub decreases-loop-e : goal.decreases-loop-e
-decreases-loop-e l = length l.text - l.e
+abbrev pub invariant-loop-end : goal.invariant-loop-end
+invariant-loop-end l = Passed l.text l.at l.end

@@ -1,17 +1,18 @@
--- `left_places` meets its contract.
+-- A run ends where the context's rows reach from any place; without a run the context is empty.
 use borrow.Author.Tests.{le-leb}
 use mathlib.Core.Path.{sym, ◌∙◌}
 use lib.ListN.{length}
-use Rattle.matching.proofs.Reading.{right_read, left_empty, left_by}
+use Rattle.matching.proofs.Reading.{right_read, right_empty, left_everywhere, left_by}
 use Rattle.matching.proofs.context.left_places.Goals as goal
 
-pub returns-then-text-eq0 : goal.returns-then-text-eq0
-returns-then-text-eq0 c =
+pub returns-in-Some : goal.returns-in-Some
+returns-in-Some c =
     let a = c.args in
-    λ i h. c.all_places-every.ensures i ∙ le-leb i (length a.s.now) h ∙ sym (left_empty a.text.now a.s.now i c.if-text-eq0.true)
+    let r = right_read a.text.now a.s.now c.match_whole.result c.requires.text_value c.match_whole.ensures c.in-Some.step c.in-Some.is in
+    λ i h. left_by a.text.now a.s.now r.0 c.in-Some.step.rows r.1 r.2 c.all_places-every.result c.reached.result i c.all_places-every.ensures c.reached.ensures
 
-pub returns : goal.returns
-returns c =
+pub returns-in-None : goal.returns-in-None
+returns-in-None c =
     let a = c.args in
-    let r = right_read a.text.now a.s.now c.match_whole-step.result c.if-text-eq0.false c.requires.text_value c.match_whole-step.ensures in
-    λ i h. left_by a.text.now a.s.now r.0 c.match_whole-step.result.rows r.1 r.2 c.all_places-every.result c.reached.result i c.all_places-every.ensures c.reached.ensures
+    let e = right_empty a.text.now a.s.now c.match_whole.result c.requires.text_value c.match_whole.ensures c.in-None.is in
+    λ i h. c.all_places-every.ensures i ∙ le-leb i (length a.s.now) h ∙ sym (left_everywhere a.text.now a.s.now i e)

@@ -1,4 +1,4 @@
--- `union` meets its contract.
+-- Each bit of the one number or the other.
 use Rattle.relations.proofs.Bits.{holds_or}
 use Rattle.relations.proofs.places.union.Goals as goal
 

@@ -1,51 +1,27 @@
--- `beginning` meets its contract.
-use native.Mathlib.Omega.{arith}
+-- A place more is put into the set where its row holds a place.
 use native.Mathlib.Numerals.{add-one}
-use Prim.Native.Nat.{ℕ, suc, ◌+◌}
-use mathlib.Core.Bool.{◌&&◌, ◌||◌}
-use mathlib.Core.Path.{◌≡◌, ap, ◌∙◌}
-use mathlib.Core.List.{List}
-use lib.ListN.{get_or}
+use Prim.Native.Nat.{ℕ, suc}
+use mathlib.Core.Path.{◌≡◌, sym, ap, ◌∙◌}
 use lib.Dec.{eqb}
 use Rattle.contexts.specs.Operators.{some}
 use Rattle.relations.specs.Sets.{holds}
 use Rattle.relations.specs.Rows.{row}
-use Rattle.relations.proofs.Counting.{count_begun, count_more, count_done}
+use Rattle.relations.proofs.Bits.{taken, left}
+use Rattle.relations.proofs.Counting.{count_begun, count_more}
 use Rattle.relations.proofs.tables.beginning.Goals as goal
-
-next_row : (rows : List ℕ) (n i out x : ℕ) → ((k : ℕ) → holds x k ≡ (holds out k || (some (holds (get_or rows (i + 1) 0)) (suc n) && eqb k i))) → (k : ℕ) → holds x k ≡ (holds out k || (some (row rows (suc i)) (suc n) && eqb k i))
-next_row rows n i out x h k = h k ∙ ap (λ (m : ℕ). holds out k || (some (row rows m) (suc n) && eqb k i)) (add-one i)
+use Rattle.relations.proofs.tables.beginning.Goals.{then-holds_any, else-holds_any}
 
 pub loop-i-init : goal.loop-i-init
-loop-i-init c = (omega arith, count_begun (λ k. some (row c.args.rows.now (suc k)) (suc c.args.n)))
-
-pub overflow_add-i : goal.overflow_add-i
-overflow_add-i c = omega (arith, c.loop-i-test.true, c.requires)
-
-pub offset_bounds-rows-i : goal.offset_bounds-rows-i
-offset_bounds-rows-i c = omega (arith, c.loop-i-test.true, c.requires)
-
-pub bounds-rows-i : goal.bounds-rows-i
-bounds-rows-i c = omega (arith, c.loop-i-test.true, c.requires)
-
-pub one_beginning-out-requires : goal.one_beginning-out-requires
-one_beginning-out-requires c = omega (arith, c.loop-i-test.true, c.requires)
-
-pub overflow_add-i-in-loop-i : goal.overflow_add-i-in-loop-i
-overflow_add-i-in-loop-i c = omega (arith, c.loop-i-test.true, c.requires)
-
-pub loop-i-smaller : goal.loop-i-smaller
-loop-i-smaller c = omega (arith, c.loop-i-test.true)
+loop-i-init c = count_begun (λ k. some (row c.args.rows.now (suc k)) (suc c.args.n))
 
 pub loop-i-preserved : goal.loop-i-preserved
 loop-i-preserved c =
-    let a = c.args in (
-      omega (arith, c.loop-i-test.true),
-      count_more (λ k. some (row a.rows.now (suc k)) (suc a.n)) c.loop-i.i c.loop-i.out c.one_beginning-out.result c.loop-i.invariant.1
-          (next_row a.rows.now a.n c.loop-i.i c.loop-i.out c.one_beginning-out.result c.one_beginning-out.ensures),
-    )
-
-pub returns : goal.returns
-returns c =
     let a = c.args in
-    λ i h. count_done (λ k. some (row a.rows.now (suc k)) (suc a.n)) c.loop-i.i c.loop-i.out i c.loop-i.invariant.1 (omega (arith, h, c.loop-i.invariant.0, c.loop-i-test.false))
+    let i = c.loop-i.i in
+    let out = c.loop-i.out in
+    let begins = some (row a.rows.now (suc i)) (suc a.n) in
+    let told : c.holds_any.result ≡ begins = c.holds_any.ensures ∙ ap (λ (m : ℕ). some (row a.rows.now m) (suc a.n)) (add-one i) in
+    count_more (λ k. some (row a.rows.now (suc k)) (suc a.n)) i out c.if-holds_any.out c.loop-i.invariant (λ k. elim c.if-holds_any.branch [
+      | then-holds_any w ↦ ap (λ (n : ℕ). holds n k) w.out-is ∙ w.with-out.ensures k ∙ taken (holds out k) begins (eqb k i) (sym told ∙ w.if-holds_any.true)
+      | else-holds_any w ↦ ap (λ (n : ℕ). holds n k) w.out-is ∙ left (holds out k) begins (eqb k i) (sym told ∙ w.if-holds_any.false)
+    ])

@@ -1,4 +1,3 @@
-use Prim.Native.Nat.{◌+◌, ◌-◌}
 use mathlib.Core.Bool.{◌||◌}
 use Rattle.relations.specs.Rows.{row}
 use Rattle.relations.proofs.Filling.{Filled}
@@ -6,6 +5,3 @@ use Rattle.relations.proofs.tables.either.Given as goal
 
 abbrev pub invariant-loop-j : goal.invariant-loop-j
 invariant-loop-j l = Filled l.rows l.n l.j (λ i k. row l.one i k || row l.two i k)
-
-abbrev pub decreases-loop-j : goal.decreases-loop-j
-decreases-loop-j l = l.n + 1 - l.j

@@ -1,9 +1,9 @@
-use Prim.Native.Nat.{◌-◌}
+use lib.ListN.{length}
 use Rattle.rule_texts.proofs.Each.{Asked, rule_line, knows_line}
 use Rattle.rule_texts.proofs.text.pairs_known.Given as goal
 
-abbrev pub invariant-loop-at : goal.invariant-loop-at
-invariant-loop-at l = Asked rule_line l.text l.at × Asked (knows_line l.pairs) l.text l.at
+abbrev pub invariant-loop-line : goal.invariant-loop-line
+invariant-loop-line l = record { right : Asked rule_line l.text l.rest; known : Asked (knows_line l.pairs) l.text l.rest }
 
-abbrev pub decreases-loop-at : goal.decreases-loop-at
-decreases-loop-at l = l.n - l.at
+abbrev pub decreases-loop-line : goal.decreases-loop-line
+decreases-loop-line l = length l.rest

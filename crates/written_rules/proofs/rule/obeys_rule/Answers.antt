@@ -1,53 +1,48 @@
--- `obeys_rule` meets its contract.
+-- At each place between the boundaries the operator is asked of what stands there; one place where it is not kept is enough.
 use native.Mathlib.Omega.{arith}
-use Prim.Native.Nat.{◌-◌}
-use mathlib.Core.Path.{◌≡◌, refl, sym, ap, ◌∙◌}
+use Prim.Native.Nat.{ℕ, ◌-◌}
+use mathlib.Core.Bool.{Bool, ◌&&◌}
+use mathlib.Core.Path.{◌≡◌, sym, ap, ◌∙◌}
 use lib.ListN.{length}
-use Rattle.contexts.specs.Reader.{read_context}
-use Rattle.contexts.specs.Operators.{all}
-use Rattle.rule_texts.specs.Parts.{operator_of}
+use Rattle.relations.specs.Sets.{holds}
+use Rattle.rule_texts.specs.Parts.{divided_rule}
 use Rattle.written_rules.specs.Places.{kept_at}
 use Rattle.written_rules.proofs.Judging.{all_false, all_more, test_at}
 use Rattle.written_rules.proofs.rule.obeys_rule.Goals as goal
+use Rattle.written_rules.proofs.rule.obeys_rule.Goals.{After-asked, then-has, else-has}
 
-pub left_places-ending-requires : goal.left_places-ending-requires
-left_places-ending-requires c = record { text_value = c.requires.before_value.0; s_len_bound = c.requires.in_bounds.2 }
+module _ (c : After-asked) where
+  abbrev test : ℕ → Bool
+  test = kept_at (divided_rule c.args.rule) c.args.letter c.args.pairing.pairs.now c.args.pairing.letters.now
 
-pub right_places-beginning-requires : goal.right_places-beginning-requires
-right_places-beginning-requires c = record { text_value = c.requires.before_value.1; s_len_bound = c.requires.in_bounds.2 }
+  abbrev i : ℕ
+  i = c.loop-i.i
 
-pub loop-i-init : goal.loop-i-init
-loop-i-init c = (omega arith, omega (arith, c.requires.in_bounds), refl)
+  abbrev before : Bool
+  before = holds c.left_places-ending.result i
 
-pub overflow_sub-n : goal.overflow_sub-n
-overflow_sub-n c = omega (arith, c.requires.in_bounds)
+  abbrev after : Bool
+  after = holds c.right_places-beginning.result i
 
-pub kept_at-requires : goal.kept_at-requires
-kept_at-requires c = (omega (arith, c.loop-i-test.true), c.requires.in_bounds.1, c.requires.in_bounds.2)
+  both : c.if-has.there ≡ (before && after)
+  both = elim c.if-has.branch [
+    | then-has w ↦ w.there-is ∙ w.has-there.ensures ∙ sym (ap (λ (b : Bool). b && after) (sym c.has.ensures ∙ w.if-has.true))
+    | else-has w ↦ w.there-is ∙ w.if-has.false ∙ sym (ap (λ (b : Bool). b && after) (sym c.has.ensures ∙ w.if-has.false))
+  ]
 
-pub returns-then-not-kept_at : goal.returns-then-not-kept_at
-returns-then-not-kept_at c =
-    let a = c.args in
-    let i = c.loop-i.i in
-    let e = test_at (operator_of a.operator) a.own a.letter (read_context a.before.now) (read_context a.after.now) a.s.now a.letters.now i c.left_places-ending.result c.right_places-beginning.result c.kept_at.result c.loop-i.invariant.0 (omega (arith, c.loop-i-test.true)) c.left_places-ending.ensures c.right_places-beginning.ensures c.kept_at.ensures in
-    all_false (kept_at (operator_of a.operator) a.own a.letter (read_context a.before.now) (read_context a.after.now) a.s.now a.letters.now) (length a.s.now - 2) (i - 1) (omega (arith, c.loop-i-test.true, c.loop-i.invariant.0)) (e ∙ c.if-not-kept_at.true)
+  told : test (i - 1) ≡ c.asked.result
+  told =
+      let p = c.args.pairing in
+      let asked = (rw (c.from.ensures, c.from-in-loop-i.ensures, both) at c.asked.ensures) in
+      test_at (divided_rule c.args.rule) c.args.letter p.pairs.now p.letters.now i c.left_places-ending.result c.right_places-beginning.result c.asked.result
+      c.loop-i.auto.i (omega (arith, c.loop-i-test.true)) c.left_places-ending.ensures c.right_places-beginning.ensures asked
 
-pub overflow_add-i : goal.overflow_add-i
-overflow_add-i c = omega (arith, c.loop-i-test.true, c.requires.in_bounds)
-
-pub loop-i-smaller : goal.loop-i-smaller
-loop-i-smaller c = omega (arith, c.loop-i-test.true)
+pub returns-then-not-asked : goal.returns-then-not-asked
+returns-then-not-asked c =
+    let p = (goal.at.returns-then-not-asked c).After-asked in
+    all_false (test p) (length c.args.pairing.pairs.now - 2) (c.loop-i.i - 1) (omega (arith, c.loop-i-test.true, c.loop-i.auto.i)) (told p ∙ c.if-not-asked.true)
 
 pub loop-i-preserved : goal.loop-i-preserved
 loop-i-preserved c =
-    let a = c.args in
-    let i = c.loop-i.i in
-    let e = test_at (operator_of a.operator) a.own a.letter (read_context a.before.now) (read_context a.after.now) a.s.now a.letters.now i c.left_places-ending.result c.right_places-beginning.result c.kept_at.result c.loop-i.invariant.0 (omega (arith, c.loop-i-test.true)) c.left_places-ending.ensures c.right_places-beginning.ensures c.kept_at.ensures in
-    (omega arith, omega (arith, c.loop-i-test.true), all_more (kept_at (operator_of a.operator) a.own a.letter (read_context a.before.now) (read_context a.after.now) a.s.now a.letters.now) i c.loop-i.invariant.0 c.loop-i.invariant.2 (e ∙ c.if-not-kept_at.false))
-
-pub returns : goal.returns
-returns c =
-    let a = c.args in
-    let i = c.loop-i.i in
-    let e : length a.s.now - 2 ≡ i - 1 = omega (arith, c.loop-i.invariant.1, c.loop-i-test.false) in
-    sym (ap (all (kept_at (operator_of a.operator) a.own a.letter (read_context a.before.now) (read_context a.after.now) a.s.now a.letters.now)) e ∙ c.loop-i.invariant.2)
+    let p = (goal.at.loop-i-preserved c).After-asked in
+    all_more (test p) c.loop-i.i c.loop-i.auto.i c.loop-i.invariant (told p ∙ c.if-not-asked.false)
