@@ -5,7 +5,8 @@ use native.Mathlib.Omega.{arith}
 use mathlib.Core.Path.{◌≡◌, refl, sym, ap, ◌∙◌}
 use mathlib.Core.List.{List, [], ◌∷◌, ◌++◌, append_assoc, append-nil, Memᴰ}
 use lib.ListN.{length, get_or, set, take, drop, length-append, length-set}
-use lib.Seq.{take-suc-set, drop-set-lt, drop-drop, take_all, ext_get_or}
+use lib.Seq.{take-suc-set, drop-set-lt, drop-drop, take_all, ext_get_or, paste, length-paste, take-paste, drop-paste}
+use Rattle.std.proofs.lemmas.List.Edits.{paste_all}
 use Rattle.model.specs.Lists.{flat_map, number, number_bytes}
 use Rattle.model.specs.Readings.{Reading}
 use Rattle.model.specs.Rows.{padded, row_numbers, row_bytes, row_at}
@@ -42,6 +43,22 @@ module _ (buffer : List ℕ) (at : ℕ) where
 
   pub put_one : (b : ℕ) → at < length buffer → Put buffer (set buffer at b) at (at + 1) (b ∷ [])
   put_one b h = record { same_length = length-set buffer at b; written = rw add-one (take-suc-set buffer at b h); ends = refl; kept = drop-set-lt (at + 1) buffer at b (omega arith) }
+
+  -- a whole text written over its part of the buffer
+  pub put_part : (text : List ℕ) → at + length text ≤ length buffer
+      → Put buffer (take at buffer ++ (text ++ drop (at + length text - at) (drop at buffer))) at (at + length text) text
+  put_part text h =
+      let n = length text in
+      let whole : take n text ≡ text = take_all n text (omega arith) in
+      let behind : drop (at + n - at) (drop at buffer) ≡ drop (at + n) buffer = drop-drop (at + n - at) at buffer ∙ ap (λ (m : ℕ). drop m buffer) (omega arith) in
+      let pasted : take at buffer ++ (text ++ drop (at + n - at) (drop at buffer)) ≡ paste buffer at text n =
+      ap (λ (d : List ℕ). take at buffer ++ (text ++ d)) behind ∙ sym (paste_all buffer at text n refl) in
+      rw pasted (record {
+        same_length = length-paste buffer at text n h (omega arith);
+        written = take-paste buffer at text n (omega arith) (omega arith) ∙ ap (λ (l : List ℕ). take at buffer ++ l) whole;
+        ends = refl;
+        kept = drop-paste buffer at text n (omega arith) (omega arith);
+      })
 
 -- a row's line, where e and p are its counts
 pub row_text : (row : List ℕ) {e p : ℕ} → e ≡ number row 0 → p ≡ number row 34

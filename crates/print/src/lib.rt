@@ -9,6 +9,7 @@ ghost use Rattle.rows.specs.Fill.{reply_of};
 ghost use Rattle.print.specs.Text.{Put, numbers_from, row_reading, Row, Rows, printed_rows, spaced_at};
 
 use image::number_at;
+use refusal::Refusal;
 use rows::Reply;
 
 fn put_byte(out: &mut [u8], at: usize, b: u8) -> usize
@@ -23,12 +24,8 @@ fn put_text(out: &mut [u8], at: usize, text: &[u8]) -> usize
     requires { at + length text.now ≤ length out.old }
     ensures { Put out.old out.new at result text.now }
 {
-    let mut end = at;
-    let mut i = 0;
-    while i < text.len() {
-        end = put_byte(out, end, text[i]);
-        i += 1;
-    }
+    let end = at + text.len();
+    out[at..end].copy_from_slice(text);
     end
 }
 
@@ -73,11 +70,8 @@ fn put_numbers(out: &mut [u8], at: usize, row: &[u8], from: usize, n: usize) -> 
     ensures { Put out.old out.new at result (spaced (numbers_from row.now from n)) × (result ≤ at + 6 * n) }
 {
     let mut end = at;
-    let mut i = 0;
-    while i < n {
-        let number = number_at(row, from + 2 * i);
-        end = put_spaced(out, end, i, number);
-        i += 1;
+    for i in 0..n {
+        end = put_spaced(out, end, i, number_at(row, from + 2 * i));
     }
     end
 }
@@ -101,12 +95,9 @@ pub fn put_rows(out: &mut [u8], at: usize, rows: &[u8], n: usize) -> usize
     ensures { Put out.old out.new at result (printed_rows rows.now n) × (result ≤ at + 344 * n) }
 {
     let mut end = at;
-    let mut j = 0;
-    while j < n {
+    for j in 0..n {
         let from = 116 * j;
-        let to = from + 116;
-        end = put_row(out, end, &rows[from..to]);
-        j += 1;
+        end = put_row(out, end, &rows[from..from + 116]);
     }
     end
 }
@@ -122,15 +113,17 @@ fn put_line(out: &mut [u8], at: usize, word: &[u8], n: usize) -> usize
 }
 
 // The reply and its number.
-pub fn put_reply(out: &mut [u8], at: usize, r: Reply) -> usize
+pub fn put_reply(out: &mut [u8], at: usize, r: Result<Reply, Refusal>) -> usize
     requires { (reply_rows (reply_of r) < 65536) × (at + 16 ≤ length out.old) }
     ensures { Put out.old out.new at result (printed_reply (reply_of r)) × (result ≤ at + 16) }
 {
     match r {
-        Reply::All(n) => put_line(out, at, b"all ", n),
-        Reply::More(n) => put_line(out, at, b"more ", n),
-        Reply::None => put_line(out, at, b"none ", 0),
-        Reply::Refused(k) => put_line(out, at, b"refused ", k as usize),
+        Ok(reply) => match reply {
+            Reply::All(n) => put_line(out, at, b"all ", n),
+            Reply::More(n) => put_line(out, at, b"more ", n),
+            Reply::None => put_line(out, at, b"none ", 0),
+        },
+        Err(refusal) => put_line(out, at, b"refused ", usize::from(refusal.number())),
     }
 }
 

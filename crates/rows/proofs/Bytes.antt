@@ -1,32 +1,17 @@
 -- The bytes of a row: all blank at first, then a number at a time, each in its place.
 use Prim.Native.Nat.{ℕ, zero, suc, ◌+◌, ◌*◌, ◌-◌, ◌/◌, ◌%◌, ◌<◌, ◌≤◌}
 use native.Mathlib.Numerals.{add-one}
-use native.Mathlib.Decide.{ℕ_discrete}
 use native.Mathlib.Omega.{arith}
 use mathlib.Core.Path.{◌≡◌, refl, sym, ap, ◌∙◌}
 use mathlib.Core.List.{List, [], ◌∷◌, ◌++◌, append-nil}
-use lib.ListN.{length, get_or, set, take, replicate, length-append, length-take, length-replicate, get_or-replicate}
-use lib.Seq.{take-suc, take_all, set_at, append_snoc, get_or-set_same, get_or-set_other, ext_get_or}
+use lib.ListN.{length, set, take, replicate, length-append, length-take, length-replicate}
+use lib.Seq.{take-suc, take_all, set_at, append_snoc}
 use Rattle.model.specs.Lists.{flat_map, number_bytes}
 use Rattle.model.specs.Readings.{Reading}
 use Rattle.model.specs.Rows.{row_numbers, row_bytes}
 use Rattle.model.proofs.Parts.{length_parts}
 use Rattle.rows.specs.Trail.{row_number, row_up_to}
 use Rattle.rows.proofs.Places.{length_row_numbers}
-
--- the same byte stored at one place after another
-module _ (a : ℕ) where
-  pub same_more : (l : List ℕ) (i : ℕ) → i < length l → ((k : ℕ) → k < i → get_or l k 0 ≡ a) → (k : ℕ) → k < i + 1 → get_or (set l i a) k 0 ≡ a
-  same_more l i inside all k h = go (ℕ_discrete k i)
-    where
-      go : Dec (k ≡ i) → get_or (set l i a) k 0 ≡ a
-      go (yes e) = ap (λ (j : ℕ). get_or (set l i a) j 0) e ∙ get_or-set_same l i a 0 inside
-      go (no e) = get_or-set_other l i k a 0 e ∙ all k (omega arith)
-
-  pub same_all : (l : List ℕ) (n : ℕ) → length l ≡ n → ((k : ℕ) → k < n → get_or l k 0 ≡ a) → l ≡ replicate n a
-  same_all l n long all =
-      ext_get_or 0 l (replicate n a) (long ∙ sym (length-replicate n a))
-      (λ i h. let k : i < n = omega arith in all i k ∙ sym (get_or-replicate n i a 0 k))
 
 -- a number stored as its two bytes
 stored : (l : List ℕ) (k n : ℕ) → set (set (flat_map number_bytes l) (2 * k) (n % 256)) (2 * k + 1) (n / 256 % 256) ≡ flat_map number_bytes (set l k n)
@@ -60,12 +45,14 @@ module _ (r : Reading) where
   one_unused k h = let e : 58 - k ≡ suc (58 - (k + 1)) = omega arith in rw e refl
 
   -- one number more, at byte m, from what a turn has in hand
-  pub up_to_more : (k m n : ℕ) (row row' : List ℕ) → k < 58 → m ≡ 2 * k → n ≡ row_number r k → row ≡ row_up_to r k → row' ≡ set (set row m (n % 256)) (m + 1) (n / 256 % 256) → row' ≡ row_up_to r (k + 1)
+  pub up_to_more : (k m n : ℕ) (row row' : List ℕ) → k < 58 → m ≡ 2 * k → n ≡ row_number r k → row ≡ row_up_to r k
+      → row' ≡ set (set row m (n % 256)) (m + 1) (n / 256 % 256) → row' ≡ row_up_to r (k + 1)
   unfolding row_up_to
   up_to_more k m n row row' h at e f g =
       let ns = row_numbers r in
       let rest : List ℕ = replicate (58 - (k + 1)) 65535 in
-      rw (g, f, at, e, stored (take k ns ++ replicate (58 - k) 65535) k (row_number r k), one_unused k h, set_at (take k ns) 65535 rest (row_number r k) k (long_enough k (omega arith)), one_more k h) refl
+      let two = stored (take k ns ++ replicate (58 - k) 65535) k (row_number r k) in
+      rw (g, f, at, e, two, one_unused k h, set_at (take k ns) 65535 rest (row_number r k) k (long_enough k (omega arith)), one_more k h) refl
 
   -- an unused place is there already
   up_to_unused : (k : ℕ) → k < 58 → 65535 ≡ row_number r k → row_up_to r k ≡ row_up_to r (k + 1)

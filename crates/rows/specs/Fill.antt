@@ -1,10 +1,12 @@
 -- A row put into a lent buffer, the step by which a listing takes its readings, from its first row or a later one on; and the reply for their count.
-use Rattle.std.specs.Prelude.{ℕ, ◌+◌, ◌*◌, ◌-◌, ◌^◌, ◌<◌, ◌≤◌, cond, List, ◌++◌, take, drop, leb, ltb, eqb}
+use Rattle.std.specs.Prelude.{ℕ, ◌+◌, ◌*◌, ◌-◌, ◌^◌, ◌<◌, ◌≤◌, cond, List, ◌++◌, take, drop, leb, ltb, eqb, Result, Ok, Err}
 use Rattle.model.specs.Readings.{Reading}
 use Rattle.model.specs.Rows as model
 use Rattle.model.specs.Rows.{row_bytes, row_count}
 use Rattle.rows.specs.declared.Reply.{Reply}
-use Rattle.rows.specs.declared.Reply.TheVariants.{All, More, None, Refused}
+use Rattle.rows.specs.declared.Reply.TheVariants as reply
+use Rattle.refusal.specs.declared.Refusal.{Refusal}
+use Rattle.refusal.specs.Numbers.{number_of}
 
 -- the buffer with a row written after n rows
 abbrev pub written : List ℕ → ℕ → Reading → List ℕ
@@ -37,8 +39,8 @@ unfoldable pub reply_for : ℕ → ℕ → model.Reply
 reply_for found rows = cond (eqb found 0) model.Reply.none (cond (leb found rows) (model.Reply.all found) (model.Reply.more rows))
 
 -- the code's reply as the model's
-abbrev pub reply_of : Reply → model.Reply
-reply_of (All n) = model.Reply.all n
-reply_of (More n) = model.Reply.more n
-reply_of None = model.Reply.none
-reply_of (Refused k) = model.Reply.refused k
+abbrev pub reply_of : Result Reply Refusal → model.Reply
+reply_of (Ok (reply.All n)) = model.Reply.all n
+reply_of (Ok (reply.More n)) = model.Reply.more n
+reply_of (Ok reply.None) = model.Reply.none
+reply_of (Err r) = model.Reply.refused (number_of r)

@@ -1,5 +1,5 @@
 -- A reading as far as a search has come, as the model's reading, and the numbers of its row.
-use Rattle.std.specs.Prelude.{ℕ, ◌-◌, ◌≤◌, ◌≡◌, List, [], ◌∷◌, ◌++◌, take, get_or, replicate}
+use Rattle.std.specs.Prelude.{ℕ, ◌+◌, ◌-◌, ◌<◌, ◌≤◌, ◌≡◌, List, [], ◌∷◌, ◌++◌, take, get_or, replicate}
 use Rattle.model.specs.Lists.{flat_map, number_bytes}
 use Rattle.model.specs.Readings.{Reading}
 use Rattle.model.specs.Rows.{row_numbers}
@@ -34,3 +34,9 @@ row_number r k = get_or (row_numbers r) k 0
 -- a row whose first k numbers are written, and whose other places are unused
 unfoldable pub row_up_to : Reading → ℕ → List ℕ
 row_up_to r k = flat_map number_bytes (take k (row_numbers r) ++ replicate (58 - k) 65535)
+
+-- n numbers of this reading's row, which follow their count at place k: a call gives number i, and before the count the row is written
+pub record ListOf (Gives : ℕ → ℕ → Type 0) (r : Reading) (row : List ℕ) (k n : ℕ) : Type 0 where
+  pub before : row ≡ row_up_to r k
+  pub count : n ≡ row_number r k
+  pub numbers : (i m : ℕ) → i < n → Gives i m → m ≡ row_number r (k + 1 + i)

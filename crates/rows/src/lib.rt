@@ -2,11 +2,15 @@
 
 #![tactic(auto)]
 
-ghost use Rattle.std.specs.Prelude.{◌≡◌, [], ◌^◌, ◌<◌, ◌≤◌, length, replicate};
+ghost use Rattle.std.specs.Prelude.{◌≡◌, [], ℕ, ◌+◌, ◌^◌, ◌<◌, ◌≤◌, length};
+ghost use Rattle.model.specs.Readings.{Reading};
 ghost use Rattle.model.specs.Rows.{row_bytes, reply_number};
 ghost use Rattle.model.specs.Demand.{reply_rows};
-ghost use Rattle.rows.specs.Trail.{reading_of, Short, Holds, row_up_to};
+ghost use Rattle.rows.specs.Trail.{reading_of, Short, Holds, ListOf, row_up_to};
 ghost use Rattle.rows.specs.Fill.{put, Roomy, reply_for, reply_of};
+
+use image::seal::put_number;
+use refusal::Refusal;
 
 // A reading as far as a search has come: its entries and its pairs.
 #[derive(Clone, Copy)]
@@ -21,60 +25,34 @@ pub fn no_trail() -> Trail
     ensures { Holds result (record { path = []; pairing = [] }) 0 0 }
 {
     Trail {
-        path: [0u16; 16],
+        path: [0; 16],
         entries: 0,
-        pairing: [0u8; 40],
+        pairing: [0; 40],
         pairs: 0,
     }
 }
 
-// Every place of a row unused: 65535 is 255 twice.
-fn blank(row: &mut [u8])
-    requires { length row.old ≡ 116 }
-    ensures { row.new ≡ replicate 116 255 }
+// A list of n numbers, of which `number` gives each: how many they are as number k of a row, and each after it.
+fn write_list<F: Fn(usize) -> usize>(row: &mut [u8], k: usize, n: usize, number: F)
+    requires row_len { length row.old ≡ 116 }
+    requires inside { k + n < 58 }
+    requires callable { (i : ℕ) → i < n → F.pre number i }
+    ensures { (r : Reading) → ListOf (F.post number) r row.old k n → row.new ≡ row_up_to r (k + 1 + n) }
 {
-    let mut i = 0;
-    while i < 116 {
-        row[i] = 255;
-        i += 1;
+    put_number(row, 2 * k, n);
+    for i in 0..n {
+        put_number(row, 2 * (k + 1 + i), number(i));
     }
 }
 
-// How many entries, and each of them; the places that they leave unused are blank.
-fn write_entries(row: &mut [u8], t: Trail)
-    requires { (row.old ≡ row_up_to (reading_of t) 0) × Short t }
-    ensures { row.new ≡ row_up_to (reading_of t) 17 }
-{
-    image::seal::put_number(row, 0, t.entries);
-    let mut i = 0;
-    while i < t.entries {
-        let n = t.path[i];
-        image::seal::put_number(row, 2 * i + 2, n as usize);
-        i += 1;
-    }
-}
-
-// How many pairs, and each of them, after the entries.
-fn write_pairs(row: &mut [u8], t: Trail)
-    requires { (row.old ≡ row_up_to (reading_of t) 17) × Short t }
-    ensures { row.new ≡ row_up_to (reading_of t) 58 }
-{
-    image::seal::put_number(row, 34, t.pairs);
-    let mut i = 0;
-    while i < t.pairs {
-        let n = t.pairing[i];
-        image::seal::put_number(row, 2 * i + 36, n as usize);
-        i += 1;
-    }
-}
-
+// Every place unused, which is 65535, or 255 twice; then the entries, and the pairs after the sixteen places of entries.
 pub fn write_row(row: &mut [u8], t: Trail)
     requires { (length row.old ≡ 116) × Short t }
     ensures { row.new ≡ row_bytes (reading_of t) }
 {
-    blank(row);
-    write_entries(row, t);
-    write_pairs(row, t);
+    row.fill(255);
+    write_list(row, 0, t.entries, |i| usize::from(t.path[i]));
+    write_list(row, 17, t.pairs, |i| usize::from(t.pairing[i]));
 }
 
 // One step of a listing: puts a row after those that were found before, and answers how many are found now. The first rows are passed over, as many as `capacity`
@@ -83,31 +61,27 @@ pub fn offer(rows: &mut [u8], capacity: usize, found: usize, t: Trail) -> usize
     requires { Roomy rows.old capacity × ((found ≤ capacity) × Short t) }
     ensures { (rows.new, result) ≡ put capacity (rows.old, found) (reading_of t) }
 {
+    if capacity <= found {
+        return capacity + 1;
+    }
     let passed = capacity - rows.len() / 116;
-    if found < passed {
-        return found + 1;
-    }
-    if found < capacity {
-        let next = found + 1;
+    if passed <= found {
         let from = 116 * (found - passed);
-        let to = from + 116;
-        write_row(&mut rows[from..to], t);
-        return next;
+        write_row(&mut rows[from..from + 116], t);
     }
-    capacity + 1
+    found + 1
 }
 
-// What a listing replies.
+// What a listing that is not refused replies.
 #[derive(Clone, Copy)]
 pub enum Reply {
     All(usize),
     More(usize),
     None,
-    Refused(u8),
 }
 
 pub fn reply_for(found: usize, rows: usize) -> Reply
-    ensures { reply_of result ≡ reply_for found rows }
+    ensures { reply_of (Ok result) ≡ reply_for found rows }
 {
     if found == 0 {
         return Reply::None;
@@ -119,14 +93,16 @@ pub fn reply_for(found: usize, rows: usize) -> Reply
 }
 
 // The reply as one number, for callers from C.
-pub fn reply_number(r: Reply) -> u64
+pub fn reply_number(r: Result<Reply, Refusal>) -> u64
     requires { reply_rows (reply_of r) < 2 ^ 62 }
     ensures { result ≡ reply_number (reply_of r) }
 {
     match r {
-        Reply::All(n) => 4 * (n as u64) + 1,
-        Reply::More(n) => 4 * (n as u64) + 2,
-        Reply::None => 0,
-        Reply::Refused(k) => 4 * (k as u64) + 3,
+        Ok(reply) => match reply {
+            Reply::All(n) => 4 * (n as u64) + 1,
+            Reply::More(n) => 4 * (n as u64) + 2,
+            Reply::None => 0,
+        },
+        Err(refusal) => 4 * u64::from(refusal.number()) + 3,
     }
 }

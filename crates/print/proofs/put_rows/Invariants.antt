@@ -1,9 +1,6 @@
-use Prim.Native.Nat.{◌+◌, ◌*◌, ◌-◌, ◌≤◌}
+use Prim.Native.Nat.{◌+◌, ◌*◌, ◌≤◌}
 use Rattle.print.specs.Text.{Put, printed_rows}
 use Rattle.print.proofs.put_rows.Given as goal
 
 abbrev pub invariant-loop-j : goal.invariant-loop-j
-invariant-loop-j l = (l.j ≤ l.n) × ((l.end ≤ l.at + 344 * l.j) × Put l.initial.out l.out l.at l.end (printed_rows l.rows l.j))
-
-abbrev pub decreases-loop-j : goal.decreases-loop-j
-decreases-loop-j l = l.n - l.j
+invariant-loop-j l = (l.end ≤ l.at + 344 * l.j) × Put l.initial.out l.out l.at l.end (printed_rows l.rows l.j)
