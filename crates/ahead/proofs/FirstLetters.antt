@@ -9,6 +9,7 @@ use lib.ListN.{length, get_or, take, drop, set, replicate, length-set}
 use lib.Seq.{take-nil, get_or-set_same, get_or-set_other}
 use lib.Dec.{T, leb, eqb}
 use borrow.Author.Tests.{eqb-true, ne_eqb}
+use Rattle.std.specs.Prelude.{Option, Some, None, is_some}
 use Rattle.model.specs.Lists.{given, any, every, within, flat_map, is_zero, byte}
 use Rattle.model.specs.Blocks.{Header, record_start}
 use Rattle.model.specs.Lexicon.{entry, form_of, form_length, right_ways, is_entry_of, is_entry}
@@ -27,7 +28,7 @@ use Rattle.rows.specs.declared.Trail.{Trail}
 use Rattle.rows.specs.Trail.{reading_of}
 use Rattle.listing.specs.declared.place.Place.{Place}
 use Rattle.listing.specs.Gather.{grow, gather, steps_from}
-use Rattle.listing.specs.Places.{rest_of, node_of, Took}
+use Rattle.listing.specs.Places.{rest_of, node_of, TookIf}
 use Rattle.listing.specs.Search.{node_at, head_of, entry_one}
 use Rattle.listing.proofs.Gather.{branch, gather_last}
 use Rattle.listing.proofs.Searching.{full_shut, gather_candidates}
@@ -78,15 +79,18 @@ module _ (image : List ℕ) (q : Query) (place : Place) (a : ℕ) where
   left_all k past l n m h = sym (l n m h ∙ any_done (candidates image a) k past (may_at (grammar_of image) q false (node_of image place n m)))
 
 -- one more of them is tried
-module _ {image : List ℕ} {q : Query} {place : Place} {a k p : ℕ} {may : Bool} {next : Place} (c : Candidate image a k p) (took : Took image q place p may next) (left : Left image q place a k) where
-  may_is : (n m : ℕ) → m < 40 → may_at (grammar_of image) q false (node_of image place n m) (get_or (candidates image a) k 0) ≡ may
-  may_is n m h = ap (may_at (grammar_of image) q false (node_of image place n m)) (sym c.this) ∙ sym (took.may_is n m h)
+module _ {image : List ℕ} (q : Query) (place : Place) {a k p : ℕ} (c : Candidate image a k p) (left : Left image q place a k) where
+  this_is : (n m : ℕ) → may_at (grammar_of image) q false (node_of image place n m) (get_or (candidates image a) k 0) ≡ may_at (grammar_of image) q false (node_of image place n m) p
+  this_is n m = ap (may_at (grammar_of image) q false (node_of image place n m)) (sym c.this)
 
-  pub left_more : may ≡ false → Left image q place a (k + 1)
-  left_more f n m h = left n m h ∙ any_on (candidates image a) 0 k c.inside (may_at (grammar_of image) q false (node_of image place n m)) (may_is n m h ∙ f)
+  pub left_more : (r : Option Place) → TookIf image q place p r → is_some r ≡ false → Left image q place a (k + 1)
+  left_more None shut e = λ n m h. left n m h ∙ any_on (candidates image a) 0 k c.inside (may_at (grammar_of image) q false (node_of image place n m)) (this_is n m ∙ shut n m h)
+  left_more (Some next) took e = absurd (true≢false e)
 
-  pub left_found : may ≡ true → (n m : ℕ) → m < 40 → true ≡ starts_at image q (node_of image place n m) a
-  left_found t n m h = sym (left n m h ∙ any_found (candidates image a) 0 k c.inside (may_at (grammar_of image) q false (node_of image place n m)) (may_is n m h ∙ t))
+  pub left_found : (r : Option Place) → TookIf image q place p r → is_some r ≡ true → (n m : ℕ) → m < 40 → true ≡ starts_at image q (node_of image place n m) a
+  left_found None shut e = absurd (true≢false (sym e))
+  left_found (Some next) took e = λ n m h.
+      sym (left n m h ∙ any_found (candidates image a) 0 k c.inside (may_at (grammar_of image) q false (node_of image place n m)) (this_is n m ∙ took.may n m h))
 
 -- what is seen where an entry opens
 module _ (image : List ℕ) (q : Query) (place : Place) (e a : ℕ) where
@@ -227,11 +231,13 @@ module _ (image : List ℕ) (q : Query) (place : Place) (trail : Trail) where
   opened_full a e h = starts_full image q (opened e) a h
 
   -- what is seen of a letter at one entry is known for all that begin with it
-  seen_barren : (e a r : ℕ) → a ≡ head_of ((grammar_of image).form e) → ((n m : ℕ) → m < 40 → r ≡ seen_at image q (node_of image place n m) e a) → r ≡ 1 → Barren image q place trail a
+  seen_barren : (e a r : ℕ) → a ≡ head_of ((grammar_of image).form e) → ((n m : ℕ) → m < 40 → r ≡ seen_at image q (node_of image place n m) e a) → r ≡ 1
+      → Barren image q place trail a
   unfolding seen_at
   seen_barren e a r first seen one x y =
       let n = node_at image place trail in
-      given_none (may_at (grammar_of image) q true n (suc x)) (nothing_found image q (opened x) a letter (opened_head a x y) (go (dec_lt trail.pairs 40)) (pred (steps_from n)) (grow true (reading_of trail) (suc x)))
+      given_none (may_at (grammar_of image) q true n (suc x))
+      (nothing_found image q (opened x) a letter (opened_head a x y) (go (dec_lt trail.pairs 40)) (pred (steps_from n)) (grow true (reading_of trail) (suc x)))
     where
       letter : a ≡ 0 → ⊥
       letter = (one_out a (starts_at image q (go_at (grammar_of image) q true (node_of image place 0 0) (suc e)) a) (sym (seen 0 0 (omega arith)) ∙ one)).0
@@ -247,9 +253,12 @@ module _ {image : List ℕ} {q : Query} {place : Place} {trail : Trail} where
   known_none = record { long = refl; barren = λ a e. absurd (omega (arith, none_known 128 a, e)) }
 
   -- a letter more: r is seen of a, with which entry e begins
-  pub known_more : {known : List ℕ} → Known image q place trail known → (e a r : ℕ) → a < 128 → a ≡ head_of ((grammar_of image).form e) → ((n m : ℕ) → m < 40 → r ≡ seen_at image q (node_of image place n m) e a) → Known image q place trail (set known a r)
+  pub known_more : {known : List ℕ} → Known image q place trail known → (e a r : ℕ) → a < 128 → a ≡ head_of ((grammar_of image).form e)
+      → ((n m : ℕ) → m < 40 → r ≡ seen_at image q (node_of image place n m) e a)
+      → Known image q place trail (set known a r)
   known_more {known} k e a r few first seen = record { long = length-set known a r ∙ k.long; barren = λ b s. go b (ℕ_discrete b a) s }
     where
       go : (b : ℕ) → Dec (b ≡ a) → get_or (set known a r) b 0 ≡ 1 → Barren image q place trail b
-      go b (yes f) s = rw f (seen_barren image q place trail e a r first seen (sym (get_or-set_same known a r 0 (omega (arith, k.long))) ∙ ap (λ (x : ℕ). get_or (set known a r) x 0) (sym f) ∙ s))
+      go b (yes f) s = rw f (seen_barren image q place trail e a r first seen
+          (sym (get_or-set_same known a r 0 (omega (arith, k.long))) ∙ ap (λ (x : ℕ). get_or (set known a r) x 0) (sym f) ∙ s))
       go b (no f) s = k.barren b (sym (get_or-set_other known a b r 0 f) ∙ s)

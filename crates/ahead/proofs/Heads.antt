@@ -14,7 +14,7 @@ use Rattle.model.specs.Blocks.{Header, header}
 use Rattle.model.specs.GrammarOf.{grammar_of}
 use Rattle.model.specs.Readings.{Reading}
 use Rattle.model.specs.Query.{Query}
-use Rattle.model.specs.Tree.{Node, opens, may_at, go_at, complete}
+use Rattle.model.specs.Tree.{Node, opens, go_at, complete}
 use Rattle.image.specs.Index.{candidates}
 use Rattle.rows.specs.declared.Trail.{Trail}
 use Rattle.rows.specs.Trail.{reading_of, with_entry, with_pair, Holds}
@@ -22,7 +22,7 @@ use Rattle.rows.specs.Offering.{offer_all, Keeps}
 use Rattle.rows.proofs.Offering.{offer_append, offer_full}
 use Rattle.listing.specs.declared.place.Place.{Place}
 use Rattle.listing.specs.Gather.{steps_left}
-use Rattle.listing.specs.Places.{root, ended, stops_after, rest_of, with_last, node_of, Standing, Took, OnlyStops}
+use Rattle.listing.specs.Places.{root, ended, stops_after, rest_of, with_last, node_of, Standing, Shut, Took, OnlyStops}
 use Rattle.listing.specs.Opening.{may_enter}
 use Rattle.listing.specs.Search.{node_at, head_of, found_at, entry_one}
 use Rattle.listing.proofs.Loops.{flat_map_places}
@@ -61,7 +61,8 @@ module _ {image index : List ℕ} {h : Header} {place : Place} {trail : Trail} (
   letter_in m = omega (arith, m, ap (λ (g : Header). g.letters) same_header)
 
   -- the path ends here
-  module _ (o : opens_at place ≡ true) (next : Place) (go : (image : List ℕ) (q : Query) (n p : ℕ) → node_of image next n p ≡ go_at (grammar_of image) q true (node_of image place n p) 0) where
+  module _ (o : opens_at place ≡ true) (next : Place)
+      (go : (image : List ℕ) (q : Query) (n p : ℕ) → node_of image next n p ≡ go_at (grammar_of image) q true (node_of image place n p) 0) where
     pub stop_underway : ((image : List ℕ) → Standing image place → Standing image next) → Underway image index h next trail
     stop_underway s = record { accepted = underway.accepted; indexed = underway.indexed; stands = s image underway.stands; short = underway.short }
 
@@ -80,7 +81,8 @@ module _ {image index : List ℕ} {h : Header} {place : Place} {trail : Trail} (
 
   -- what the ending finds, and then what the entries find
   pub open_parts : (q : Query) → opens_at place ≡ true → found_at image q place trail ≡ stop_one image q place trail ++ flat_map (entry_one image q place trail) (below h.entries)
-  open_parts q o = found.open_all image q place trail (opens_here ∙ o) ∙ ap (λ (g : Header). stop_one image q place trail ++ flat_map (entry_one image q place trail) (below g.entries)) same_header
+  open_parts q o =
+      found.open_all image q place trail (opens_here ∙ o) ∙ ap (λ (g : Header). stop_one image q place trail ++ flat_map (entry_one image q place trail) (below g.entries)) same_header
 
   -- with no entry to spare, only what ends; with no pair to spare, only what is complete
   pub open_last : (q : Query) → opens_at place ≡ true → 16 ≤ trail.entries → found_at image q place trail ≡ stop_one image q place trail
@@ -91,10 +93,12 @@ module _ {image index : List ℕ} {h : Header} {place : Place} {trail : Trail} (
     pub stop_fills : opens_at place ≡ true → first ≡ offer_all step s (stop_one image q place trail) → first ≡ offer_all step s (found_at image q place trail)
     stop_fills o f = rw (found.open_all image q place trail (opens_here ∙ o), offer_append, ← f) (sym (offer_full step keeps first _ full))
 
-    pub end_fills : opens_at place ≡ false → first ≡ offer_all step s (given (complete (grammar_of image) q (node_at image place trail)) (reading_of trail ∷ [])) → first ≡ offer_all step s (found_at image q place trail)
+    pub end_fills : opens_at place ≡ false → first ≡ offer_all step s (given (complete (grammar_of image) q (node_at image place trail)) (reading_of trail ∷ []))
+        → first ≡ offer_all step s (found_at image q place trail)
     end_fills o f = let b = found.pair_begins image q place trail (opens_here ∙ o) in rw (b.1, offer_append, ← f) (sym (offer_full step keeps first b.0 full))
 
-  pub pair_last : (q : Query) → opens_at place ≡ false → 40 ≤ trail.pairs → found_at image q place trail ≡ given (complete (grammar_of image) q (node_at image place trail)) (reading_of trail ∷ [])
+  pub pair_last : (q : Query) → opens_at place ≡ false → 40 ≤ trail.pairs
+      → found_at image q place trail ≡ given (complete (grammar_of image) q (node_at image place trail)) (reading_of trail ∷ [])
   pair_last q o = found.pair_full image q place trail (opens_here ∙ o)
 
 -- where no entry opens, with the entry that is open there, or the path ended: what is found is the same, and no more steps are left
@@ -126,7 +130,14 @@ module _ {image index : List ℕ} {h : Header} {place : Place} {trail : Trail} (
       rw (le-leb place.to place.from l, ne_eqb place.last ended (λ e. omega arith)) refl
 
   pub settled_over : (q : Query) → place.to ≤ place.from → (place.last ≡ ended) ⊎ OnlyStops image place.last → Settled image index h place trail ended
-  settled_over q l (inl e) = record { underway = over_underway; shut = over_shut; same = λ q. ap (λ (p : Place). found_at image q p trail) (ended_already e); no_more = omega (arith, ap (λ (p : Place). steps_after p trail) (ended_already e)) }
+  settled_over q l (inl e) =
+      record {
+        underway = over_underway;
+        shut = over_shut;
+        same = λ q. ap (λ (p : Place). found_at image q p trail) (ended_already e);
+        no_more = omega
+            (arith, ap (λ (p : Place). steps_after p trail) (ended_already e));
+      }
   settled_over q l (inr only) =
       let o = only_opens l only in
       let go = stopped_node place in
@@ -162,7 +173,8 @@ module _ {image index : List ℕ} {h : Header} {place : Place} {trail : Trail} (
   entry_none_lem q = found.entry_none_lem image q place trail o.spare
 
   -- entry e opens
-  module _ (e : ℕ) {longer : Trail} (holds : Holds longer (with_entry (reading_of trail) e) (trail.entries + 1) trail.pairs) (next : Place) (go : (q : Query) (n p : ℕ) → node_of image next (suc n) p ≡ go_at (grammar_of image) q true (node_of image place n p) (suc e)) where
+  module _ (e : ℕ) {longer : Trail} (holds : Holds longer (with_entry (reading_of trail) e) (trail.entries + 1) trail.pairs) (next : Place)
+      (go : (q : Query) (n p : ℕ) → node_of image next (suc n) p ≡ go_at (grammar_of image) q true (node_of image place n p) (suc e)) where
     pub open_underway : Standing image next → Underway image index h next longer
     open_underway s = record { accepted = o.underway.accepted; indexed = o.underway.indexed; stands = s; short = holds.short }
 
@@ -188,7 +200,8 @@ pub record Pairing (image index : List ℕ) (h : Header) (place : Place) (trail 
   pub in_letters : a ≤ h.letters
 
 module _ {image index : List ℕ} {h : Header} {place : Place} {trail : Trail} {a : ℕ} (o : Pairing image index h place trail a) where
-  pub pair_found : (q : Query) → found_at image q place trail ≡ given (complete (grammar_of image) q (node_at image place trail)) (reading_of trail ∷ []) ++ flat_map (candidate_one image q place trail a) (below (length (candidates image a)))
+  pub pair_found : (q : Query) → found_at image q place trail
+      ≡ given (complete (grammar_of image) q (node_at image place trail)) (reading_of trail ∷ []) ++ flat_map (candidate_one image q place trail a) (below (length (candidates image a)))
   pair_found q =
       found.pair_all image q place trail o.spare (opens_here o.underway ∙ o.shut)
       ∙ ap (λ (l : List Reading). given (complete (grammar_of image) q (node_at image place trail)) (reading_of trail ∷ []) ++ l)
@@ -202,21 +215,18 @@ module _ {image index : List ℕ} {h : Header} {place : Place} {trail : Trail} {
   pair_offered q step s f g = rw (pair_found q, offer_append, ← f) g
 
   -- candidate k is tried
-  module _ {q : Query} {k p : ℕ} {may : Bool} {next : Place} (c : Candidate image a k p) (took : Took image q place p may next) where
-    may_is : may ≡ may_at (grammar_of image) q false (node_at image place trail) p
-    may_is = took.may_is trail.entries trail.pairs o.spare
-
-    pub pair_none : may ≡ false → candidate_one image q place trail a k ≡ []
-    pair_none f = ap (pair_one image q place trail) (sym c.this) ∙ found.pair_skip image q place trail o.spare p (sym may_is ∙ f)
+  module _ {k p : ℕ} (c : Candidate image a k p) where
+    pub pair_none : (q : Query) → Shut image q place p → candidate_one image q place trail a k ≡ []
+    pair_none q shut = ap (pair_one image q place trail) (sym c.this) ∙ found.pair_skip image q place trail o.spare p (shut trail.entries trail.pairs o.spare)
 
     -- and is taken
-    module _ (t : may ≡ true) {longer : Trail} (holds : Holds longer (with_pair (reading_of trail) p) trail.entries (trail.pairs + 1)) where
+    module _ {q : Query} {next : Place} (took : Took image q place p next) {longer : Trail} (holds : Holds longer (with_pair (reading_of trail) p) trail.entries (trail.pairs + 1)) where
       pub pair_underway : Underway image index h next longer
-      pair_underway = record { accepted = o.underway.accepted; indexed = o.underway.indexed; stands = took.stands t; short = holds.short }
+      pair_underway = record { accepted = o.underway.accepted; indexed = o.underway.indexed; stands = took.stands; short = holds.short }
 
       same_ended : eqb next.last ended ≡ eqb place.last ended
       unfolding node_of go_at
-      same_ended = ap (λ (n : Node). n.ended) (took.node_is t 0 0)
+      same_ended = ap (λ (n : Node). n.ended) (took.node_is 0 0)
 
       pub pair_less : steps_after place trail ≡ suc (steps_after next longer)
       pair_less = rw same_ended (go (eqb place.last ended))
@@ -227,7 +237,7 @@ module _ {image index : List ℕ} {h : Header} {place : Place} {trail : Trail} {
 
       pub pair_turn : found_at image q next longer ≡ candidate_one image q place trail a k
       pair_turn =
-          found.pair_one_lem image q place trail o.spare p next longer (sym may_is ∙ t)
-          (ap₂ (node_of image next) holds.entries_are (holds.pairs_are ∙ add-one trail.pairs) ∙ took.node_is t trail.entries trail.pairs)
+          found.pair_one_lem image q place trail o.spare p next longer (took.may trail.entries trail.pairs o.spare)
+          (ap₂ (node_of image next) holds.entries_are (holds.pairs_are ∙ add-one trail.pairs) ∙ took.node_is trail.entries trail.pairs)
           holds.reading
           ∙ ap (pair_one image q place trail) c.this

@@ -2,34 +2,29 @@
 use Prim.Native.Nat.{ℕ, zero, suc, ◌+◌, ◌<◌, ◌≤◌}
 use native.Mathlib.Omega.{arith}
 use native.Mathlib.Decide.{dec_lt, ℕ_discrete}
-use mathlib.Core.Bool.{Bool, true, false}
+use mathlib.Core.Bool.{Bool}
 use mathlib.Core.Path.{◌≡◌, refl, sym, ap, ap₂, ◌∙◌, subst}
 use mathlib.Core.List.{List, [], ◌∷◌, ◌++◌, append-nil}
 use lib.ListN.{length, get_or}
 use Rattle.model.specs.Lists.{below, given, flat_map}
-use Rattle.model.specs.Blocks.{Header}
+use Rattle.model.specs.Blocks.{Header, header}
 use Rattle.model.specs.Query.{Query}
 use Rattle.model.proofs.Lists.{flat_map_below}
 use Rattle.image.specs.Index.{candidates}
 use Rattle.rows.specs.declared.Trail.{Trail}
 use Rattle.rows.specs.Trail.{reading_of, with_pair, Holds}
 use Rattle.listing.specs.declared.place.Place.{Place}
-use Rattle.listing.specs.Places.{rest_of, Took}
+use Rattle.listing.specs.Places.{rest_of, Shut, Took}
 use Rattle.listing.specs.Search.{head_of, found_at}
 use Rattle.listing.proofs.Loops.{below_low}
 use Rattle.listing.proofs.Searching as found
 use Rattle.ahead.specs.Here.{steps_after, Underway}
-use Rattle.ahead.specs.Forced.{Shut, TriedOf}
+use Rattle.ahead.specs.declared.forced.Tried.{Tried}
+use Rattle.ahead.specs.declared.forced.Tried.TheVariants as tried
+use Rattle.ahead.specs.Forced.{Sole, TriedOf}
 use Rattle.ahead.proofs.Candidates.{Candidate}
 use Rattle.ahead.proofs.Standing.{not_ended, head_most}
 use Rattle.ahead.proofs.Heads.{Pairing, candidate_one, settled_left, letter_in, pair_last, pair_found, pair_underway, pair_less, pair_turn}
-
--- a pair that was not taken
-pub took_shut : {image : List ℕ} {q : Query} {place next : Place} {p : ℕ} {may : Bool} → Took image q place p may next → may ≡ false → Shut image q place p
-took_shut took e n m h = sym (took.may_is n m h) ∙ e
-
-pub took_open : {image : List ℕ} {q : Query} {place next : Place} {p : ℕ} {may : Bool} → Took image q place p may next → may ≡ true → Took image q place p true next
-took_open {image} {q} {place} {next} {p} took e = subst (λ (b : Bool). Took image q place p b next) e took
 
 before_or_here : {k i : ℕ} (P : ℕ → Type 0) → (i < k → P i) → P k → i < k + 1 → P i
 before_or_here {k} {i} P a b h = go (dec_lt i k)
@@ -39,29 +34,25 @@ before_or_here {k} {i} P a b h = go (dec_lt i k)
     go (no l) = let e : k ≡ i = omega arith in subst P e b
 
 -- one candidate after the other is tried
-module _ {image : List ℕ} {q : Query} {place : Place} {cs : List ℕ} where
-  pub tried_first : {p : ℕ} {next : Place} → TriedOf image q place cs 0 0 p next
-  tried_first = record { few = omega arith; none = λ e i h. absurd (omega arith); one = λ e. absurd (omega arith) }
+module _ (image : List ℕ) (q : Query) (place : Place) (cs : List ℕ) where
+  pub tried_first : TriedOf image q place cs 0 tried.Nothing
+  tried_first i h = absurd (omega arith)
 
-  pub tried_shut : {k many p : ℕ} {next : Place} → TriedOf image q place cs k many p next → Shut image q place (get_or cs k 0) → TriedOf image q place cs (k + 1) many p next
-  tried_shut {k} {many} {p} {next} t s = record {
-    few = t.few;
-    none = λ e i h. before_or_here (λ i. Shut image q place (get_or cs i 0)) (t.none e i) s h;
-    one = λ e. let u = t.one e in (u.0, (omega (arith, u.1.0), (u.1.1.0, (u.1.1.1.0, λ i h d. before_or_here (λ i. Shut image q place (get_or cs i 0)) (λ l. u.1.1.1.1 i l d) s h))));
+  pub tried_shut : (k : ℕ) (t : Tried) → TriedOf image q place cs k t → Shut image q place (get_or cs k 0) → TriedOf image q place cs (k + 1) t
+  tried_shut k tried.Nothing none s = λ i h. before_or_here (λ i. Shut image q place (get_or cs i 0)) (none i) s h
+  tried_shut k (tried.One p next) sole s = record {
+    at = sole.at;
+    at_in = omega (arith, sole.at_in);
+    this = sole.this;
+    is_pair = sole.is_pair;
+    took = sole.took;
+    others = λ i h d. before_or_here (λ i. Shut image q place (get_or cs i 0)) (λ l. sole.others i l d) s h;
   }
+  tried_shut k tried.Several t s = tt
 
-  pub tried_took : {k p p' : ℕ} {next next' : Place} → TriedOf image q place cs k 0 p next → p' ≡ get_or cs k 0 → Took image q place p' true next' → TriedOf image q place cs (k + 1) 1 p' next'
-  tried_took {k} t e took = record {
-    few = omega arith;
-    none = λ z. absurd (omega arith);
-    one = λ z. (k, (omega arith, (e, (took, λ i h d. t.none refl i (omega arith)))));
-  }
-
-  pub tried_is : {k many many' p p' : ℕ} {next next' : Place} → TriedOf image q place cs k many p next → next' ≡ next → p' ≡ p → many' ≡ many → TriedOf image q place cs k many' p' next'
-  tried_is t e1 e2 e3 = rw (e1, e2, e3) t
-
-  pub tried_two : {k p : ℕ} {next : Place} → TriedOf image q place cs k 2 p next
-  tried_two = record { few = omega arith; none = λ e. absurd (omega arith); one = λ e. absurd (omega arith) }
+  pub tried_took : (k : ℕ) {p : ℕ} {next : Place} → TriedOf image q place cs k tried.Nothing → p ≡ get_or cs k 0 → p < (header image).pairs → Took image q place p next
+      → TriedOf image q place cs (k + 1) (tried.One p next)
+  tried_took k none e inside took = record { at = k; at_in = omega arith; this = e; is_pair = inside; took = took; others = λ i h d. none i (omega arith) }
 
 -- of many numbers one finds something
 below_one : {B : Type 0} (f : ℕ → List B) (m j : ℕ) → j < m → ((i : ℕ) → i < m → (i ≡ j → ⊥) → f i ≡ []) → flat_map f (below m) ≡ f j
@@ -75,32 +66,32 @@ below_one {B} f (suc m) j h e = flat_map_below f m ∙ go (ℕ_discrete j m) (be
 module _ {image index : List ℕ} {h : Header} {place : Place} {trail : Trail} {a : ℕ} (o : Pairing image index h place trail a) (left : place.from < place.to) (q : Query) where
   -- nothing ends while a letter is left
   by_candidates : found_at image q place trail ≡ flat_map (candidate_one image q place trail a) (below (length (candidates image a)))
-  by_candidates = pair_found o q ∙ ap (λ (b : Bool). given b (reading_of trail ∷ []) ++ flat_map (candidate_one image q place trail a) (below (length (candidates image a)))) (not_ended image place o.underway.stands q trail.entries trail.pairs left)
+  by_candidates =
+      pair_found o q
+      ∙ ap (λ (b : Bool). given b (reading_of trail ∷ []) ++ flat_map (candidate_one image q place trail a) (below (length (candidates image a))))
+      (not_ended image place o.underway.stands q trail.entries trail.pairs left)
 
   shut_none : (i : ℕ) → Shut image q place (get_or (candidates image a) i 0) → candidate_one image q place trail a i ≡ []
   shut_none i s = found.pair_skip image q place trail o.spare (get_or (candidates image a) i 0) (s trail.entries trail.pairs o.spare)
 
-  module _ {p : ℕ} {next : Place} where
-    pub tried_over : TriedOf image q place (candidates image a) (length (candidates image a)) 0 p next → found_at image q place trail ≡ []
-    tried_over t = by_candidates ∙ below_low (candidate_one image q place trail a) (length (candidates image a)) (length (candidates image a)) (λ i l. shut_none i (t.none refl i l)) (omega arith)
+  pub tried_over : TriedOf image q place (candidates image a) (length (candidates image a)) tried.Nothing → found_at image q place trail ≡ []
+  tried_over none = by_candidates ∙ below_low (candidate_one image q place trail a) (length (candidates image a)) (length (candidates image a)) (λ i l. shut_none i (none i l)) (omega arith)
 
-    module _ (t : TriedOf image q place (candidates image a) (length (candidates image a)) 1 p next) {longer : Trail} (holds : Holds longer (with_pair (reading_of trail) p) trail.entries (trail.pairs + 1)) where
-      one : (j : ℕ) × ((j < length (candidates image a)) × ((p ≡ get_or (candidates image a) j 0) × (Took image q place p true next × ((i : ℕ) → i < length (candidates image a) → (i ≡ j → ⊥) → Shut image q place (get_or (candidates image a) i 0)))))
-      one = t.one refl
+  module _ {p : ℕ} {next : Place} (sole : Sole image q place (candidates image a) (length (candidates image a)) p next) {longer : Trail}
+      (holds : Holds longer (with_pair (reading_of trail) p) trail.entries (trail.pairs + 1)) where
+    this : Candidate image a sole.at p
+    this = record { inside = sole.at_in; this = sole.this }
 
-      this : Candidate image a one.0 p
-      this = record { inside = one.1.0; this = one.1.1.0 }
+    pub tried_on : found_at image q next longer ≡ found_at image q place trail
+    tried_on =
+        pair_turn o this sole.took holds
+        ∙ sym (by_candidates ∙ below_one (candidate_one image q place trail a) (length (candidates image a)) sole.at sole.at_in (λ i l d. shut_none i (sole.others i l d)))
 
-      pub tried_on : found_at image q next longer ≡ found_at image q place trail
-      tried_on =
-          pair_turn o this one.1.1.1.0 refl holds
-          ∙ sym (by_candidates ∙ below_one (candidate_one image q place trail a) (length (candidates image a)) one.0 one.1.0 (λ i l d. shut_none i (one.1.1.1.1 i l d)))
+    pub tried_underway : Underway image index h next longer
+    tried_underway = pair_underway o this sole.took holds
 
-      pub tried_underway : Underway image index h next longer
-      tried_underway = pair_underway o this one.1.1.1.0 refl holds
-
-      pub tried_less : steps_after place trail ≡ suc (steps_after next longer)
-      tried_less = pair_less o this one.1.1.1.0 refl holds
+    pub tried_less : steps_after place trail ≡ suc (steps_after next longer)
+    tried_less = pair_less o this sole.took holds
 
 -- where a letter is left
 module _ {image index : List ℕ} {h : Header} {place : Place} {trail : Trail} (underway : Underway image index h place trail) (left : place.from < place.to) where

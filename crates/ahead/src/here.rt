@@ -28,10 +28,7 @@ pub fn goes_on(image: &[u8], h: Header, place: Place) -> bool
     ensures on { result ≡ true → opens_at place ≡ true }
     ensures over { result ≡ false → (place.last ≡ ended) ⊎ OnlyStops image.now place.last }
 {
-    if place.last == ENDED {
-        return false;
-    }
-    !listing::place::only_stops(image, h, place)
+    place.last != ENDED && !listing::place::only_stops(image, h, place)
 }
 
 // Offers the reading that ends where every letter is paired and the path has ended, where one does.
@@ -64,9 +61,8 @@ pub fn next_letter(image: &[u8], place: Place) -> Lexical
     requires { Standing image.now place }
     ensures { (result.0 ≡ head_of (rest_of image.now place)) × (result.0 ≤ (header image.now).letters) }
 {
-    let from = place.from;
-    if from < place.to {
-        return letters::lexical_at(image, from);
+    if place.from < place.to {
+        return letters::lexical_at(image, place.from);
     }
     Lexical(0)
 }

@@ -41,14 +41,12 @@ fn can_start(
     ensures { (t : Pattern) (n m : ℕ) → m < 40 → result ≡ starts_at image.now (word_query asked word.now t) (node_of image.now place n m) letter.0 }
 {
     let many = crate::here::candidate_count(image, index, h, letter);
-    let mut k: usize = 0;
-    while k < many {
+    for k in 0..many {
         let p = crate::here::candidate(image, index, h, letter, k);
         let taken = listing::pairing::take(image, index, h, asked, word, place, place.last, p);
-        if taken.may {
+        if taken.is_some() {
             return true;
         }
-        k += 1;
     }
     false
 }

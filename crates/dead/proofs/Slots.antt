@@ -6,7 +6,7 @@ use native.Mathlib.Omega.{arith}
 use mathlib.Core.Path.{◌≡◌, sym, ap, ◌∙◌, subst}
 use mathlib.Core.List.{List, ◌++◌, append_assoc}
 use lib.ListN.{length, take, drop, length-append, length-take, length-drop, take-append-drop}
-use lib.Seq.{length-take-le, take_at, drop_at, take-append-le, drop-append-le, drop-append-add}
+use lib.Seq.{take_at, drop_at, take-append-le, drop-append-le, drop-append-add}
 use Rattle.model.specs.Lists.{part}
 use Rattle.model.specs.Query.{Query}
 use Rattle.listing.specs.declared.place.Place.{Place}
@@ -16,10 +16,6 @@ use Rattle.dead.proofs.Keys.{same_node, dead_same}
 -- a table with another slot j
 abbrev pub stored : ℕ → List ℕ → ℕ → List ℕ → List ℕ
 stored w table j key = take (w * j) table ++ (key ++ drop w (drop (w * j) table))
-
--- a part of a table from here on, as the code takes it
-pub room_long : (table : List ℕ) (w at : ℕ) → at + w ≤ length table → length (take ((at + w) - at) (drop at table)) ≡ w
-room_long table w at h = simp (length-take, length-drop) (omega arith)
 
 module _ (w : ℕ) where
   -- slots lie one after the other
@@ -80,38 +76,25 @@ module _ (image : List ℕ) (q : Query) where
   unfolding Remembered
   no_slot table h large = absurd (omega arith)
 
-  -- slot k is looked at for a node, whose numbers the key begins with
+  -- slot k is looked at for a node, whose numbers are the key
   module _ (table : List ℕ) (k : ℕ) (large : 40 ≤ length table) (inside : w * k + w ≤ length table)
-      (place : Place) (entries pairs : ℕ) (key : List ℕ) (is : KeyOf image place entries pairs (take w key)) where
-    slot_long : length (part w table k) ≡ w
-    slot_long = simp (length-take, length-drop) (omega arith)
-
-    -- as much of the key as the slot has room for: the node's numbers
-    abbrev new : List ℕ
-    new = take (length (part w table k)) key
-
-    as_key : KeyOf image place entries pairs new
-    as_key = subst (KeyOf image place entries pairs) (ap (λ (n : ℕ). take n key) (sym slot_long)) is
-
+      (place : Place) (entries pairs : ℕ) (key : List ℕ) (is : KeyOf image place entries pairs key) where
     -- what a slot has is remembered
-    pub recalled : part w table k ≡ new → Remembered image q table → DeadAt image q place entries pairs
+    pub recalled : part w table k ≡ key → Remembered image q table → DeadAt image q place entries pairs
     unfolding Remembered
-    recalled e known = known large k inside place entries pairs (subst (KeyOf image place entries pairs) (sym e) as_key)
+    recalled e known = known large k inside place entries pairs (subst (KeyOf image place entries pairs) (sym e) is)
 
     -- a dead node's numbers may be stored in any slot
-    pub remembers : w ≤ length key → Remembered image q table → DeadAt image q place entries pairs → Remembered image q (stored w table k new)
+    pub remembers : length key ≡ w → Remembered image q table → DeadAt image q place entries pairs → Remembered image q (stored w table k key)
     unfolding Remembered
-    remembers enough known dead _ i fits other es ps e = go (ℕ_discrete i k) (dec_lt i k)
+    remembers long known dead _ i fits other es ps e = go (ℕ_discrete i k) (dec_lt i k)
       where
-        long : length new ≡ w
-        long = length-take-le (length (part w table k)) key (omega (arith, slot_long)) ∙ slot_long
-
         fits' : w * i + w ≤ length table
-        fits' = omega (arith, length_stored w table new k inside long)
+        fits' = omega (arith, length_stored w table key k inside long)
 
         go : Dec (i ≡ k) → Dec (i < k) → DeadAt image q other es ps
         go (yes at) h =
-            let same : new ≡ part w (stored w table k new) i = sym (slot_stored w table new k inside long) ∙ ap (part w (stored w table k new)) (sym at) in
-            dead_same image place other entries es pairs ps q (same_node image place other entries es pairs ps as_key (subst (KeyOf image other es ps) (sym same) e)) dead
-        go (no at) (yes h) = known large i fits' other es ps (subst (KeyOf image other es ps) (slot_before w table new k inside long i h) e)
-        go (no at) (no h) = known large i fits' other es ps (subst (KeyOf image other es ps) (slot_after w table new k inside long i (omega arith)) e)
+            let same : key ≡ part w (stored w table k key) i = sym (slot_stored w table key k inside long) ∙ ap (part w (stored w table k key)) (sym at) in
+            dead_same image place other entries es pairs ps q (same_node image place other entries es pairs ps is (subst (KeyOf image other es ps) (sym same) e)) dead
+        go (no at) (yes h) = known large i fits' other es ps (subst (KeyOf image other es ps) (slot_before w table key k inside long i h) e)
+        go (no at) (no h) = known large i fits' other es ps (subst (KeyOf image other es ps) (slot_after w table key k inside long i (omega arith)) e)

@@ -46,20 +46,10 @@ fn left_by(bits: u64, stop: bool) -> Left
     ensures { result ≡ set_left bits stop }
 {
     let high = bits / 32768;
-    let last = (2 * (high / 32768)) as usize;
-    let from = (32768 + high % 32768) as usize;
-    let to = (bits % 32768) as usize;
-    if stop {
-        return Left {
-            from: from,
-            to: to,
-            last: last + 1,
-        };
-    }
     Left {
-        from: from,
-        to: to,
-        last: last,
+        from: (32768 + high % 32768) as usize,
+        to: (bits % 32768) as usize,
+        last: (2 * (high / 32768)) as usize + usize::from(stop),
     }
 }
 
@@ -68,17 +58,14 @@ fn left_of(image: &[u8], h: Header, place: Place) -> Left
     requires standing { Standing image.now place }
     ensures { Tells image.now place result }
 {
-    let last = place.last;
-    if place.from < place.to {
-        return Left {
-            from: place.from,
-            to: place.to,
-            last: last,
-        };
+    let Place { from, to, last, .. } = place;
+    if from < to {
+        return Left { from, to, last };
     }
     if last < ENDED {
         let ways = lexicon::ways::ways_of(image, h, last);
         let way = lexicon::ways::sole_way(ways);
+        // `sole_way` answers 254 where it names no sole way.
         if way != 254 {
             return Left {
                 from: 1,
@@ -86,9 +73,8 @@ fn left_of(image: &[u8], h: Header, place: Place) -> Left
                 last: way,
             };
         }
-        let bits = ways.bits;
-        if bits < 35184372088832 {
-            return left_by(bits, ways.stop);
+        if ways.bits < 35184372088832 {
+            return left_by(ways.bits, ways.stop);
         }
         return Left {
             from: 1,
@@ -99,7 +85,7 @@ fn left_of(image: &[u8], h: Header, place: Place) -> Left
     Left {
         from: 0,
         to: 0,
-        last: last,
+        last,
     }
 }
 
@@ -111,8 +97,6 @@ fn key_of(image: &[u8], h: Header, place: Place, entries: usize, pairs: usize) -
     ensures { KeyOf image.now place entries pairs (take (width_of image.now) result) }
 {
     let left = left_of(image, h, place);
-    let surface = place.surface;
-    let rules = h.rules;
     let mut key = [0usize; 40];
     key[0] = pairs + 1;
     key[1] = entries;
@@ -120,13 +104,11 @@ fn key_of(image: &[u8], h: Header, place: Place, entries: usize, pairs: usize) -
     key[3] = left.to;
     key[4] = left.last;
     key[5] = place.nulls;
-    key[6] = surface.letters;
-    key[7] = surface.nulls;
-    let mut i = 0;
-    while i < rules {
-        let state = place.states[i];
-        key[i + 8] = state as usize;
-        i += 1;
+    key[6] = place.surface.letters;
+    key[7] = place.surface.nulls;
+    // An index: each turn reads a place of one array and writes one of the other.
+    for i in 0..h.rules {
+        key[i + 8] = usize::from(place.states[i]);
     }
     key
 }
@@ -139,45 +121,28 @@ fn mix(x: usize, y: usize) -> usize
     (x + y % 65536) * 2654435769 / 65536 % 4294967296
 }
 
-fn hash_of(key: &[usize; 40], width: usize) -> usize
-    requires { width ≤ 40 }
-{
+fn hash_of(key: &[usize]) -> usize {
     let mut x = 0;
-    let mut n = 0;
-    while n < width {
-        x = mix(x, key[n]);
-        n += 1;
+    for &n in key {
+        x = mix(x, n);
     }
     x
 }
 
-// Which slot of a table of this size is the node's.
-fn slot_of(size: usize, width: usize, key: &[usize; 40]) -> usize
-    requires { (1 ≤ width) × ((width ≤ 40) × (width ≤ size)) }
-    ensures { width * result + width ≤ size }
+// Which slot of a table of this size is the node's. A slot is as wide as its key.
+fn slot_of(size: usize, key: &[usize]) -> usize
+    requires { (1 ≤ length key.now) × (length key.now ≤ size) }
+    ensures { length key.now * result + length key.now ≤ size }
 {
-    hash_of(key, width) % (size / width)
-}
-
-fn wide(x: u16) -> usize
-    ensures { result ≡ x }
-{
-    x as usize
+    hash_of(key) % (size / key.len())
 }
 
 // Whether the slot has the node's numbers, each of them.
-fn same(slot: &[u16], key: &[usize; 40]) -> bool
-    requires { (length slot.now ≤ 40) × (length key.now ≡ 40) }
-    ensures { result ≡ true → slot.now ≡ take (length slot.now) key.now }
+fn same(slot: &[u16], key: &[usize]) -> bool
+    requires { length slot.now ≡ length key.now }
+    ensures { result ≡ true → slot.now ≡ key.now }
 {
-    let mut k = 0;
-    while k < slot.len() {
-        if wide(slot[k]) != key[k] {
-            return false;
-        }
-        k += 1;
-    }
-    true
+    slot.iter().zip(key).all(|(&x, &n)| usize::from(x) == n)
 }
 
 // Whether the node's slot has its numbers.
@@ -194,11 +159,10 @@ fn recall(
     requires in_bounds { (40 ≤ length table.now) × (pairs ≤ 40) }
     ensures { (q : Query) → Remembered image.now q table.now → result ≡ true → DeadAt image.now q place entries pairs }
 {
-    let key = key_of(image, h, place, entries, pairs);
-    let width = 8 + h.rules;
-    let at = width * slot_of(table.len(), width, &key);
-    let to = at + width;
-    same(&table[at..to], &key)
+    let numbers = key_of(image, h, place, entries, pairs);
+    let key = &numbers[..8 + h.rules];
+    let at = key.len() * slot_of(table.len(), key);
+    same(&table[at..at + key.len()], key)
 }
 
 // Whether nothing is found from this node, as far as the table tells.
@@ -215,35 +179,24 @@ pub fn is_dead(
     requires pairs_bound { pairs ≤ 40 }
     ensures { (q : Query) → Remembered image.now q table.now → result ≡ true → DeadAt image.now q place entries pairs }
 {
-    if table.len() < 40 {
-        return false;
-    }
-    recall(image, h, table, place, entries, pairs)
+    40 <= table.len() && recall(image, h, table, place, entries, pairs)
 }
 
 // Whether the table has room for each of the numbers.
-fn is_narrow(key: &[usize; 40], width: usize) -> bool
-    requires { width ≤ 40 }
-    ensures { result ≡ true → Narrow width key.now }
+fn is_narrow(key: &[usize]) -> bool
+    ensures { result ≡ true → Narrow (length key.now) key.now }
 {
-    let mut j = 0;
-    while j < width {
-        if 65535 < key[j] {
-            return false;
-        }
-        j += 1;
-    }
-    true
+    key.iter().all(|&n| n < 65536)
 }
 
-fn store(slot: &mut [u16], key: &[usize; 40])
-    requires { (length slot.old ≤ 40) × ((length key.now ≡ 40) × Narrow (length slot.old) key.now) }
-    ensures { slot.new ≡ take (length slot.old) key.now }
+fn store(slot: &mut [u16], key: &[usize])
+    requires long { length slot.old ≡ length key.now }
+    requires narrow { Narrow (length key.now) key.now }
+    ensures { slot.new ≡ key.now }
 {
-    let mut at = 0;
-    while at < slot.len() {
+    // An index: each turn reads a place of one list and writes the same of the other.
+    for at in 0..slot.len() {
         slot[at] = key[at] as u16;
-        at += 1;
     }
 }
 
@@ -254,14 +207,13 @@ fn keep(image: &[u8], h: Header, table: &mut [u16], place: Place, entries: usize
     requires in_bounds { (40 ≤ length table.old) × (pairs ≤ 40) }
     ensures { (q : Query) → Remembered image.now q table.old → DeadAt image.now q place entries pairs → Remembered image.now q table.new }
 {
-    let key = key_of(image, h, place, entries, pairs);
-    let width = 8 + h.rules;
-    if !is_narrow(&key, width) {
+    let numbers = key_of(image, h, place, entries, pairs);
+    let key = &numbers[..8 + h.rules];
+    if !is_narrow(key) {
         return;
     }
-    let at = width * slot_of(table.len(), width, &key);
-    let to = at + width;
-    store(&mut table[at..to], &key);
+    let at = key.len() * slot_of(table.len(), key);
+    store(&mut table[at..at + key.len()], key);
 }
 
 // A node from which nothing is found is kept, where there is a slot.

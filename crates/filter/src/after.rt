@@ -17,15 +17,13 @@ fn over_ways(image: &[u8], h: Header, reach: &[u64], e: usize) -> u64
     ensures { Means result (λ k. T (after_in image.now (reach_of reach.now) e k)) }
 {
     let ways = lexicon::ways::ways_of(image, h, e);
-    let mut m: u64 = 0;
-    if ways.stop {
-        m = reach[64];
-    }
+    let mut m = if ways.stop { reach[64] } else { 0 };
     let mut rest = ways.bits;
+    // Not counted: each turn takes the lowest lexicon that is left from the set.
     while rest != 0 {
         let x = digits::lowest(rest);
         rest = digits::without(rest, x);
-        m = m | reach[x];
+        m |= reach[x];
     }
     m
 }

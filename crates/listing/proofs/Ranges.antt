@@ -1,10 +1,9 @@
 -- The entries that may open at a place, as a range and a set of lexicons, and the next of them.
-use Prim.Native.Nat.{ℕ, ◌+◌, ◌*◌, ◌-◌, ◌/◌, ◌^◌, ◌<◌, ◌≤◌}
+use Prim.Native.Nat.{ℕ, ◌+◌, ◌*◌, ◌-◌, ◌/◌, ◌^◌, ◌<◌, ◌≤◌, max}
 use native.Mathlib.Omega.{arith}
 use native.Mathlib.Decide.{ℕ_discrete, dec_lt}
 use mathlib.Core.Bool.{Bool, true, false, ◌&&◌, not}
 use mathlib.Core.Path.{◌≡◌, refl, sym, ap, ap₂, ◌∙◌, subst}
-use mathlib.Core.Logic.{◌⊎◌, ⊎_elim}
 use mathlib.Core.List.{List}
 use lib.ListN.{length, get_or}
 use lib.Dec.{T, ltb, eqb, eqb→eq}
@@ -97,13 +96,13 @@ module _ (image : List ℕ) (lexicons : ℕ) where
           omega (arith, ap (first_entry image) same)
 
 -- lexicon x is passed over from a number on: that is not before its end, or it has no entry
-pub passed_over : (image : List ℕ) (x from low high first : ℕ) → low ≡ first_entry image x → high ≡ first_entry image x + entry_count image x → high ≤ first
-    → (first ≡ from) ⊎ (first ≡ low) → (e : ℕ) → from ≤ e → in_lexicon image x e ≡ false
-passed_over image x from low high first e1 e2 h is e k = go (dec_lt e (first_entry image x))
+pub passed_over : (image : List ℕ) (x from low high first : ℕ) → low ≡ first_entry image x → high ≡ first_entry image x + entry_count image x → first ≡ max from low → high ≤ first
+    → (e : ℕ) → from ≤ e → in_lexicon image x e ≡ false
+passed_over image x from low high first e1 e2 is h e k = go (dec_lt e (first_entry image x))
   where
     go : Dec (e < first_entry image x) → in_lexicon image x e ≡ false
     go (yes l) = below_range image x e l
-    go (no l) = past_range image x e (⊎_elim (λ s. omega arith) (λ s. omega arith) is)
+    go (no l) = past_range image x e (omega arith)
 
 -- the same, by another test with the same answers from a number on
 module _ {image : List ℕ} {may other : ℕ → Bool} where
@@ -169,10 +168,10 @@ module _ (image : List ℕ) (h : Header) (a : Accepted image h) (bits rest from 
       nothing k = ap (λ (n : ℕ). in_some image lexicons n k) none ∙ some_none image lexicons k
 
   pub set_found : Known rest lexicons → (x : ℕ) → Lowest rest x → (low high first : ℕ) → low ≡ first_entry image x → high ≡ first_entry image x + entry_count image x
-      → from ≤ first → low ≤ first → (first ≡ from) ⊎ (first ≡ low) → first < high
+      → first ≡ max from low → first < high
       → NextWays image (in_some image lexicons bits) from (record { entry = first; ways = record { low = first; high = high; rest = rest - 2 ^ x } })
-  set_found known x lowest low high first e1 e2 k l is m = next_as same (record {
-    next = record { onward = k; in_bound = omega (arith, within); passed = λ i p q. before i p q is; passes = λ i. here first (omega arith) m };
+  set_found known x lowest low high first e1 e2 is m = next_as same (record {
+    next = record { onward = omega arith; in_bound = omega (arith, within); passed = before; passes = λ i. here first (omega arith) m };
     ways = record {
       low_in = omega (arith, within);
       in_bound = within;
@@ -198,8 +197,8 @@ module _ (image : List ℕ) (h : Header) (a : Accepted image h) (bits rest from 
       here : (e : ℕ) → low ≤ e → e < high → in_some image lexicons rest e ≡ true
       here e i j = some_here image lexicons rest e x inside (rw (true_of (bit rest x) lowest.there, in_range image x e (omega arith) (omega arith)) refl)
 
-      before : (i : ℕ) → from ≤ i → i < first → (first ≡ from) ⊎ (first ≡ low) → in_some image lexicons rest i ≡ false
-      before i p q is = ⊎_elim (λ s. absurd (omega arith)) (λ s. some_before image lexicons rest x lowest i (omega arith)) is
+      before : (i : ℕ) → from ≤ i → i < first → in_some image lexicons rest i ≡ false
+      before i p q = some_before image lexicons rest x lowest i (omega arith)
 
 -- what is asked of the path
 module _ (image : List ℕ) (bits : ℕ) (known : Known bits (header image).lexicons) where

@@ -2,8 +2,8 @@
 use Prim.Native.Nat.{ℕ, zero, suc, ◌-◌, ◌<◌, ◌≤◌}
 use native.Mathlib.Omega.{arith}
 use native.Mathlib.Decide.{dec_lt}
-use mathlib.Core.Bool.{Bool, true, false, ◌&&◌, false≢true}
-use mathlib.Core.Path.{◌≡◌, refl, sym, ap, ap₂, ◌∙◌, subst}
+use mathlib.Core.Bool.{Bool, true, false, ◌&&◌}
+use mathlib.Core.Path.{◌≡◌, refl, ap, ap₂, ◌∙◌, subst}
 use mathlib.Core.List.{List, [], ◌∷◌}
 use lib.ListN.{length, get_or, take, drop}
 use lib.Seq.{drop-cons}
@@ -21,7 +21,7 @@ use Rattle.letters.proofs.Laws.{pair_at}
 use Rattle.rules.specs.Live.{Live, step_of, alive_of, finish_of}
 use Rattle.listing.specs.declared.place.Place.{Place}
 use Rattle.listing.specs.Levels.{level_of, level_may_by, level_go_by, Bounded}
-use Rattle.listing.specs.Places.{ended, ways_after, stops_after, rest_of, node_of, Standing, Took}
+use Rattle.listing.specs.Places.{ended, ways_after, stops_after, rest_of, node_of, Standing, Shut, Took}
 
 -- of an accepted image
 module _ (image : List ℕ) (h : Header) (a : Accepted image h) where
@@ -124,17 +124,17 @@ module _ {image : List ℕ} {place : Place} {p : ℕ} (q : Query) (here : Spells
       rw (true_of (spells (rest_of image place) (pair_at image p).lexical) here.spells_on, lt-ltb m 40 h)
       (ap (λ (b : Bool). nulls_let image place p && b && rules_let image place p) (spoken_free side side q.letters q.spoken free level level p))
 
-  -- not taken, by the first test that fails, whatever place is answered then
-  refused : (nulls_let image place p && level_lets image q.letters place p && rules_let image place p) ≡ false → {after : Place} → Took image q place p false after
-  refused e = record { may_is = λ n m h. sym (pair_tests n m h ∙ e); node_is = λ f. absurd (false≢true f); stands = λ f. absurd (false≢true f) }
+  -- not taken, by the first test that fails
+  refused : (nulls_let image place p && level_lets image q.letters place p && rules_let image place p) ≡ false → Shut image q place p
+  refused e n m h = pair_tests n m h ∙ e
 
-  pub refused_nulls : nulls_let image place p ≡ false → {after : Place} → Took image q place p false after
+  pub refused_nulls : nulls_let image place p ≡ false → Shut image q place p
   refused_nulls e = refused (rw e refl)
 
-  pub refused_level : nulls_let image place p ≡ true → level_lets image q.letters place p ≡ false → {after : Place} → Took image q place p false after
+  pub refused_level : nulls_let image place p ≡ true → level_lets image q.letters place p ≡ false → Shut image q place p
   refused_level a e = refused (rw (a, e) refl)
 
-  pub refused_rules : nulls_let image place p ≡ true → level_lets image q.letters place p ≡ true → rules_let image place p ≡ false → {after : Place} → Took image q place p false after
+  pub refused_rules : nulls_let image place p ≡ true → level_lets image q.letters place p ≡ true → rules_let image place p ≡ false → Shut image q place p
   refused_rules a b e = refused (rw (a, b, e) refl)
 
   -- taken
@@ -172,8 +172,8 @@ module _ {image : List ℕ} {place : Place} {p : ℕ} (q : Query) (here : Spells
           states_live = moved.states_live;
         }
 
-    pub took : nulls_let image place p ≡ true → level_lets image q.letters place p ≡ true → rules_let image place p ≡ true → Took image q place p true after
-    took a b c = record { may_is = λ n m k. sym (pair_tests n m k ∙ rw (a, b, c) refl); node_is = λ f. after_node; stands = λ f. after_stands }
+    pub took : nulls_let image place p ≡ true → level_lets image q.letters place p ≡ true → rules_let image place p ≡ true → Took image q place p after
+    took a b c = record { may = λ n m k. pair_tests n m k ∙ rw (a, b, c) refl; node_is = after_node; stands = after_stands }
 
 -- the tests that are left for the end of a reading, where every letter is paired and the path has ended
 module _ (image : List ℕ) (q : Query) (place : Place) (n m : ℕ) (here : (place.from ≡ place.to) × (place.last ≡ ended))
@@ -181,7 +181,8 @@ module _ (image : List ℕ) (q : Query) (place : Place) (n m : ℕ) (here : (pla
   nothing_left : is_nil (rest_of image place) ≡ true
   nothing_left = let z : place.to - place.from ≡ 0 = omega (arith, here.0) in rw z refl
 
-  pub end_tests : complete (grammar_of image) q (node_of image place n m) ≡ (q.entries.may_end n && (ltb 0 place.surface.letters && q.letters.may_end place.surface.letters) && finish_of (grammar_of image) place.states)
+  pub end_tests : complete (grammar_of image) q (node_of image place n m)
+      ≡ (q.entries.may_end n && (ltb 0 place.surface.letters && q.letters.may_end place.surface.letters) && finish_of (grammar_of image) place.states)
   unfolding complete node_of grammar_of
   end_tests =
       let l = place.surface.letters in

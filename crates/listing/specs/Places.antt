@@ -1,5 +1,5 @@
 -- A place of the code's search as a node of the model's tree, and what holds of it.
-use Rattle.std.specs.Prelude.{ℕ, suc, ◌-◌, ◌<◌, ◌≤◌, Bool, true, false, ◌&&◌, cond, ◌≡◌, ◌⊎◌, List, length, take, drop, T, ltb, eqb}
+use Rattle.std.specs.Prelude.{ℕ, suc, ◌-◌, ◌<◌, ◌≤◌, Bool, true, false, ◌&&◌, cond, ◌≡◌, ◌⊎◌, List, length, take, drop, T, ltb, eqb, Option, MatchOption}
 use Rattle.model.specs.Lists.{every, within}
 use Rattle.model.specs.Blocks.{header}
 use Rattle.model.specs.GrammarOf.{grammar_of}
@@ -57,11 +57,19 @@ pub record Standing (image : List ℕ) (p : Place) : Type 0 where
   pub surface_in : Bounded p.surface
   pub states_live : Live image p.states
 
--- whether pair p may be taken, and the place after it
-pub record Took (image : List ℕ) (q : Query) (place : Place) (p : ℕ) (may : Bool) (after : Place) : Type 0 where
-  pub may_is : (n m : ℕ) → m < 40 → may ≡ may_at (grammar_of image) q false (node_of image place n m) p
-  pub node_is : may ≡ true → (n m : ℕ) → node_of image after n (suc m) ≡ go_at (grammar_of image) q false (node_of image place n m) p
-  pub stands : may ≡ true → Standing image after
+-- pair p may not be taken here
+abbrev pub Shut : List ℕ → Query → Place → ℕ → Type 0
+Shut image q place p = (n m : ℕ) → m < 40 → may_at (grammar_of image) q false (node_of image place n m) p ≡ false
+
+-- pair p may be taken, and the place after it
+pub record Took (image : List ℕ) (q : Query) (place : Place) (p : ℕ) (after : Place) : Type 0 where
+  pub may : (n m : ℕ) → m < 40 → may_at (grammar_of image) q false (node_of image place n m) p ≡ true
+  pub node_is : (n m : ℕ) → node_of image after n (suc m) ≡ go_at (grammar_of image) q false (node_of image place n m) p
+  pub stands : Standing image after
+
+-- the place after pair p, or none where it may not be taken
+abbrev pub TookIf : List ℕ → Query → Place → ℕ → Option Place → Type 0
+TookIf image q place p after = MatchOption after (Shut image q place p) (Took image q place p)
 
 -- the path can only end: it may, and no entry may come next
 pub record OnlyStops (image : List ℕ) (last : ℕ) : Type 0 where

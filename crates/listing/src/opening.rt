@@ -50,15 +50,6 @@ pub struct Next {
     pub ways: Ways,
 }
 
-fn later(m: usize, n: usize) -> usize
-    ensures { ((m ≤ result) × (n ≤ result)) × ((result ≡ m) ⊎ (result ≡ n)) }
-{
-    if m < n {
-        return n;
-    }
-    m
-}
-
 // The first entry of a set's lexicons from one on: lexicon after lexicon, from the lowest up, as entries are numbered.
 fn next_of_set(image: &[u8], index: &[u8], h: Header, bits: u64, from: usize) -> Next
     requires accepted { Accepted image.now (header_of h) }
@@ -66,29 +57,29 @@ fn next_of_set(image: &[u8], index: &[u8], h: Header, bits: u64, from: usize) ->
     requires known { Known bits (header image.now).lexicons × (from ≤ h.entries) }
     ensures { NextWays image.now (in_some image.now (header image.now).lexicons bits) from result }
 {
-    let entries = h.entries;
+    // A set whose lowest lexicon goes at each turn: no index is counted.
     let mut rest = bits;
     while rest != 0 {
         let x = digits::lowest(rest);
         rest = digits::without(rest, x);
         let range = lexicon_range(image, index, h, x);
-        let first = later(from, range.low);
+        let first = from.max(range.low);
         if first < range.high {
             return Next {
                 entry: first,
                 ways: Ways {
                     low: first,
                     high: range.high,
-                    rest: rest,
+                    rest,
                 },
             };
         }
     }
     Next {
-        entry: entries,
+        entry: h.entries,
         ways: Ways {
-            low: entries,
-            high: entries,
+            low: h.entries,
+            high: h.entries,
             rest: 0,
         },
     }
@@ -102,15 +93,10 @@ pub fn next_entry(image: &[u8], index: &[u8], h: Header, ways: Ways, from: usize
     requires low_le_from { (ways.low ≤ from) × (from ≤ h.entries) }
     ensures { (may : ℕ → Bool) → WaysOf image.now may ways → NextWays image.now may from result }
 {
-    let high = ways.high;
-    if from < high {
+    if from < ways.high {
         return Next {
             entry: from,
-            ways: Ways {
-                low: from,
-                high: high,
-                rest: ways.rest,
-            },
+            ways: Ways { low: from, ..ways },
         };
     }
     next_of_set(image, index, h, ways.rest, from)
@@ -125,8 +111,7 @@ pub fn set_on(image: &[u8], h: Header, last: usize) -> u64
     if last == ROOT {
         return 1;
     }
-    let ways = lexicon::ways::ways_of(image, h, last);
-    ways.bits
+    lexicon::ways::ways_of(image, h, last).bits
 }
 
 // Those of a set's lexicons that may open with n entries read.

@@ -38,15 +38,11 @@ pub fn enter(image: &[u8], h: Header, place: Place, e: usize) -> Place
     ensures stands { Standing image.now result }
 {
     let from = lexicon::entry_start(h, e) + 1;
-    let surface = place.surface;
-    let states = place.states;
     Place {
-        from: from,
+        from,
         to: from + lexicon::form_length(image, h, e),
         last: e,
-        nulls: place.nulls,
-        surface: surface,
-        states: states,
+        ..place
     }
 }
 
@@ -56,12 +52,7 @@ fn may_stop(image: &[u8], h: Header, place: Place) -> bool
     requires standing { Standing image.now place }
     ensures { result ≡ stops_after image.now place.last }
 {
-    let last = place.last;
-    if ENDED <= last {
-        return false;
-    }
-    let ways = lexicon::ways::ways_of(image, h, last);
-    ways.stop
+    place.last < ENDED && lexicon::ways::ways_of(image, h, place.last).stop
 }
 
 // Whether it does: whether what is asked of the path lets it end after its n entries, too.
@@ -77,10 +68,7 @@ pub fn ends_here(
     requires standing { Standing image.now place }
     ensures { result ≡ (stops_after image.now place.last && (path_pattern asked path.now).may_end n) }
 {
-    if !crate::asked::ends_entries(asked, path, n) {
-        return false;
-    }
-    may_stop(image, h, place)
+    crate::asked::ends_entries(asked, path, n) && may_stop(image, h, place)
 }
 
 // True only where the path can only end here: then it is ended without looking for entries. Where it is false, time is lost and nothing else.
@@ -89,15 +77,11 @@ pub fn only_stops(image: &[u8], h: Header, place: Place) -> bool
     requires standing { Standing image.now place }
     ensures { result ≡ true → OnlyStops image.now place.last }
 {
-    let last = place.last;
-    if ENDED <= last {
+    if place.last >= ENDED {
         return false;
     }
-    let ways = lexicon::ways::ways_of(image, h, last);
-    if ways.bits != 0 {
-        return false;
-    }
-    ways.stop
+    let ways = lexicon::ways::ways_of(image, h, place.last);
+    ways.bits == 0 && ways.stop
 }
 
 // The path ends.
@@ -105,14 +89,8 @@ pub fn stop(place: Place) -> Place
     ensures go { (image : List ℕ) (q : Query) (n p : ℕ) → node_of image result n p ≡ go_at (grammar_of image) q true (node_of image place n p) 0 }
     ensures stands { (image : List ℕ) → Standing image place → Standing image result }
 {
-    let surface = place.surface;
-    let states = place.states;
     Place {
-        from: place.from,
-        to: place.to,
         last: ENDED,
-        nulls: place.nulls,
-        surface: surface,
-        states: states,
+        ..place
     }
 }

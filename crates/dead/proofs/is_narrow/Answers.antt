@@ -1,18 +1,13 @@
--- `is_narrow` meets its contract: at the loop's head the first j numbers fit.
-use borrow.Author.Rules.{rules}
-use borrow.Author.Count.{below_more}
-use native.Mathlib.Omega.{arith}
-use mathlib.Core.Bool.{true≢false}
-use mathlib.Core.Path.{sym}
+-- `is_narrow` meets its contract: where all numbers are less, each is.
+use Rattle.std.proofs.Common.{◌<◌, ◌≤◌, rules, tests, arith}
+use Rattle.std.proofs.lemmas.Bool.Decides.{when_true}
+use Rattle.std.proofs.lemmas.Iterator.{YieldsList-from_slice, cases_from_all}
 use Rattle.dead.specs.Dead.{Narrow}
 use Rattle.dead.proofs.is_narrow.Goals as goal
 
-pub returns-then-key-j-gt65535 : goal.returns-then-key-j-gt65535
-returns-then-key-j-gt65535 c = λ e. absurd (true≢false (sym e))
-
-pub loop-j-preserved : goal.loop-j-preserved
-loop-j-preserved c = (search rules, below_more _ _ c.loop-j.invariant.1 (omega (arith, c.if-key-j-gt65535.false)))
-
 pub returns : goal.returns
 unfolding Narrow
-returns c = λ e k h. c.loop-j.invariant.1 k (omega (arith, c.loop-j-test.false))
+returns c =
+    let key = c.args.key.now in
+    let all = cases_from_all _ _ _ (λ n. n < 65536) (λ n. 65536 ≤ n) c.all.ensures.ran (YieldsList-from_slice key cc) (λ x q k. search (rules, tests)) (λ x q k. search (rules, tests)) in
+    λ e k h. when_true _ _ e all k 0 (omega arith) h

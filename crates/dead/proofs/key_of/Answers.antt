@@ -4,7 +4,7 @@ use native.Mathlib.Omega.{arith}
 use mathlib.Core.Path.{◌≡◌, sym, ap, ◌∙◌}
 use mathlib.Core.List.{List, [], ◌∷◌, ◌++◌}
 use Prim.Native.Nat.{ℕ, ◌+◌, ◌<◌}
-use lib.ListN.{length, get_or, take, replicate}
+use lib.ListN.{length, get_or, take, replicate, length-set}
 use lib.Seq.{get_or-take, get_or-drop, length-take-le}
 use mir.Syntax.{w64}
 use mir.Val.{Fits}
@@ -33,34 +33,36 @@ eight_in image place entries pairs left = agree_front (eight left place entries 
 pub loop-i-init : goal.loop-i-init
 loop-i-init c =
     let a = c.args in
-    (search rules, (search rules, (c.left_of-left.result, c.left_of-left.ensures, eight_in a.image.now a.place a.entries a.pairs c.left_of-left.result)))
-
-pub overflow_cast-key : goal.overflow_cast-key
-overflow_cast-key c = state_fits (goal.at.overflow_cast-key c).Start c.loop-i.i
+    let left = c.left_of-left.result in
+    (search rules, (left, c.left_of-left.ensures, eight_in a.image.now a.place a.entries a.pairs left))
 
 pub loop-i-preserved : goal.loop-i-preserved
 loop-i-preserved c =
-    let a = c.args in
+    let place = c.args.place in
     let i = c.loop-i.i in
-    let left = c.loop-i.invariant.1.1.0 in
-    let key = key_by a.image.now left a.place a.entries a.pairs in
-    let few = ap (λ (g : Header). g.rules) c.requires.accepted.laid.header_is in
-    let inside : i < (header a.image.now).rules = omega (arith, c.loop-i-test.true) in
-    let f : 8 + i ≡ i + 8 = omega arith in
-    let state : get_or a.place.states i 0 ≡ get_or key (i + 8) 0 = sym (get_or-take (header a.image.now).rules a.place.states i 0 inside) ∙ get_or-drop 8 key i 0 ∙ ap (λ (k : ℕ). get_or key k 0) f in
-    let e : (i + 8) + 1 ≡ (i + 1) + 8 = omega arith in
-    (search rules, (search rules, (left, c.loop-i.invariant.1.1.1, rw e at (agree_set c.loop-i.key key (i + 8) (get_or a.place.states i 0) (omega arith) state c.loop-i.invariant.1.1.2))))
+    let (left, tells, agree) = c.loop-i.invariant.1 in
+    let rules = (header c.args.image.now).rules in
+    let key = key_by c.args.image.now left place c.args.entries c.args.pairs in
+    let same = ap (λ (g : Header). g.rules) c.requires.accepted.laid.header_is in
+    let inside : i < rules = omega (arith, c.loop-i-test.true) in
+    let behind : 8 + i ≡ i + 8 = omega arith in
+    let state : c.from.result ≡ get_or key (i + 8) 0 =
+    c.from.ensures ∙ sym (get_or-take rules place.states i 0 inside) ∙ get_or-drop 8 key i 0 ∙ ap (λ (k : ℕ). get_or key k 0) behind in
+    let next : (i + 8) + 1 ≡ (i + 1) + 8 = omega arith in
+    (simp length-set c.loop-i.invariant.0, (left, tells, rw next at (agree_set c.loop-i.key key (i + 8) c.from.result (omega arith) state agree)))
 
 pub returns : goal.returns
 returns c =
-    let a = c.args in
-    let w = width_of a.image.now in
-    let few = ap (λ (g : Header). g.rules) c.requires.accepted.laid.header_is in
-    let long = length-take-le (header a.image.now).rules a.place.states (omega (arith, states_long (goal.at.returns c).Start, c.requires.accepted.laid.limits.rules_most)) in
-    let left = c.loop-i.invariant.1.1.0 in
+    let image = c.args.image.now in
+    let place = c.args.place in
+    let rules = (header image).rules in
+    let states = states_long (goal.at.returns c).Start in
+    let same = ap (λ (g : Header). g.rules) c.requires.accepted.laid.header_is in
+    let long = length-take-le rules place.states (omega (arith, states, c.requires.accepted.laid.limits.rules_most)) in
+    let (left, tells, agree) = c.loop-i.invariant.1 in
+    let key = key_by image left place c.args.entries c.args.pairs in
     record {
       left = left;
-      tells = c.loop-i.invariant.1.1.1;
-      is = sym (agree_all (key_by a.image.now left a.place a.entries a.pairs) c.loop-i.key w (omega arith) (omega arith)
-          (λ k h. sym (c.loop-i.invariant.1.1.2 k (omega (arith, c.loop-i-test.false)))));
+      tells = tells;
+      is = sym (agree_all key c.loop-i.key (width_of image) (omega arith) (omega arith) (λ k h. sym (agree k (omega (arith, c.loop-i-test.false)))));
     }

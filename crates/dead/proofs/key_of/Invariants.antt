@@ -1,5 +1,5 @@
 use mathlib.Core.Path.{◌≡◌}
-use Prim.Native.Nat.{◌+◌, ◌-◌, ◌≤◌}
+use Prim.Native.Nat.{◌+◌}
 use lib.ListN.{length}
 use Rattle.dead.specs.declared.Left.{Left}
 use Rattle.dead.specs.Dead.{Tells, key_by}
@@ -8,7 +8,4 @@ use Rattle.dead.proofs.key_of.Given as goal
 
 abbrev pub invariant-loop-i : goal.invariant-loop-i
 invariant-loop-i l =
-    (l.i ≤ l.rules) × ((length l.key ≡ 40) × ((left : Left) × Tells l.image l.place left × Agree l.key (key_by l.image left l.place l.entries l.pairs) (l.i + 8)))
-
-abbrev pub decreases-loop-i : goal.decreases-loop-i
-decreases-loop-i l = l.rules - l.i
+    (length l.key ≡ 40) × ((left : Left) × Tells l.image l.place left × Agree l.key (key_by l.image left l.place l.entries l.pairs) (l.i + 8))

@@ -12,8 +12,8 @@ use Rattle.dead.proofs.Keys.{letters_tell, entry_tells, way_tells, set_tells, un
 use Rattle.dead.proofs.left_of.Goals as goal
 use Rattle.dead.proofs.left_of.Goals.{After-ways_of-ways, Then-last-lt-ENDED}
 
-pub returns-then-place : goal.returns-then-place
-returns-then-place c = let a = c.args in letters_tell a.image.now a.place c.if-place.true
+pub returns-then-from-to : goal.returns-then-from-to
+returns-then-from-to c = let a = c.args in letters_tell a.image.now a.place c.if-from-to.true
 
 -- an entry is open, and no letter of it is left
 module _ (c : Then-last-lt-ENDED) where
@@ -45,19 +45,24 @@ pub returns-then-way-ne254 : goal.returns-then-way-ne254
 returns-then-way-ne254 c =
     let a = c.args in
     let form = (header a.image.now).form in
-    let way = way_sole (entry a.image.now a.place.last) form c.ways_of-ways.result.bits c.ways_of-ways.result.stop (stops (goal.at.returns-then-way-ne254 c).After-ways_of-ways) (names (goal.at.returns-then-way-ne254 c).After-ways_of-ways) c.sole_way-way.result c.sole_way-way.ensures in
-    way_tells a.image.now a.place c.if-place.false c.if-last-lt-ENDED.true (few (goal.at.returns-then-way-ne254 c).Then-last-lt-ENDED) c.sole_way-way.result way c.if-way-ne254.true
+    let ways = c.ways_of-ways.result in
+    let after = (goal.at.returns-then-way-ne254 c).After-ways_of-ways in
+    let way = way_sole (entry a.image.now a.place.last) form ways.bits ways.stop (stops after) (names after) c.sole_way-way.result c.sole_way-way.ensures in
+    way_tells a.image.now a.place c.if-from-to.false c.if-last-lt-ENDED.true (few (goal.at.returns-then-way-ne254 c).Then-last-lt-ENDED) c.sole_way-way.result way c.if-way-ne254.true
 
-pub returns-then-bits-lt35184372088832 : goal.returns-then-bits-lt35184372088832
-returns-then-bits-lt35184372088832 c =
+pub returns-then-ways-lt35184372088832 : goal.returns-then-ways-lt35184372088832
+returns-then-ways-lt35184372088832 c =
     let a = c.args in
-    let set = set_tells a.image.now a.place c.if-place.false c.if-last-lt-ENDED.true (few (goal.at.returns-then-bits-lt35184372088832 c).Then-last-lt-ENDED) c.ways_of-ways.result.bits c.ways_of-ways.result.stop (names (goal.at.returns-then-bits-lt35184372088832 c).After-ways_of-ways) (stops (goal.at.returns-then-bits-lt35184372088832 c).After-ways_of-ways) in
+    let ways = c.ways_of-ways.result in
+    let after = (goal.at.returns-then-ways-lt35184372088832 c).After-ways_of-ways in
+    let few_here = few (goal.at.returns-then-ways-lt35184372088832 c).Then-last-lt-ENDED in
+    let set = set_tells a.image.now a.place c.if-from-to.false c.if-last-lt-ENDED.true few_here ways.bits ways.stop (names after) (stops after) in
     subst (Tells a.image.now a.place) (sym c.left_by.ensures) set
 
 pub returns-then-last-lt-ENDED : goal.returns-then-last-lt-ENDED
 returns-then-last-lt-ENDED c =
     let a = c.args in
-    entry_tells a.image.now a.place c.if-place.false c.if-last-lt-ENDED.true
+    entry_tells a.image.now a.place c.if-from-to.false c.if-last-lt-ENDED.true
 
 pub returns : goal.returns
-returns c = let a = c.args in unopened_tells a.image.now a.place c.if-place.false
+returns c = let a = c.args in unopened_tells a.image.now a.place c.if-from-to.false

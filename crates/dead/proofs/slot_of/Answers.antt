@@ -2,6 +2,7 @@
 use native.Mathlib.Nat.{mod-lt, le_refl, mul-suc, mul-le-mul, mul-div-le, le-div_iff_mul-le}
 use native.Mathlib.Omega.{arith}
 use Prim.Native.Nat.{ℕ, suc, ◌+◌, ◌*◌, ◌<◌, ◌≤◌, ◌/◌, ◌%◌}
+use lib.ListN.{length}
 use Rattle.dead.proofs.slot_of.Goals as goal
 
 -- there is a slot
@@ -15,7 +16,7 @@ inside size width x h fits =
     omega (arith, mul-suc width k, mul-le-mul {n₁ = width} {m₁ = suc k} {n₂ = width} {m₂ = size / width} (le_refl width) less, mul-div-le size width)
 
 pub nonzero_rem-result : goal.nonzero_rem-result
-nonzero_rem-result c = some c.args.size c.args.width c.requires.0 c.requires.1.1
+nonzero_rem-result c = some c.args.size (length c.args.key.now) c.requires.0 c.requires.1
 
 pub returns : goal.returns
-returns c = inside c.args.size c.args.width c.hash_of.result c.requires.0 c.requires.1.1
+returns c = inside c.args.size (length c.args.key.now) c.hash_of.result c.requires.0 c.requires.1

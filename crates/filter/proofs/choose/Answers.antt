@@ -1,10 +1,13 @@
 -- `filter::choose` meets its contract: where any path will do, the lexicons that come next are a set, and the survivors of its lexicons are all that lead on.
 use Prim.Native.Nat.{ℕ, ◌^◌, ◌≤◌}
 use native.Mathlib.Omega.{arith}
-use mathlib.Core.Logic.{◌⊎◌, inl, inr, ⊎_elim}
-use mathlib.Core.Path.{◌≡◌, refl, sym, subst}
+use mathlib.Core.Logic.{⊎_elim}
+use mathlib.Core.Bool.{true≢false}
+use mathlib.Core.Path.{◌≡◌, refl, sym, ap, ◌∙◌, subst}
 use mathlib.Core.List.{List}
+use lib.Dec.{eqb}
 use lib.ListN.{length, take}
+use Rattle.std.specs.Prelude.{Option, None, Some, IfSome}
 use Rattle.model.specs.Blocks.{Header}
 use Rattle.model.specs.Query.{Pattern, anything}
 use Rattle.listing.specs.declared.asked.PathAsked.{PathAsked}
@@ -27,8 +30,11 @@ module _ (c : After-set_on-bits) where
   abbrev bits : ℕ
   bits = c.set_on-bits.result
 
+  some : length c.args.forms.now ≡ 0 → ⊥
+  some e = true≢false (sym (c.is_empty.ensures ∙ ap (λ (n : ℕ). eqb n 0) e) ∙ c.if-is_empty.false)
+
   sieved : Sieved c.args.image.now c.requires.sieve.0 c.args.forms.now c.args.masks.now c.args.reach.now
-  sieved = ⊎_elim (λ e. absurd (c.if-forms-eq0.false e)) (λ r. r) c.requires.sieve.1
+  sieved = ⊎_elim (λ e. absurd (some e)) (λ r. r) c.requires.sieve.1
 
   told : path_pattern c.args.asked c.args.path.now ≡ anything
   told = any_path c.args.asked c.args.path.now c.in-Anything.is
@@ -39,34 +45,36 @@ module _ (c : After-set_on-bits) where
   abbrev ChosenBy : Pattern → List ℕ → Type 0
   ChosenBy path xs = Chosen c.args.image.now path c.args.forms.now c.args.masks.now c.args.reach.now c.args.last (2 ^ c.args.letters) xs
 
-  abbrev Told : ℕ → List ℕ → Type 0
-  Told r list = (r ≡ 65) ⊎ ((r ≤ 64) × ChosenBy (path_pattern c.args.asked c.args.path.now) (take r list))
+  -- what is told of a list where `many` is answered
+  abbrev Told : Option ℕ → List ℕ → Type 0
+  Told many list = IfSome many (λ n. (n ≤ 64) × ChosenBy (path_pattern c.args.asked c.args.path.now) (take n list))
 
   abbrev Survive : ℕ → List ℕ → Type 0
   Survive set xs = SurvivingSet c.args.image.now c.args.masks.now (flags_in c.args.forms.now) c.args.reach.now (2 ^ c.args.letters) set xs
 
   all_chosen : (xs : List ℕ) → Survive bits xs → ChosenBy anything xs
   all_chosen =
-      set_chosen c.args.image.now c.args.forms.now c.args.masks.now c.args.reach.now c.args.last (2 ^ c.args.letters) bits c.if-forms-eq0.false c.set_on-bits.ensures
+      set_chosen c.args.image.now c.args.forms.now c.args.masks.now c.args.reach.now c.args.last (2 ^ c.args.letters) bits some c.set_on-bits.ensures
 
-  chosen : (r : ℕ) (list : List ℕ) → (r ≡ 65) ⊎ ((r ≤ length c.args.list.now) × Survive bits (take r list)) → Told r list
-  chosen r list =
-      ⊎_elim {C = Told r list} inl
-      (λ u. inr (omega (arith, u.0, c.requires.letters_bound.1), subst (λ path. ChosenBy path (take r list)) (sym told) (all_chosen (take r list) u.1)))
-
-pub returns-then-forms-eq0 : goal.returns-then-forms-eq0
-returns-then-forms-eq0 c = inl refl
+  chosen : (many : Option ℕ) (list : List ℕ) → IfSome many (λ n. (n ≤ length c.args.list.now) × Survive bits (take n list)) → Told many list
+  chosen None list u = tt
+  chosen (Some n) list u =
+      (omega (arith, u.0, c.requires.letters_bound.1), subst (λ path. ChosenBy path (take n list)) (sym told) (all_chosen (take n list) u.1))
 
 pub set_on-bits-requires : goal.set_on-bits-requires
 set_on-bits-requires c = record { accepted = c.requires.accepted; fact = c.requires.fact }
 
 pub choose_each-requires : goal.choose_each-requires
 choose_each-requires c =
-    record { accepted = c.requires.accepted; index_value = c.requires.index_value; forms_of = (sieved (goal.at.choose_each-requires c).After-set_on-bits).forms_of_lem; filled = ((sieved (goal.at.choose_each-requires c).After-set_on-bits).filled, (sieved (goal.at.choose_each-requires c).After-set_on-bits).reached); known = (known (goal.at.choose_each-requires c).After-set_on-bits, (c.requires.letters_bound.0, omega (arith, c.requires.letters_bound.1))) }
-
-pub returns-in-Exactly : goal.returns-in-Exactly
-returns-in-Exactly c = inl refl
+    let after = (goal.at.choose_each-requires c).After-set_on-bits in
+    let sets = sieved after in
+    record {
+      accepted = c.requires.accepted;
+      index_value = c.requires.index_value;
+      forms_of = sets.forms_of_lem;
+      filled = (sets.filled, sets.reached);
+      known = (known after, (c.requires.letters_bound.0, omega (arith, c.requires.letters_bound.1)));
+    }
 
 pub returns-in-Anything : goal.returns-in-Anything
-returns-in-Anything c =
-    chosen (goal.at.returns-in-Anything c).After-set_on-bits c.choose_each.result _ c.choose_each.ensures
+returns-in-Anything c = chosen (goal.at.returns-in-Anything c).After-set_on-bits c.choose_each.result _ c.choose_each.ensures

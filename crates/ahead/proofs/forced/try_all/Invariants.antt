@@ -1,4 +1,3 @@
-use Prim.Native.Nat.{◌-◌, ◌<◌, ◌≤◌}
 use Rattle.model.specs.Query.{Pattern}
 use Rattle.image.specs.Index.{candidates}
 use Rattle.listing.specs.Asked.{word_query}
@@ -6,8 +5,4 @@ use Rattle.ahead.specs.Forced.{TriedOf}
 use Rattle.ahead.proofs.forced.try_all.Given as goal
 
 abbrev pub invariant-loop-k : goal.invariant-loop-k
-invariant-loop-k l =
-    (l.k ≤ l.many) × (((l.found ≤ 1) × (l.pair < l.h.pairs)) × ((t : Pattern) → TriedOf l.image (word_query l.asked l.word t) l.place (candidates l.image l.letter.0) l.k l.found l.pair l.next))
-
-abbrev pub decreases-loop-k : goal.decreases-loop-k
-decreases-loop-k l = l.many - l.k
+invariant-loop-k l = (t : Pattern) → TriedOf l.image (word_query l.asked l.word t) l.place (candidates l.image l.letter.0) l.k l.tried

@@ -1,5 +1,4 @@
 -- `put_ended` meets its contract: what ends is offered.
-use borrow.Author.Tests.{not-true, not-false}
 use native.Mathlib.Omega.{arith}
 use mathlib.Core.Path.{◌∙◌, sym}
 use Rattle.rows.proofs.Offering.{offer_none, offer_one}
@@ -13,9 +12,9 @@ ends-requires c =
 pub returns-then-not-ends : goal.returns-then-not-ends
 returns-then-not-ends c =
     let a = c.args in
-    rw (sym (c.ends.ensures a.trail.pairs) ∙ not-true c.ends.result c.if-not-ends.true-raw) (sym (offer_none _ _))
+    rw (sym (c.ends.ensures a.trail.pairs) ∙ c.if-not-ends.true) (sym (offer_none _ _))
 
 pub returns : goal.returns
 returns c =
     let a = c.args in
-    c.offer.ensures ∙ rw (sym (c.ends.ensures a.trail.pairs) ∙ not-false c.ends.result c.if-not-ends.false-raw) (sym (offer_one _ _ _))
+    c.offer.ensures ∙ rw (sym (c.ends.ensures a.trail.pairs) ∙ c.if-not-ends.false) (sym (offer_one _ _ _))

@@ -12,10 +12,6 @@ use Rattle.filter.proofs.Unions.{backed_none, backed_more, backed_all, slot_mean
 use Rattle.filter.proofs.onward.entry_back.Goals as goal
 use Rattle.filter.proofs.onward.entry_back.Goals.{In-loop-d, Start}
 
--- from a place to the ones before it
-abbrev start_from_loop_d : In-loop-d → Start
-start_from_loop_d c = let half = c.before.before.before.before in let later = half.before.before.before.before in later.before.before
-
 -- the slot's bytes
 module _ (s : Start) where
   abbrev form : List ℕ
@@ -36,7 +32,7 @@ module _ (c : In-loop-d) where
   some = c.loop-d-test.true
 
   within : c.loop-d.d - 1 < slot_length c.args.slots.now c.args.i
-  within = omega (arith, c.loop-d.invariant.place, size (start_from_loop_d c), some)
+  within = omega (arith, c.loop-d.invariant.place, size (goal.at.letter-a-requires c).Start, some)
 
 pub after_slot-m-requires : goal.after_slot-m-requires
 after_slot-m-requires c = record { accepted = c.requires.accepted; reached = (c.requires.reached, c.requires.i_lt_high.1) }
@@ -46,7 +42,9 @@ letters-d-requires c = let slot = c.requires.i_lt_high.1 in (slot.few, slot.insi
 
 pub loop-d-init : goal.loop-d-init
 loop-d-init c =
-    backed_none c.args.masks.now c.args.flags.now (form (goal.at.loop-d-init c).Start) c.after_slot-m.result c.letters-d.result c.after_slot-m.result (c.letters-d.ensures ∙ sym (size (goal.at.loop-d-init c).Start)) refl
+    let start = (goal.at.loop-d-init c).Start in
+    let last = c.after_slot-m.result in
+    backed_none c.args.masks.now c.args.flags.now (form start) last c.letters-d.result last (c.letters-d.ensures ∙ sym (size start)) refl
 
 pub letter-a-requires : goal.letter-a-requires
 letter-a-requires c = let slot = c.requires.i_lt_high.1 in ((slot.few, omega (arith, within c, short (goal.at.letter-a-requires c).Start)), slot.inside)
@@ -54,14 +52,17 @@ letter-a-requires c = let slot = c.requires.i_lt_high.1 in ((slot.few, omega (ar
 pub step_back-m-requires : goal.step_back-m-requires
 step_back-m-requires c =
     let a = c.args in
-    record { filled = c.requires.filled; a_bound = subst (λ (x : ℕ). x < 128) (sym c.letter-a.ensures) (c.requires.formed.letters_in a.i c.requires.i_lt_high.0 (c.loop-d.d - 1) (within (goal.at.step_back-m-requires c).In-loop-d)) }
+    let small = c.requires.formed.letters_in a.i c.requires.i_lt_high.0 (c.loop-d.d - 1) (within (goal.at.step_back-m-requires c).In-loop-d) in
+    record { filled = c.requires.filled; a_bound = subst (λ (x : ℕ). x < 128) (sym c.letter-a.ensures) small }
 
 pub loop-d-preserved : goal.loop-d-preserved
 loop-d-preserved c =
     let a = c.args in
     let last = c.after_slot-m.result in
-    let letter = form_letter a.slots.now (16 * a.i + 1) (slot_length a.slots.now a.i) (fits (goal.at.loop-d-preserved c).Start) (c.loop-d.d - 1) (within (goal.at.loop-d-preserved c).In-loop-d) in
-    backed_more a.masks.now a.flags.now (form (goal.at.loop-d-preserved c).Start) last c.loop-d.d c.loop-d.m c.letter-a.result c.step_back-m.result (some (goal.at.loop-d-preserved c).In-loop-d) c.loop-d.invariant
+    let start = (goal.at.loop-d-preserved c).Start in
+    let turn = (goal.at.loop-d-preserved c).In-loop-d in
+    let letter = form_letter a.slots.now (16 * a.i + 1) (slot_length a.slots.now a.i) (fits start) (c.loop-d.d - 1) (within turn) in
+    backed_more a.masks.now a.flags.now (form start) last c.loop-d.d c.loop-d.m c.letter-a.result c.step_back-m.result (some turn) c.loop-d.invariant
     (c.letter-a.ensures ∙ sym letter) c.step_back-m.ensures
 
 pub returns : goal.returns

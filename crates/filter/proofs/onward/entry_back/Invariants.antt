@@ -4,6 +4,3 @@ use Rattle.filter.proofs.onward.entry_back.Given as goal
 
 abbrev pub invariant-loop-d : goal.invariant-loop-d
 invariant-loop-d l = Backed l.masks l.flags (slot_form l.slots l.i) l.initial.m l.d l.m
-
-abbrev pub decreases-loop-d : goal.decreases-loop-d
-decreases-loop-d l = l.d

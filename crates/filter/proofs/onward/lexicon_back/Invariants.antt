@@ -1,9 +1,5 @@
-use Prim.Native.Nat.{◌-◌, ◌≤◌}
 use Rattle.filter.specs.Unions.{UnionOf}
 use Rattle.filter.proofs.onward.lexicon_back.Given as goal
 
 abbrev pub invariant-loop-i : goal.invariant-loop-i
-invariant-loop-i l = (l.low ≤ l.i) × ((l.i ≤ l.high) × UnionOf l.image l.reach l.slots l.masks l.flags l.low l.i l.m)
-
-abbrev pub decreases-loop-i : goal.decreases-loop-i
-decreases-loop-i l = l.high - l.i
+invariant-loop-i l = UnionOf l.image l.reach l.slots l.masks l.flags l.low l.i l.m

@@ -27,15 +27,25 @@ replace-requires c =
     let laid = c.requires.accepted.laid in
     let y = c.requires.reached.1 in
     let inside : c.args.y < (header c.args.image.now).lexicons = omega (arith, y, ap (λ (g : Header). g.lexicons) laid.header_is) in
-    let all = lexicon_within c.args.image.now (header_of c.args.h) laid (of_true (right_entries c.args.image.now) c.requires.accepted.entries_right) c.args.y y in record { accepted = c.requires.accepted; filled = subst (Filled c.args.masks.now) (sym c.flags.ensures) c.requires.filled; reached = c.requires.reached.0; by_index = (shared_in forms, skips_in forms, slotted c.requires.forms_of c.args.y inside range.0 range.1 c.slots.ensures refl refl); y_bound = (omega (arith, y, laid.limits.lexicons_most), inside); low_value = (range.0, (range.1, (omega (arith, range.0, range.1), omega (arith, range.1, all, ap (λ (g : Header). g.entries) laid.header_is)))) }
+    let right = of_true (right_entries c.args.image.now) c.requires.accepted.entries_right in
+    let all = lexicon_within c.args.image.now (header_of c.args.h) laid right c.args.y y in
+    let entries = ap (λ (g : Header). g.entries) laid.header_is in
+    record {
+      accepted = c.requires.accepted;
+      filled = subst (Filled c.args.masks.now) (sym c.flags.ensures) c.requires.filled;
+      reached = c.requires.reached.0;
+      by_index = (shared_in forms, skips_in forms, slotted c.requires.forms_of c.args.y inside range.0 range.1 c.slots.ensures refl refl);
+      y_bound = (omega (arith, y, laid.limits.lexicons_most), inside);
+      low_value = (range.0, (range.1, (omega (arith, range.0, range.1), omega (arith, range.1, all, entries))));
+    }
 
 pub returns : goal.returns
 returns c =
     let a = c.args in
     let reach = c.replace.new.reach in
     record {
-      reached = c.replace.ensures.0;
+      reached = c.replace.ensures.reached;
       reaches = λ q. subst
           (λ (l : List ℕ). Reaches a.image.now q (feasible_of a.masks.now l) (reach_of a.reach.now) → Reaches a.image.now q (feasible_of a.masks.now l) (reach_of reach))
-          c.flags.ensures (c.replace.ensures.1 q);
+          c.flags.ensures (c.replace.ensures.reaches q);
     }

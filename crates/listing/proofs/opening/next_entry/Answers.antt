@@ -2,9 +2,9 @@
 use Rattle.listing.proofs.Ranges.{next_here, next_past}
 use Rattle.listing.proofs.opening.next_entry.Goals as goal
 
-pub returns-then-from-high : goal.returns-then-from-high
-returns-then-from-high c =
-    λ may w. next_here c.args.image.now may c.args.ways w c.args.from c.requires.low_le_from.0 c.if-from-high.true
+pub returns-then-from-ways : goal.returns-then-from-ways
+returns-then-from-ways c =
+    λ may w. next_here c.args.image.now may c.args.ways w c.args.from c.requires.low_le_from.0 c.if-from-ways.true
 
 pub next_of_set-requires : goal.next_of_set-requires
 next_of_set-requires c =
@@ -12,4 +12,4 @@ next_of_set-requires c =
 
 pub returns : goal.returns
 returns c =
-    λ may w. next_past c.args.image.now may c.args.ways w c.args.from c.if-from-high.false c.next_of_set.ensures
+    λ may w. next_past c.args.image.now may c.args.ways w c.args.from c.if-from-ways.false c.next_of_set.ensures

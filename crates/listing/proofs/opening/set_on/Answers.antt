@@ -24,17 +24,17 @@ returns-then-last-eq-ROOT c =
 last_in : (c : Else-last-eq-ROOT) → c.args.last < c.args.h.entries
 last_in c = ⊎_elim (λ e. absurd (c.if-last-eq-ROOT.false e)) (λ l. l) c.requires.fact
 
-pub ways_of-ways-requires : goal.ways_of-ways-requires
-ways_of-ways-requires c = record { laid = c.requires.accepted.laid; e_lt_entries = last_in c }
+pub ways_of-requires : goal.ways_of-requires
+ways_of-requires c = record { laid = c.requires.accepted.laid; e_lt_entries = last_in c }
 
 pub returns : goal.returns
 returns c =
     let image = c.args.image.now in
     let last = c.args.last in
-    let bits = c.ways_of-ways.result.bits in
+    let bits = c.ways_of.result.bits in
     let laid = c.requires.accepted.laid in
     let same = laid.header_is in
-    let names = subst (λ (g : Header). Names (goes_to (entry image last) g.form) bits) same c.ways_of-ways.ensures.bits in
+    let names = subst (λ (g : Header). Names (goes_to (entry image last) g.form) bits) same c.ways_of.ensures.bits in
     let right = subst (λ (g : Header). T (right_ways (entry image last) g.form g.lexicons)) same
     (ways_right image (header_of c.args.h) laid (of_true (right_entries image) c.requires.accepted.entries_right) last (last_in (goal.at.returns c).Else-last-eq-ROOT)) in
     let few : (header image).lexicons ≤ 64 = omega (arith, laid.limits.lexicons_most, ap (λ (g : Header). g.lexicons) same) in
