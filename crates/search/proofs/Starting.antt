@@ -1,7 +1,7 @@
 -- The search begins at the root of the model's tree, with nothing read, where no rule fails at the front.
 use Prim.Native.Nat.{ℕ}
 use native.Mathlib.Omega.{arith}
-use mathlib.Core.Bool.{Bool, true, false}
+use mathlib.Core.Bool.{Bool, false}
 use mathlib.Core.Logic.{inl}
 use mathlib.Core.Path.{◌≡◌, refl, sym, ap, ap₂, ◌∙◌, subst}
 use mathlib.Core.List.{List, []}
@@ -14,7 +14,7 @@ use Rattle.model.specs.Query.{Query}
 use Rattle.model.specs.Tree.{Node, start, readings}
 use Rattle.image.specs.Accepted.{Accepted}
 use Rattle.image.specs.Index.{index_of}
-use Rattle.rules.specs.Live.{BegunOf}
+use Rattle.rules.specs.Live.{Held, begun_of, alive_of}
 use Rattle.rows.specs.declared.Trail.{Trail}
 use Rattle.rows.specs.Trail.{Holds}
 use Rattle.listing.specs.declared.place.Place.{Place}
@@ -30,17 +30,17 @@ abbrev pub root : List ℕ → Place
 root states = record { from = 0; to = 0; last = places.root; nulls = 0; surface = record { letters = 0; nulls = 0 }; states = states }
 
 -- the readings, by whether all rules are alive after the front
-module _ (image : List ℕ) (q : Query) {lives : Bool} {states : List ℕ} (front : BegunOf image lives states) where
+module _ (image : List ℕ) (q : Query) {lives : Bool} (front : alive_of (grammar_of image) (begun_of (grammar_of image)) ≡ lives) where
   front_readings : readings (grammar_of image) q ≡ given lives (gather (grammar_of image) q 57 (start (grammar_of image) q) (record { path = []; pairing = [] }))
   unfolding start
   front_readings =
       let g = grammar_of image in
-      readings_gathered g q ∙ ap (λ (b : Bool). given b (gather g q 57 (start g q) (record { path = []; pairing = [] }))) (sym front.alive_is)
+      readings_gathered g q ∙ ap (λ (b : Bool). given b (gather g q 57 (start g q) (record { path = []; pairing = [] }))) front
 
-pub dead_found : (image : List ℕ) (q : Query) (states : List ℕ) → BegunOf image false states → readings (grammar_of image) q ≡ []
-dead_found image q states front = front_readings image q front
+pub dead_found : (image : List ℕ) (q : Query) → alive_of (grammar_of image) (begun_of (grammar_of image)) ≡ false → readings (grammar_of image) q ≡ []
+dead_found image q front = front_readings image q front
 
-module _ {image index : List ℕ} {h : Header} {states : List ℕ} {trail : Trail} (ok : Accepted image h) (indexed : index ≡ index_of image) (front : BegunOf image true states) (holds : Holds trail (record { path = []; pairing = [] }) 0 0) where
+module _ {image index : List ℕ} {h : Header} {states : List ℕ} {trail : Trail} (ok : Accepted image h) (indexed : index ≡ index_of image) (front : Held image (begun_of (grammar_of image)) states) (holds : Holds trail (record { path = []; pairing = [] }) 0 0) where
   here : Accepted image (header image)
   here = subst (Accepted image) ok.laid.header_is ok
 
@@ -55,7 +55,7 @@ module _ {image index : List ℕ} {h : Header} {states : List ℕ} {trail : Trai
       last_right = inl refl;
       nulls_in = omega arith;
       surface_in = record { letters_in = omega arith; nulls_in = omega arith };
-      states_live = front.live refl;
+      states_live = front.live;
     };
     short = holds.short;
   }
@@ -72,7 +72,7 @@ module _ {image index : List ℕ} {h : Header} {states : List ℕ} {trail : Trai
     nulls = 0;
     surface = record { letters = 0; nulls = 0 };
     spoken = record { letters = 0; nulls = 0 };
-    states = front.states_are refl i;
+    states = front.states_are i;
   }
 
   root_steps : (q : Query) → steps_from (start (grammar_of image) q) ≡ 57
@@ -86,4 +86,4 @@ module _ {image index : List ℕ} {h : Header} {states : List ℕ} {trail : Trai
       let e : node_at image (root states) trail ≡ start g q = ap₂ (node_of image (root states)) holds.entries_are holds.pairs_are ∙ root_node q in
       ap₂ (λ (n : Node) (r : Reading). gather g q (steps_from n) n r) e holds.reading
       ∙ ap (λ (k : ℕ). gather g q k (start g q) (record { path = []; pairing = [] })) (root_steps q)
-      ∙ sym (front_readings image q front)
+      ∙ sym (front_readings image q front.alive_is)

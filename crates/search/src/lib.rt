@@ -20,6 +20,7 @@ use image::Header;
 use listing::asked::Asked;
 use listing::level::Level;
 use listing::place::{Place, ROOT};
+use walk::basis::Basis;
 
 // All readings, from the first lexicon on, with the states that the rules come to at the front; none where one fails there. The table is blank.
 fn from_start(
@@ -41,48 +42,38 @@ fn from_start(
     requires by_index { (n : ℕ) × ((1 ≤ n) × (table.old ≡ replicate n 0)) }
     ensures { Offered capacity (out.old, 0) (readings (grammar_of image.now) (query_by asked path.now word.now)) (out.new, result) (length table.old) }
 {
-    let begun = rules::states::begin_all(image, index, h);
-    let alive = begun.alive;
-    if !alive {
+    let Some(states) = rules::states::begin_all(image, index, h) else {
         return 0;
-    }
-    let states = begun.states;
-    let surface = Level {
-        letters: 0,
-        nulls: 0,
     };
     let place = Place {
         from: 0,
         to: 0,
         last: ROOT,
         nulls: 0,
-        surface: surface,
-        states: states,
+        surface: Level {
+            letters: 0,
+            nulls: 0,
+        },
+        states,
     };
     let trail = rows::no_trail();
-    let word_asked = asked.word;
     let mut masks = [0u64; 128];
     let mut reach = [0u64; 65];
     let many = crate::sieve::prepare(
-        image, index, h, word_asked, word, forms, &mut masks, &mut reach,
+        image, index, h, asked.word, word, forms, &mut masks, &mut reach,
     );
-    walk::open(
+    let basis = Basis {
         image,
         index,
         h,
         asked,
         path,
         word,
-        &forms[..many],
-        &masks,
-        &reach,
-        place,
-        trail,
-        out,
-        capacity,
-        0,
-        table,
-    )
+        forms: &forms[..many],
+        masks: &masks,
+        reach: &reach,
+    };
+    walk::open(&basis, place, trail, out, capacity, 0, table)
 }
 
 // The same with a table that only counts: where that gives up, a beginning of the rows is written, and `capacity` + 2 is told.

@@ -1,3 +1,4 @@
-pub mod Turns
-pub mod Giving
 pub mod Choosing
+pub mod Giving
+pub mod Sieved
+pub mod Turns

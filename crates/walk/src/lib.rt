@@ -3,35 +3,27 @@
 
 #![tactic(auto)]
 
-ghost use Rattle.std.specs.Prelude.{true, ◌≡◌, ◌<◌, ◌≤◌, length, take};
+pub mod basis;
+
+ghost use Rattle.std.specs.Prelude.{true, ◌≡◌, ◌<◌, ◌≤◌, length};
 ghost use Rattle.model.specs.Lists.{below, flat_map};
 ghost use Rattle.rows.specs.Fill.{Roomy};
 ghost use Rattle.image.specs.Header.{header_of};
-ghost use Rattle.listing.specs.Asked.{query_by};
 ghost use Rattle.listing.specs.Search.{found_at, entry_one};
-ghost use Rattle.filter.specs.Sieve.{Sieve};
 ghost use Rattle.dead.specs.Dead.{Remembered};
+ghost use Rattle.walk.specs.Basis.{query_of};
 ghost use Rattle.walk.specs.Listed.{Listed};
 ghost use Rattle.walk.specs.Offered.{Offered};
 ghost use Rattle.ahead.specs.Here.{opens_at, Underway};
 
-use image::Header;
-use listing::asked::Asked;
+use basis::Basis;
 use listing::place::{ENDED, Place};
 use rows::Trail;
 
 // Where every letter is paired: the path ends, where it may and what is asked lets it, and then each entry that may open does, or each that the filter leaves.
 #[cycle(walk)]
 pub fn open(
-    image: &[u8],
-    index: &[u8],
-    h: Header,
-    asked: Asked,
-    path: &[u8],
-    word: &[u8],
-    forms: &[u8],
-    masks: &[u64],
-    reach: &[u64],
+    basis: &Basis<'_>,
     place: Place,
     trail: Trail,
     out: &mut [u8],
@@ -39,22 +31,24 @@ pub fn open(
     found: usize,
     table: &mut [u16],
 ) -> usize
-    requires underway { Underway image.now index.now (header_of h) place trail }
-    requires sieve { Sieve image.now (query_by asked path.now word.now) forms.now masks.now reach.now }
+    requires underway { Underway basis.now.image.now basis.now.index.now (header_of basis.now.h) place trail }
     requires place_value { opens_at place ≡ true }
     requires roomy { Roomy out.old capacity × (found ≤ capacity) }
-    requires in_bounds { (1 ≤ length table.old) × Remembered image.now (query_by asked path.now word.now) table.old }
-    ensures rows { Offered capacity (out.old, found) (found_at image.now (query_by asked path.now word.now) place trail) (out.new, result) (length table.old) }
-    ensures table { Remembered image.now (query_by asked path.now word.now) table.new }
+    requires in_bounds { (1 ≤ length table.old) × Remembered basis.now.image.now (query_of basis.now) table.old }
+    ensures rows { Offered capacity (out.old, found) (found_at basis.now.image.now (query_of basis.now) place trail) (out.new, result) (length table.old) }
+    ensures table { Remembered basis.now.image.now (query_of basis.now) table.new }
 {
     let mut n = found;
-    let path_asked = asked.path;
-    if listing::place::ends_here(image, h, path_asked, path, place, trail.entries) {
+    if listing::place::ends_here(
+        basis.image,
+        basis.h,
+        basis.asked.path,
+        basis.path,
+        place,
+        trail.entries,
+    ) {
         let stopped = listing::place::stop(place);
-        n = pair(
-            image, index, h, asked, path, word, forms, masks, reach, stopped, trail, out, capacity,
-            n, table,
-        );
+        n = pair(basis, stopped, trail, out, capacity, n, table);
         if capacity < n {
             return n;
         }
@@ -62,46 +56,30 @@ pub fn open(
     if trail.entries >= 16 {
         return n;
     }
-    let level = place.surface;
     let mut list = [0u16; 64];
-    let many = filter::choose(
-        image,
-        index,
-        h,
-        path_asked,
-        path,
-        forms,
-        masks,
-        reach,
+    let Some(many) = filter::choose(
+        basis.image,
+        basis.index,
+        basis.h,
+        basis.asked.path,
+        basis.path,
+        basis.forms,
+        basis.masks,
+        basis.reach,
         place.last,
-        level.letters,
+        place.surface.letters,
         &mut list,
-    );
-    if many == 65 {
-        return open_each(
-            image, index, h, asked, path, word, forms, masks, reach, place, trail, out, capacity,
-            n, table,
-        );
-    }
-    open_listed(
-        image, index, h, asked, path, word, forms, masks, reach, place, trail, &list, many, out,
-        capacity, n, table,
-    )
+    ) else {
+        return open_each(basis, place, trail, out, capacity, n, table);
+    };
+    open_listed(basis, place, trail, &list[..many], out, capacity, n, table)
 }
 
 // Each entry that may open does, and its letters are paired. Whether a pair may be taken at once is the same for all entries that begin with one letter:
 // `known` keeps what was seen of each, 0 before it is looked at, and where that is 1 an entry is passed over.
 #[cycle(walk)]
 pub fn open_each(
-    image: &[u8],
-    index: &[u8],
-    h: Header,
-    asked: Asked,
-    path: &[u8],
-    word: &[u8],
-    forms: &[u8],
-    masks: &[u64],
-    reach: &[u64],
+    basis: &Basis<'_>,
     place: Place,
     trail: Trail,
     out: &mut [u8],
@@ -109,105 +87,102 @@ pub fn open_each(
     found: usize,
     table: &mut [u16],
 ) -> usize
-    requires underway { Underway image.now index.now (header_of h) place trail }
-    requires sieve { Sieve image.now (query_by asked path.now word.now) forms.now masks.now reach.now }
+    requires underway { Underway basis.now.image.now basis.now.index.now (header_of basis.now.h) place trail }
     requires place_value { (opens_at place ≡ true) × (trail.entries < 16) }
     requires roomy { Roomy out.old capacity × (found ≤ capacity) }
-    requires in_bounds { (1 ≤ length table.old) × Remembered image.now (query_by asked path.now word.now) table.old }
-    ensures rows { Offered capacity (out.old, found) (flat_map (entry_one image.now (query_by asked path.now word.now) place trail) (below h.entries)) (out.new, result) (length table.old) }
-    ensures table { Remembered image.now (query_by asked path.now word.now) table.new }
+    requires in_bounds { (1 ≤ length table.old) × Remembered basis.now.image.now (query_of basis.now) table.old }
+    ensures rows { Offered capacity (out.old, found) (flat_map (entry_one basis.now.image.now (query_of basis.now) place trail) (below basis.now.h.entries)) (out.new, result) (length table.old) }
+    ensures table { Remembered basis.now.image.now (query_of basis.now) table.new }
 {
-    let path_asked = asked.path;
-    let word_asked = asked.word;
     let opening = listing::opening::ways_on(
-        image,
-        index,
-        h,
-        path_asked,
-        path,
+        basis.image,
+        basis.index,
+        basis.h,
+        basis.asked.path,
+        basis.path,
         place.last,
         trail.entries,
     );
-    let entries = h.entries;
     let mut n = found;
     let mut known = [0u8; 128];
-    let first = listing::opening::next_entry(image, index, h, opening, opening.low);
+    let first = listing::opening::next_entry(
+        basis.image,
+        basis.index,
+        basis.h,
+        opening,
+        opening.low,
+    );
     let mut e = first.entry;
     let mut ways = first.ways;
-    while e < entries {
-        let letter = ahead::starts::first_letter(image, h, e);
+    // From one entry that may open to the next: no index is counted.
+    while e < basis.h.entries {
+        let letter = ahead::starts::first_letter(basis.image, basis.h, e);
         let at = letter.0 as usize;
         if known[at] == 0 {
-            known[at] = ahead::starts::look(image, index, h, word_asked, word, place, e, letter);
+            known[at] = ahead::starts::look(
+                basis.image,
+                basis.index,
+                basis.h,
+                basis.asked.word,
+                basis.word,
+                place,
+                e,
+                letter,
+            );
         }
         if known[at] != 1 {
-            let next = listing::place::enter(image, h, place, e);
+            let next = listing::place::enter(basis.image, basis.h, place, e);
             let mut longer = trail;
-            let end = longer.entries;
-            longer.path[end] = e as u16;
-            longer.entries = end + 1;
-            n = pair(
-                image, index, h, asked, path, word, forms, masks, reach, next, longer, out,
-                capacity, n, table,
-            );
+            longer.path[longer.entries] = e as u16;
+            longer.entries += 1;
+            n = pair(basis, next, longer, out, capacity, n, table);
             if capacity < n {
                 return n;
             }
         }
-        let following = listing::opening::next_entry(image, index, h, ways, e + 1);
+        let following = listing::opening::next_entry(
+            basis.image,
+            basis.index,
+            basis.h,
+            ways,
+            e + 1,
+        );
         e = following.entry;
         ways = following.ways;
     }
     n
 }
 
-// The first entries of a list open, one after the other, where it leaves out only what finds nothing.
+// The entries of a list open, one after the other, where it leaves out only what finds nothing.
 #[cycle(walk)]
 pub fn open_listed(
-    image: &[u8],
-    index: &[u8],
-    h: Header,
-    asked: Asked,
-    path: &[u8],
-    word: &[u8],
-    forms: &[u8],
-    masks: &[u64],
-    reach: &[u64],
+    basis: &Basis<'_>,
     place: Place,
     trail: Trail,
     list: &[u16],
-    many: usize,
     out: &mut [u8],
     capacity: usize,
     found: usize,
     table: &mut [u16],
 ) -> usize
-    requires underway { Underway image.now index.now (header_of h) place trail }
-    requires sieve { Sieve image.now (query_by asked path.now word.now) forms.now masks.now reach.now }
+    requires underway { Underway basis.now.image.now basis.now.index.now (header_of basis.now.h) place trail }
     requires place_value { (opens_at place ≡ true) × (trail.entries < 16) }
-    requires many_bound { ((many ≤ 64) × (many ≤ length list.now)) × Listed image.now (query_by asked path.now word.now) place trail (take many list.now) }
+    requires listed { Listed basis.now.image.now (query_of basis.now) place trail list.now }
     requires roomy { Roomy out.old capacity × (found ≤ capacity) }
-    requires in_bounds { (1 ≤ length table.old) × Remembered image.now (query_by asked path.now word.now) table.old }
-    ensures rows { Offered capacity (out.old, found) (flat_map (entry_one image.now (query_by asked path.now word.now) place trail) (below h.entries)) (out.new, result) (length table.old) }
-    ensures table { Remembered image.now (query_by asked path.now word.now) table.new }
+    requires in_bounds { (1 ≤ length table.old) × Remembered basis.now.image.now (query_of basis.now) table.old }
+    ensures rows { Offered capacity (out.old, found) (flat_map (entry_one basis.now.image.now (query_of basis.now) place trail) (below basis.now.h.entries)) (out.new, result) (length table.old) }
+    ensures table { Remembered basis.now.image.now (query_of basis.now) table.new }
 {
     let mut n = found;
-    let mut k: usize = 0;
-    while k < many {
-        let e = list[k] as usize;
-        let next = listing::place::enter(image, h, place, e);
+    for &e in list {
+        let next = listing::place::enter(basis.image, basis.h, place, usize::from(e));
         let mut longer = trail;
-        let end = longer.entries;
-        longer.path[end] = e as u16;
-        longer.entries = end + 1;
-        n = pair(
-            image, index, h, asked, path, word, forms, masks, reach, next, longer, out, capacity,
-            n, table,
-        );
+        longer.path[longer.entries] = e;
+        longer.entries += 1;
+        n = pair(basis, next, longer, out, capacity, n, table);
         if capacity < n {
             return n;
         }
-        k += 1;
     }
     n
 }
@@ -216,15 +191,7 @@ pub fn open_listed(
 // nothing; where it found nothing, that is remembered. With a table that only counts, the search gives up where it has met too many nodes.
 #[cycle(walk)]
 pub fn pair(
-    image: &[u8],
-    index: &[u8],
-    h: Header,
-    asked: Asked,
-    path: &[u8],
-    word: &[u8],
-    forms: &[u8],
-    masks: &[u64],
-    reach: &[u64],
+    basis: &Basis<'_>,
     place: Place,
     trail: Trail,
     out: &mut [u8],
@@ -232,35 +199,48 @@ pub fn pair(
     found: usize,
     table: &mut [u16],
 ) -> usize
-    requires underway { Underway image.now index.now (header_of h) place trail }
-    requires sieve { Sieve image.now (query_by asked path.now word.now) forms.now masks.now reach.now }
+    requires underway { Underway basis.now.image.now basis.now.index.now (header_of basis.now.h) place trail }
     requires roomy { Roomy out.old capacity × (found ≤ capacity) }
-    requires in_bounds { (1 ≤ length table.old) × Remembered image.now (query_by asked path.now word.now) table.old }
-    ensures rows { Offered capacity (out.old, found) (found_at image.now (query_by asked path.now word.now) place trail) (out.new, result) (length table.old) }
-    ensures table { Remembered image.now (query_by asked path.now word.now) table.new }
+    requires in_bounds { (1 ≤ length table.old) × Remembered basis.now.image.now (query_of basis.now) table.old }
+    ensures rows { Offered capacity (out.old, found) (found_at basis.now.image.now (query_of basis.now) place trail) (out.new, result) (length table.old) }
+    ensures table { Remembered basis.now.image.now (query_of basis.now) table.new }
 {
     if !dead::count(table) {
         return capacity + 2;
     }
-    let word_asked = asked.word;
-    let led = ahead::forced::lead(image, index, h, word_asked, word, place, trail);
-    let over = led.over;
-    if over {
+    let Some(led) = ahead::forced::lead(
+        basis.image,
+        basis.index,
+        basis.h,
+        basis.asked.word,
+        basis.word,
+        place,
+        trail,
+    ) else {
         return found;
-    }
+    };
     let next = led.place;
     let longer = led.trail;
-    let entries = longer.entries;
-    let pairs = longer.pairs;
-    if dead::is_dead(image, h, table, next, entries, pairs) {
+    if dead::is_dead(
+        basis.image,
+        basis.h,
+        table,
+        next,
+        longer.entries,
+        longer.pairs,
+    ) {
         return found;
     }
-    let n = pair_each(
-        image, index, h, asked, path, word, forms, masks, reach, next, longer, out, capacity,
-        found, table,
-    );
+    let n = pair_each(basis, next, longer, out, capacity, found, table);
     if n == found {
-        dead::remember(image, h, table, next, entries, pairs);
+        dead::remember(
+            basis.image,
+            basis.h,
+            table,
+            next,
+            longer.entries,
+            longer.pairs,
+        );
     }
     n
 }
@@ -269,15 +249,7 @@ pub fn pair(
 // so without a call; where an entry may open, `open` goes on.
 #[cycle(walk)]
 pub fn pair_each(
-    image: &[u8],
-    index: &[u8],
-    h: Header,
-    asked: Asked,
-    path: &[u8],
-    word: &[u8],
-    forms: &[u8],
-    masks: &[u64],
-    reach: &[u64],
+    basis: &Basis<'_>,
     place: Place,
     trail: Trail,
     out: &mut [u8],
@@ -285,25 +257,31 @@ pub fn pair_each(
     found: usize,
     table: &mut [u16],
 ) -> usize
-    requires underway { Underway image.now index.now (header_of h) place trail }
-    requires sieve { Sieve image.now (query_by asked path.now word.now) forms.now masks.now reach.now }
+    requires underway { Underway basis.now.image.now basis.now.index.now (header_of basis.now.h) place trail }
     requires roomy { Roomy out.old capacity × (found ≤ capacity) }
-    requires in_bounds { (1 ≤ length table.old) × Remembered image.now (query_by asked path.now word.now) table.old }
-    ensures rows { Offered capacity (out.old, found) (found_at image.now (query_by asked path.now word.now) place trail) (out.new, result) (length table.old) }
-    ensures table { Remembered image.now (query_by asked path.now word.now) table.new }
+    requires in_bounds { (1 ≤ length table.old) × Remembered basis.now.image.now (query_of basis.now) table.old }
+    ensures rows { Offered capacity (out.old, found) (found_at basis.now.image.now (query_of basis.now) place trail) (out.new, result) (length table.old) }
+    ensures table { Remembered basis.now.image.now (query_of basis.now) table.new }
 {
     let mut last = place.last;
     let mut n = found;
     if place.from >= place.to {
-        if ahead::here::goes_on(image, h, place) {
-            return open(
-                image, index, h, asked, path, word, forms, masks, reach, place, trail, out,
-                capacity, found, table,
-            );
+        if ahead::here::goes_on(basis.image, basis.h, place) {
+            return open(basis, place, trail, out, capacity, found, table);
         }
         last = ENDED;
         n = ahead::here::put_ended(
-            image, index, h, asked, path, word, place, trail, out, capacity, found,
+            basis.image,
+            basis.index,
+            basis.h,
+            basis.asked,
+            basis.path,
+            basis.word,
+            place,
+            trail,
+            out,
+            capacity,
+            found,
         );
         if capacity < n {
             return n;
@@ -312,28 +290,29 @@ pub fn pair_each(
     if trail.pairs >= 40 {
         return n;
     }
-    let letter = ahead::here::next_letter(image, place);
-    let word_asked = asked.word;
-    let many = ahead::here::candidate_count(image, index, h, letter);
-    let mut k: usize = 0;
-    while k < many {
-        let p = ahead::here::candidate(image, index, h, letter, k);
-        let taken = listing::pairing::take(image, index, h, word_asked, word, place, last, p);
-        if taken.may {
-            let next = taken.place;
+    let letter = ahead::here::next_letter(basis.image, place);
+    let many = ahead::here::candidate_count(basis.image, basis.index, basis.h, letter);
+    for k in 0..many {
+        let p = ahead::here::candidate(basis.image, basis.index, basis.h, letter, k);
+        let taken = listing::pairing::take(
+            basis.image,
+            basis.index,
+            basis.h,
+            basis.asked.word,
+            basis.word,
+            place,
+            last,
+            p,
+        );
+        if let Some(next) = taken {
             let mut longer = trail;
-            let end = longer.pairs;
-            longer.pairing[end] = p as u8;
-            longer.pairs = end + 1;
-            n = pair(
-                image, index, h, asked, path, word, forms, masks, reach, next, longer, out,
-                capacity, n, table,
-            );
+            longer.pairing[longer.pairs] = p as u8;
+            longer.pairs += 1;
+            n = pair(basis, next, longer, out, capacity, n, table);
             if capacity < n {
                 return n;
             }
         }
-        k += 1;
     }
     n
 }

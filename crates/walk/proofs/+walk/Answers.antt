@@ -1,18 +1,20 @@
 -- Opening an entry and pairing its letters call each other. Where the path may end, that is offered first, and then what each entry that opens finds; at a letter, what is
 -- complete here, and then what each pair finds that may be taken.
-use Prim.Native.Nat.{ℕ, ◌+◌, ◌<◌, ◌≤◌}
+use Prim.Native.Nat.{ℕ, suc, ◌+◌, ◌<◌, ◌≤◌}
 use Rattle.ahead.proofs.Candidates.{Candidate, candidate_spells}
 use Rattle.ahead.proofs.FirstLetters.{Known, known_more, known_none}
-use Rattle.ahead.proofs.Heads.{Opening, Pairing, Settled, candidate_one, end_fills, entry_few, entry_none_lem, last_in, letter_in, open_last, open_less, open_offered, open_parts, open_turn, open_underway, pair_found, pair_last, pair_less, pair_none, pair_offered, pair_turn, pair_underway, settled_left, settled_over, stop_fills, stop_less, stop_turn, stop_underway}
+use Rattle.ahead.proofs.Heads.{Opening, Pairing, Settled, candidate_one, end_fills, entry_few, entry_none_lem, last_in, letter_in, open_last, open_less, open_offered, open_parts, open_turn}
+use Rattle.ahead.proofs.Heads.{open_underway, pair_found, pair_last, pair_less, pair_none, pair_offered, pair_turn, pair_underway, settled_left, settled_over, stop_fills, stop_less}
+use Rattle.ahead.proofs.Heads.{stop_turn, stop_underway}
 use Rattle.ahead.proofs.Standing.{not_ended}
 use Rattle.dead.proofs.Dead.{dead_again}
 use Rattle.dead.specs.Dead.{Remembered}
 use Rattle.image.specs.Header.{header_of}
 use Rattle.image.specs.Index.{candidates}
 use Rattle.listing.proofs.Searching.{stop_one, stop_unasked}
-use Rattle.listing.specs.Asked.{path_pattern, query_by}
+use Rattle.listing.specs.Asked.{path_pattern}
 use Rattle.listing.specs.Opening.{NextOf, may_enter}
-use Rattle.listing.specs.Places.{rest_of, stops_after, with_last}
+use Rattle.listing.specs.Places.{node_of, rest_of, stops_after, with_last}
 use Rattle.listing.specs.Search.{entry_one, found_at, node_at}
 use Rattle.listing.specs.declared.place.Place.{Place}
 use Rattle.model.proofs.Booleans.{and_out, of_true, true_of}
@@ -21,7 +23,7 @@ use Rattle.model.specs.GrammarOf.{grammar_of}
 use Rattle.model.specs.Lists.{below, flat_map, given}
 use Rattle.model.specs.Query.{Pattern, Query}
 use Rattle.model.specs.Readings.{Reading}
-use Rattle.model.specs.Tree.{complete}
+use Rattle.model.specs.Tree.{complete, go_at}
 use Rattle.rows.proofs.Fill.{put_keeps}
 use Rattle.rows.proofs.Longer.{longer_entry, longer_pair}
 use Rattle.rows.proofs.Offering.{offer_none}
@@ -30,11 +32,12 @@ use Rattle.rows.specs.Offering.{offer_all}
 use Rattle.rows.specs.Trail.{Holds, reading_of, with_entry, with_pair}
 use Rattle.walk.proofs.Choosing.{chosen_listed}
 use Rattle.walk.proofs.Giving.{gave_first, gave_next, gave_none, gave_same, gave_turn, offered_all, offered_none, offered_same, roomy_kept}
+use Rattle.walk.proofs.Sieved.{sieve_had}
 use Rattle.walk.proofs.Turns.{Turns, state_is, turns_all, turns_far, turns_is, turns_more, turns_none, turns_skip, turns_stop}
+use Rattle.walk.specs.Basis.{query_of}
 use Rattle.walk.specs.Offered.{Offered}
-use borrow.Author.Tests.{not-true}
-use lib.ListN.{get_or, length, set, take}
-use lib.Seq.{get_or-take, length-take-le}
+use lib.ListN.{get_or, length, set}
+use lib.Seq.{length-take-le}
 use mathlib.Core.Bool.{Bool, false, true, ◌&&◌}
 use mathlib.Core.List.{List, [], ◌∷◌}
 use mathlib.Core.Logic.{inl, inr, ⊎_elim}
@@ -50,70 +53,95 @@ use Rattle.ahead.proofs.here.next_letter.Reads as next_letter-reads
 use Rattle.ahead.proofs.here.put_ended.Reads as put_ended-reads
 use Rattle.ahead.proofs.starts.first_letter.Reads as first_letter-reads
 use Rattle.ahead.proofs.starts.look.Reads as look-reads
-use Rattle.filter.proofs.choose.Reads as choose-reads
 use Rattle.listing.proofs.opening.next_entry.Reads as next_entry-reads
 use Rattle.listing.proofs.opening.ways_on.Reads as ways_on-reads
 use Rattle.listing.proofs.pairing.take.Reads as take-reads
-use Rattle.listing.proofs.place.ends_here.Reads as ends_here-reads
 use Rattle.listing.proofs.place.enter.Reads as enter-reads
-use Rattle.listing.proofs.place.stop.Reads as stop-reads
-use Rattle.walk.proofs.+walk.Lts-open as open-lts
 use Rattle.walk.proofs.+walk.Lts-open_each as open_each-lts
-use Rattle.walk.proofs.+walk.Lts-open_listed as open_listed-lts
 use Rattle.walk.proofs.+walk.Lts-pair_each as pair_each-lts
 use Rattle.walk.proofs.open.Reads as open-reads
 use Rattle.walk.proofs.open_each.Reads as open_each-reads
-use Rattle.walk.proofs.open_listed.Reads as open_listed-reads
 use Rattle.walk.proofs.pair.Reads as pair-reads
 use Rattle.walk.proofs.pair_each.Reads as pair_each-reads
 use Rattle.walk.proofs.+walk.Goals as goal
-use Rattle.walk.proofs.+walk.Goals.{open-After-stop-stopped, open-Else-trail-ge16, open-Joined-ends_here, open-Start, open-else-ends_here, open-then-ends_here+else-capacity-n, open_each-After-first_letter-letter, open_each-After-ways_on-opening, open_each-In-loop-e, open_each-Joined-known-at-eq0, open_each-Start, open_each-else-known-at-eq0, open_each-else-known-at-ne1, open_each-then-known-at-eq0, open_each-then-known-at-ne1+else-capacity-n, open_listed-After-pair-n, open_listed-In-loop-k, open_listed-Start, pair-After-pair_each-n, pair-Start, pair_each-After-candidate-p, pair_each-After-candidate_count-many, pair_each-After-take-taken, pair_each-In-loop-k, pair_each-Joined-place, pair_each-Start, pair_each-else-place, pair_each-else-taken, pair_each-then-place+else-goes_on+else-capacity-n, pair_each-then-taken+else-capacity-n-2}
+use Rattle.walk.proofs.+walk.Goals.{open-After-stop-stopped, open-Else-trail-ge16, open-Joined-ends_here, open-Start, open-else-ends_here, open-then-ends_here+else-capacity-n}
+use Rattle.walk.proofs.+walk.Goals.{open_each-After-first_letter-letter, open_each-After-ways_on-opening, open_each-In-loop-e, open_each-Joined-known-at-eq0, open_each-Start}
+use Rattle.walk.proofs.+walk.Goals.{open_each-else-known-at-eq0, open_each-else-known-at-ne1, open_each-then-known-at-eq0, open_each-then-known-at-ne1+else-capacity-n}
+use Rattle.walk.proofs.+walk.Goals.{open_listed-After-pair-n, open_listed-In-loop-e, open_listed-Start, pair-After-pair_each-n, pair-Start, pair_each-After-candidate-p}
+use Rattle.walk.proofs.+walk.Goals.{pair_each-After-candidate_count-many, pair_each-After-take-taken, pair_each-In-loop-k, pair_each-Joined-place, pair_each-Start, pair_each-else-place}
+use Rattle.walk.proofs.+walk.Goals.{pair_each-in_default, pair_each-then-place+else-goes_on+else-capacity-n, pair_each-in-Some+else-capacity-n-2}
 
 -- places, without what the types tell there
-abbrev Plain-open-Joined-ends_here : ℕ → Type 0
-Plain-open-Joined-ends_here t = open-lts.Joined1 (ends_here-reads.Asked, ends_here-reads.Learnt, stop-reads.Asked, stop-reads.Learnt, goal.pair-below t, pair-reads.Post, choose-reads.Asked, choose-reads.Learnt, goal.open_each-below t, open_each-reads.Post, goal.open_listed-below t, open_listed-reads.Post) (goal.open-at t) open-reads.Post (goal.the-clauses-open t)
-
 abbrev Plain-open_each-After-first_letter-letter : ℕ → Type 0
-Plain-open_each-After-first_letter-letter t = open_each-lts.After-first_letter (ways_on-reads.Asked, ways_on-reads.Learnt, next_entry-reads.Asked, next_entry-reads.Learnt, first_letter-reads.Asked, first_letter-reads.Learnt, look-reads.Asked, look-reads.Learnt, enter-reads.Asked, enter-reads.Learnt, goal.pair-below t, pair-reads.Post) (goal.open_each-at t) open_each-reads.Post goal.the-open_each-invariant-loop-e goal.the-open_each-decreases-loop-e (goal.the-clauses-open_each t)
-
-abbrev Plain-open_listed-In-loop-k : ℕ → Type 0
-Plain-open_listed-In-loop-k t = open_listed-lts.In-loop (enter-reads.Asked, enter-reads.Learnt, goal.pair-below t, pair-reads.Post) (goal.open_listed-at t) open_listed-reads.Post goal.the-open_listed-invariant-loop-k goal.the-open_listed-decreases-loop-k (goal.the-clauses-open_listed t)
+Plain-open_each-After-first_letter-letter t =
+    open_each-lts.After-first_letter (
+      ways_on-reads.Asked,
+      ways_on-reads.Learnt,
+      next_entry-reads.Asked,
+      next_entry-reads.Learnt,
+      first_letter-reads.Asked,
+      first_letter-reads.Learnt,
+      look-reads.Asked,
+      look-reads.Learnt,
+      enter-reads.Asked,
+      enter-reads.Learnt,
+      goal.pair-below t,
+      pair-reads.Post,
+    ) (goal.open_each-at t) open_each-reads.Post goal.the-open_each-invariant-loop-e goal.the-open_each-decreases-loop-e (goal.the-clauses-open_each t)
 
 abbrev Plain-pair_each-Joined-place : ℕ → Type 0
-Plain-pair_each-Joined-place t = pair_each-lts.Joined1 (goes_on-reads.Asked, goes_on-reads.Learnt, goal.open-below t, open-reads.Post, put_ended-reads.Asked, put_ended-reads.Learnt, next_letter-reads.Asked, next_letter-reads.Learnt, candidate_count-reads.Asked, candidate_count-reads.Learnt, candidate-reads.Asked, candidate-reads.Learnt, take-reads.Asked, take-reads.Learnt, goal.pair-below t, pair-reads.Post) (goal.pair_each-at t) pair_each-reads.Post goal.the-pair_each-invariant-loop-k goal.the-pair_each-decreases-loop-k (goal.the-clauses-pair_each t)
+Plain-pair_each-Joined-place t =
+    pair_each-lts.Joined1 (
+      goes_on-reads.Asked,
+      goes_on-reads.Learnt,
+      goal.open-below t,
+      open-reads.Post,
+      put_ended-reads.Asked,
+      put_ended-reads.Learnt,
+      next_letter-reads.Asked,
+      next_letter-reads.Learnt,
+      candidate_count-reads.Asked,
+      candidate_count-reads.Learnt,
+      candidate-reads.Asked,
+      candidate-reads.Learnt,
+      take-reads.Asked,
+      take-reads.Learnt,
+      goal.pair-below t,
+      pair-reads.Post,
+    ) (goal.pair_each-at t) pair_each-reads.Post goal.the-pair_each-invariant-loop-k goal.the-pair_each-decreases-loop-k (goal.the-clauses-pair_each t)
 
 abbrev Plain-pair_each-After-candidate_count-many : ℕ → Type 0
-Plain-pair_each-After-candidate_count-many t = pair_each-lts.After-candidate_count (goes_on-reads.Asked, goes_on-reads.Learnt, goal.open-below t, open-reads.Post, put_ended-reads.Asked, put_ended-reads.Learnt, next_letter-reads.Asked, next_letter-reads.Learnt, candidate_count-reads.Asked, candidate_count-reads.Learnt, candidate-reads.Asked, candidate-reads.Learnt, take-reads.Asked, take-reads.Learnt, goal.pair-below t, pair-reads.Post) (goal.pair_each-at t) pair_each-reads.Post goal.the-pair_each-invariant-loop-k goal.the-pair_each-decreases-loop-k (goal.the-clauses-pair_each t)
+Plain-pair_each-After-candidate_count-many t =
+    pair_each-lts.After-candidate_count (
+      goes_on-reads.Asked,
+      goes_on-reads.Learnt,
+      goal.open-below t,
+      open-reads.Post,
+      put_ended-reads.Asked,
+      put_ended-reads.Learnt,
+      next_letter-reads.Asked,
+      next_letter-reads.Learnt,
+      candidate_count-reads.Asked,
+      candidate_count-reads.Learnt,
+      candidate-reads.Asked,
+      candidate-reads.Learnt,
+      take-reads.Asked,
+      take-reads.Learnt,
+      goal.pair-below t,
+      pair-reads.Post,
+    ) (goal.pair_each-at t) pair_each-reads.Post goal.the-pair_each-invariant-loop-k goal.the-pair_each-decreases-loop-k (goal.the-clauses-pair_each t)
 
-abbrev Plain-pair_each-In-loop-k : ℕ → Type 0
-Plain-pair_each-In-loop-k t = pair_each-lts.In-loop (goes_on-reads.Asked, goes_on-reads.Learnt, goal.open-below t, open-reads.Post, put_ended-reads.Asked, put_ended-reads.Learnt, next_letter-reads.Asked, next_letter-reads.Learnt, candidate_count-reads.Asked, candidate_count-reads.Learnt, candidate-reads.Asked, candidate-reads.Learnt, take-reads.Asked, take-reads.Learnt, goal.pair-below t, pair-reads.Post) (goal.pair_each-at t) pair_each-reads.Post goal.the-pair_each-invariant-loop-k goal.the-pair_each-decreases-loop-k (goal.the-clauses-pair_each t)
+-- from a place to one before it
+abbrev pair_each_place : (t : ℕ) → Plain-pair_each-After-candidate_count-many t → Plain-pair_each-Joined-place t
+pair_each_place t c = let half = c.before.before.before.before in half.before.before.before.before
 
--- from a place to the ones before it
-abbrev open_each_start_from_first_letter_letter : (t : ℕ) → Plain-open_each-After-first_letter-letter t → open_each-Start t
-open_each_start_from_first_letter_letter t c = let half = c.before.before.before.before in let later = half.before.before.before.before in let next = later.before.before.before.before in next.before.before.before
-
-abbrev open_each_start_from_loop_e : (t : ℕ) → open_each-In-loop-e t → open_each-Start t
-open_each_start_from_loop_e t c = let half = c.before.before.before.before in let later = half.before.before.before.before in let next = later.before.before.before.before in next.before.before.before
-
-abbrev open_listed_start_from_loop_k : (t : ℕ) → Plain-open_listed-In-loop-k t → open_listed-Start t
-open_listed_start_from_loop_k t c = let half = c.before.before.before.before in let later = half.before.before.before.before in later.before.before.before.before
-
-abbrev open_listed_loop_k_from_pair_n : (t : ℕ) → open_listed-After-pair-n t → Plain-open_listed-In-loop-k t
-open_listed_loop_k_from_pair_n t c = let half = c.before.before.before.before in half.before.before
-
-abbrev open_listed_start_from_pair_n : (t : ℕ) → open_listed-After-pair-n t → open_listed-Start t
-open_listed_start_from_pair_n t c = let half = c.before.before.before.before in let later = half.before.before.before.before in let next = later.before.before.before.before in let earlier = next.before.before.before.before in earlier.before.before
-
-abbrev pair_start_from_pair_each_n : (t : ℕ) → pair-After-pair_each-n t → pair-Start t
-pair_start_from_pair_each_n t c = let half = c.before.before.before.before in let later = half.before.before.before.before in let next = later.before.before.before.before in let earlier = next.before.before.before.before in let first = earlier.before.before.before.before in first.before.before.before.before
-
-abbrev pair_each_place_from_candidate_count_many : (t : ℕ) → pair_each-After-candidate_count-many t → Plain-pair_each-Joined-place t
-pair_each_place_from_candidate_count_many t c = let half = c.before.before.before.before in half.before
+abbrev pair_each_turn : (t : ℕ) → pair_each-After-candidate-p t → pair_each-In-loop-k t
+pair_each_turn t c = c.before.before.before.before
 
 -- `open`: Where the path may end, that is offered first; then all entries that may open are, or those that the filter leaves.
 
 abbrev open_query : (t : ℕ) → open-Start t → Query
-open_query t s = query_by s.args.asked s.args.path.now s.args.word.now
+open_query t s = query_of s.args.basis.now
 
 -- whether the path ends here
 pub open-ends_here-requires : goal.open-ends_here-requires
@@ -123,8 +151,8 @@ pub open-pair-n-requires : goal.open-pair-n-requires
 open-pair-n-requires t c =
     let place = c.stop-stopped in
     let o = c.requires.place_value in
-    let less = stop_less c.requires.underway o place.result place.ensures.go (query_by c.args.asked c.args.path.now c.args.word.now) in
-    (omega (arith, c.decreases, less), (stop_underway c.requires.underway o place.result place.ensures.go place.ensures.stands, (c.requires.sieve, (c.requires.roomy, c.requires.in_bounds))))
+    let less = stop_less c.requires.underway o place.result place.ensures.go (query_of c.args.basis.now) in
+    (omega (arith, c.decreases, less), (stop_underway c.requires.underway o place.result place.ensures.go place.ensures.stands, (c.requires.roomy, c.requires.in_bounds)))
 
 -- it may end here, and what is asked lets it
 open_stops : (image : List ℕ) (q : Query) (last entries : ℕ) {r : Bool} → r ≡ (stops_after image last && q.entries.may_end entries) → r ≡ true → stops_after image last ≡ true
@@ -134,26 +162,28 @@ pub open-returns-then-capacity-n : goal.open-returns-then-capacity-n
 open-returns-then-capacity-n t c =
     let a = c.args in
     let o = c.requires.place_value in
-    let may = open_stops a.image.now (query_by a.asked a.path.now a.word.now) a.place.last a.trail.entries c.ends_here.ensures c.if-ends_here.true in
-    let turn = stop_turn c.requires.underway o c.stop-stopped.result c.stop-stopped.ensures.go (query_by c.args.asked c.args.path.now c.args.word.now) may in record {
+    let may = open_stops a.basis.now.image.now (query_of a.basis.now) a.place.last a.trail.entries c.ends_here.ensures c.if-ends_here.true in
+    let turn = stop_turn c.requires.underway o c.stop-stopped.result c.stop-stopped.ensures.go (query_of c.args.basis.now) may in record {
       rows = ⊎_elim
-          (λ e. inl (stop_fills c.requires.underway (query_by c.args.asked c.args.path.now c.args.word.now) (put a.capacity) (a.out.now, a.found) (put_keeps a.capacity) c.if-capacity-n.true o e))
-          (λ g. inr (gave_same (sym (open_parts c.requires.underway (query_by c.args.asked c.args.path.now c.args.word.now) o)) (gave_first _ g)))
+          (λ e. inl (stop_fills c.requires.underway (query_of c.args.basis.now) (put a.capacity) (a.out.now, a.found) (put_keeps a.capacity) c.if-capacity-n.true o e))
+          (λ g. inr (gave_same (sym (open_parts c.requires.underway (query_of c.args.basis.now) o)) (gave_first _ g)))
           (offered_same turn refl c.pair-n.ensures.rows);
       table = c.pair-n.ensures.table;
     }
 
 -- what the ending finds has been offered
-open_ending : (t : ℕ) → (w : Plain-open-Joined-ends_here t) → let a = w.args in
-    (w.if-ends_here.out, w.if-ends_here.n) ≡ offer_all (put a.capacity) (a.out.now, a.found) (stop_one a.image.now (query_by w.args.asked w.args.path.now w.args.word.now) a.place a.trail)
+open_ending : (t : ℕ) → (w : open-Joined-ends_here t) → let a = w.args in
+    (w.if-ends_here.out, w.if-ends_here.n) ≡ offer_all (put a.capacity) (a.out.now, a.found) (stop_one a.basis.now.image.now (query_of w.args.basis.now) a.place a.trail)
 open_ending t w =
     let a = w.args in
     let asked = w.ends_here.ensures in
     let offered : List Reading → List ℕ × ℕ = offer_all (put a.capacity) (a.out.now, a.found) in
     elim w.if-ends_here.branch [
-      | open-then-ends_here+else-capacity-n v ↦ let turn = stop_turn w.requires.underway w.requires.place_value v.stop-stopped.result v.stop-stopped.ensures.go (query_by w.args.asked w.args.path.now w.args.word.now) (open_stops a.image.now (query_by a.asked a.path.now a.word.now) a.place.last a.trail.entries asked v.if-ends_here.true) in
+      | open-then-ends_here+else-capacity-n v ↦ let turn = stop_turn w.requires.underway w.requires.place_value v.stop-stopped.result v.stop-stopped.ensures.go
+          (query_of w.args.basis.now) (open_stops a.basis.now.image.now (query_of a.basis.now) a.place.last a.trail.entries asked v.if-ends_here.true) in
           state_is (offered_all (omega (arith, v.if-capacity-n.false)) (offered_same turn refl v.pair-n.ensures.rows)) v.out-is v.n-is
-      | open-else-ends_here v ↦ state_is (sym (ap offered (stop_unasked a.image.now (query_by w.args.asked w.args.path.now w.args.word.now) a.place a.trail (sym asked ∙ v.if-ends_here.false)) ∙ offer_none _ _)) v.out-is v.n-is
+      | open-else-ends_here v ↦ state_is
+          (sym (ap offered (stop_unasked a.basis.now.image.now (query_of w.args.basis.now) a.place a.trail (sym asked ∙ v.if-ends_here.false)) ∙ offer_none _ _)) v.out-is v.n-is
     ]
 
 open_kept : (t : ℕ) → (w : open-Joined-ends_here t) → length w.if-ends_here.out ≡ length w.args.out.now
@@ -171,61 +201,86 @@ open_roomy t w = (
   ],
 )
 
-open_tabled : (t : ℕ) → (w : Plain-open-Joined-ends_here t) → Tabled w.args.image.now (query_by w.args.asked w.args.path.now w.args.word.now) w.args.table.now w.if-ends_here.table
+open_tabled : (t : ℕ) → (w : open-Joined-ends_here t) → Tabled w.args.basis.now.image.now (query_of w.args.basis.now) w.args.table.now w.if-ends_here.table
 open_tabled t w =
-    let known : List ℕ → Type 0 = Tabled w.args.image.now (query_by w.args.asked w.args.path.now w.args.word.now) w.args.table.now in
+    let known : List ℕ → Type 0 = Tabled w.args.basis.now.image.now (query_of w.args.basis.now) w.args.table.now in
     elim w.if-ends_here.branch [
       | open-then-ends_here+else-capacity-n v ↦ subst known (sym v.table-is) (v.pair-n.auto.table, v.pair-n.ensures.table)
       | open-else-ends_here v ↦ subst known (sym v.table-is) (refl, w.requires.in_bounds.1)
     ]
 
 -- what the call asks of the table
-open_lent : (t : ℕ) → (w : open-Joined-ends_here t) → (1 ≤ length w.if-ends_here.table) × Remembered w.args.image.now (query_by w.args.asked w.args.path.now w.args.word.now) w.if-ends_here.table
-open_lent t w = (omega (arith, (open_tabled t w.before).0, w.requires.in_bounds.0), (open_tabled t w.before).1)
+open_lent : (t : ℕ) → (w : open-Joined-ends_here t) → (1 ≤ length w.if-ends_here.table) × Remembered w.args.basis.now.image.now (query_of w.args.basis.now) w.if-ends_here.table
+open_lent t w = (omega (arith, (open_tabled t w).0, w.requires.in_bounds.0), (open_tabled t w).1)
 
 -- with no entry to spare
 pub open-returns-then-trail-ge16 : goal.open-returns-then-trail-ge16
 open-returns-then-trail-ge16 t c =
-    record { rows = inl (open_ending t (goal.at.open-returns-then-trail-ge16 t c).Joined-ends_here.before ∙ ap (offer_all (put c.args.capacity) (c.args.out.now, c.args.found)) (sym (open_last c.requires.underway (query_by c.args.asked c.args.path.now c.args.word.now) c.requires.place_value c.if-trail-ge16.true))); table = (open_tabled t (goal.at.open-returns-then-trail-ge16 t c).Joined-ends_here.before).1 }
+    record {
+      rows = inl (open_ending t (goal.at.open-returns-then-trail-ge16 t c).Joined-ends_here ∙ ap (offer_all (put c.args.capacity) (c.args.out.now, c.args.found))
+          (sym (open_last c.requires.underway (query_of c.args.basis.now) c.requires.place_value c.if-trail-ge16.true)));
+      table = (open_tabled t
+          (goal.at.open-returns-then-trail-ge16 t c).Joined-ends_here).1;
+    }
 
-open_opening : (t : ℕ) → (c : open-Else-trail-ge16 t) → let a = c.args in Opening a.image.now a.index.now (header_of a.h) a.place a.trail
+open_opening : (t : ℕ) → (c : open-Else-trail-ge16 t) → let a = c.args in Opening a.basis.now.image.now a.basis.now.index.now (header_of a.basis.now.h) a.place a.trail
 open_opening t c = record { underway = c.requires.underway; open_here = c.requires.place_value; spare = c.if-trail-ge16.false }
 
 -- what the entries offer comes after it
 open_whole : (t : ℕ) → (c : open-Else-trail-ge16 t) {state : List ℕ × ℕ} → let a = c.args in
-    Offered a.capacity (c.if-ends_here.out, c.if-ends_here.n) (flat_map (entry_one a.image.now (query_by c.args.asked c.args.path.now c.args.word.now) a.place a.trail) (below a.h.entries)) state (length c.if-ends_here.table)
-    → Offered a.capacity (a.out.now, a.found) (found_at a.image.now (query_by c.args.asked c.args.path.now c.args.word.now) a.place a.trail) state (length a.table.now)
+    Offered a.capacity (c.if-ends_here.out, c.if-ends_here.n) (flat_map (entry_one a.basis.now.image.now (query_of c.args.basis.now) a.place a.trail) (below a.basis.now.h.entries)) state
+    (length c.if-ends_here.table)
+    → Offered a.capacity (a.out.now, a.found) (found_at a.basis.now.image.now (query_of c.args.basis.now) a.place a.trail) state (length a.table.now)
 open_whole t c o =
     let a = c.args in
     ⊎_elim
-    (λ e. inl (open_offered (open_opening t c) (query_by c.args.asked c.args.path.now c.args.word.now) (put a.capacity) (a.out.now, a.found) (open_ending t c.before.before.before) e))
-    (λ g. inr (gave_same (sym (open_parts c.requires.underway (query_by c.args.asked c.args.path.now c.args.word.now) c.requires.place_value)) (gave_next _ (open_ending t c.before.before.before) g)))
-    (offered_same refl (open_tabled t c.before.before.before).0 o)
+    (λ e. inl (open_offered (open_opening t c) (query_of c.args.basis.now) (put a.capacity) (a.out.now, a.found) (open_ending t c.before.before) e))
+    (λ g. inr (gave_same (sym (open_parts c.requires.underway (query_of c.args.basis.now) c.requires.place_value)) (gave_next _ (open_ending t c.before.before) g)))
+    (offered_same refl (open_tabled t c.before.before).0 o)
 
-pub open-choose-many-requires : goal.open-choose-many-requires
-open-choose-many-requires t c =
+pub open-choose-requires : goal.open-choose-requires
+open-choose-requires t c =
     let underway = c.requires.underway in
-    record { accepted = underway.accepted; index_value = underway.indexed; fact = last_in underway c.requires.place_value; letters_bound = (underway.stands.surface_in.letters_in, omega arith); sieve = (open_query t (goal.at.open-choose-many-requires t c).Start, c.requires.sieve) }
+    let query = open_query t (goal.at.open-choose-requires t c).Start in
+    let letters = underway.stands.surface_in.letters_in in
+    let sieve = sieve_had c.args.basis.now.sieve in
+    record { accepted = underway.accepted; index_value = underway.indexed; fact = last_in underway c.requires.place_value; letters_bound = (letters, omega arith); sieve = (query, sieve) }
 
 -- all that may open
 pub open-open_each-requires : goal.open-open_each-requires
-open-open_each-requires t c =
-    (omega (arith, c.decreases), (c.requires.underway, (c.requires.sieve, ((c.requires.place_value, c.if-trail-ge16.false), (open_roomy t (goal.at.open-open_each-requires t c).Joined-ends_here, open_lent t (goal.at.open-open_each-requires t c).Joined-ends_here)))))
+open-open_each-requires t c = (
+  omega (arith, c.decreases),
+  (
+    c.requires.underway,
+    (
+      (c.requires.place_value, c.if-trail-ge16.false),
+      (open_roomy t (goal.at.open-open_each-requires t c).Joined-ends_here, open_lent t (goal.at.open-open_each-requires t c).Joined-ends_here),
+    ),
+  ),
+)
 
-pub open-returns-then-many-eq65 : goal.open-returns-then-many-eq65
-open-returns-then-many-eq65 t c = record { rows = open_whole t (goal.at.open-returns-then-many-eq65 t c).Else-trail-ge16 c.open_each.ensures.rows; table = c.open_each.ensures.table }
+pub open-returns-in_default : goal.open-returns-in_default
+open-returns-in_default t c = record { rows = open_whole t (goal.at.open-returns-in_default t c).Else-trail-ge16 c.open_each.ensures.rows; table = c.open_each.ensures.table }
 
 -- those that the filter leaves
 pub open-slice_bounds-open_listed-end : goal.open-slice_bounds-open_listed-end
-open-slice_bounds-open_listed-end t c = sym c.choose-many.auto.list
+open-slice_bounds-open_listed-end t c = sym (length-take-le c.in-Some.many c.choose.new.list (omega (arith, c.in-Some.ensures.0, c.choose.auto.list)))
 
 pub open-open_listed-requires : goal.open-open_listed-requires
 open-open_listed-requires t c =
     let spare = c.if-trail-ge16.false in
-    let left = ⊎_elim (λ e. absurd (c.if-many-eq65.false e)) (λ r. r) c.choose-many.ensures in
-    let long = c.choose-many.auto.list in (
+    let listed = chosen_listed (sieve_had c.args.basis.now.sieve) spare c.in-Some.ensures.1 in (
       omega (arith, c.decreases),
-      (c.requires.underway, (c.requires.sieve, ((c.requires.place_value, spare), (((left.0, omega (arith, left.0, long)), chosen_listed c.requires.sieve spare left.1), (open_roomy t (goal.at.open-open_listed-requires t c).Joined-ends_here, open_lent t (goal.at.open-open_listed-requires t c).Joined-ends_here))))),
+      (
+        c.requires.underway,
+        (
+          (c.requires.place_value, spare),
+          (
+            listed,
+            (open_roomy t (goal.at.open-open_listed-requires t c).Joined-ends_here, open_lent t (goal.at.open-open_listed-requires t c).Joined-ends_here),
+          ),
+        ),
+      ),
     )
 
 pub open-returns : goal.open-returns
@@ -242,9 +297,9 @@ before_next {may} {bound} {e} {low} before next k h = go (dec_lt k low)
     go (no l) = next.passed k (omega arith) h
 
 abbrev open_each_query : (t : ℕ) → open_each-Start t → Query
-open_each_query t s = query_by s.args.asked s.args.path.now s.args.word.now
+open_each_query t s = query_of s.args.basis.now
 
-open_each_opening : (t : ℕ) → (w : open_each-Start t) → let a = w.args in Opening a.image.now a.index.now (header_of a.h) a.place a.trail
+open_each_opening : (t : ℕ) → (w : open_each-Start t) → let a = w.args in Opening a.basis.now.image.now a.basis.now.index.now (header_of a.basis.now.h) a.place a.trail
 open_each_opening t w = record { underway = w.requires.underway; open_here = w.requires.place_value.0; spare = w.requires.place_value.1 }
 
 pub open_each-ways_on-opening-requires : goal.open_each-ways_on-opening-requires
@@ -252,23 +307,29 @@ open_each-ways_on-opening-requires t c =
     let underway = c.requires.underway in
     record { accepted = underway.accepted; index_value = underway.indexed; fact = last_in underway c.requires.place_value.0 }
 
-open_each_entries_are : (t : ℕ) → (w : open_each-After-ways_on-opening t) → let a = w.args in a.h.entries ≡ (header a.image.now).entries
+open_each_entries_are : (t : ℕ) → (w : open_each-After-ways_on-opening t) → let a = w.args in a.basis.now.h.entries ≡ (header a.basis.now.image.now).entries
 open_each_entries_are t w = ap (λ (g : Header). g.entries) w.requires.underway.accepted.laid.header_is
 
 pub open_each-next_entry-first-requires : goal.open_each-next_entry-first-requires
 open_each-next_entry-first-requires t c =
     let underway = c.requires.underway in
     let ways = c.ways_on-opening.ensures.ways in
-    record { accepted = underway.accepted; index_value = underway.indexed; known = ways.known; low_le_from = (omega arith, omega (arith, ways.low_in, open_each_entries_are t c)) }
+    let entries = open_each_entries_are t (goal.at.open_each-next_entry-first-requires t c).After-ways_on-opening in
+    record { accepted = underway.accepted; index_value = underway.indexed; known = ways.known; low_le_from = (omega arith, omega (arith, ways.low_in, entries)) }
 
 pub open_each-loop-e-init : goal.open_each-loop-e-init
 open_each-loop-e-init t c =
     let a = c.args in
     let next = c.next_entry-first.ensures _ c.ways_on-opening.ensures.ways in
     let e = c.next_entry-first.result.entry in
-    let finds : ℕ → List Reading = entry_one a.image.now (query_by c.args.asked c.args.path.now c.args.word.now) a.place a.trail in
-    let none : (k : ℕ) → k < e → finds k ≡ [] = λ k h. entry_none_lem (open_each_opening t (goal.at.open_each-loop-e-init t c).Start) (query_by c.args.asked c.args.path.now c.args.word.now) k (before_next c.ways_on-opening.ensures.before next.next k h) in
-    let passes : e < a.h.entries → may_enter a.image.now (query_by c.args.asked c.args.path.now c.args.word.now).entries a.place.last a.trail.entries e ≡ true = λ h. next.next.passes (omega (arith, h, open_each_entries_are t (goal.at.open_each-loop-e-init t c).After-ways_on-opening)) in (
+    let finds : ℕ → List Reading = entry_one a.basis.now.image.now (query_of c.args.basis.now) a.place a.trail in
+    let none : (k : ℕ) → k < e
+    → finds k
+    ≡ [] = λ k h. entry_none_lem (open_each_opening t (goal.at.open_each-loop-e-init t c).Start) (query_of c.args.basis.now) k
+    (before_next c.ways_on-opening.ensures.before next.next k h) in
+    let passes : e < a.basis.now.h.entries
+    → may_enter a.basis.now.image.now (query_of c.args.basis.now).entries a.place.last a.trail.entries e
+    ≡ true = λ h. next.next.passes (omega (arith, h, open_each_entries_are t (goal.at.open_each-loop-e-init t c).After-ways_on-opening)) in (
       (refl, c.requires.in_bounds.1),
       (
         (next.ways, (omega (arith, next.low_is), (omega (arith, next.next.in_bound, open_each_entries_are t (goal.at.open_each-loop-e-init t c).After-ways_on-opening), passes))),
@@ -281,7 +342,7 @@ open_each-first_letter-letter-requires t c = record { accepted = (open_each_open
 
 -- what is known of its first letter
 open_each_letter_few : (t : ℕ) → (c : Plain-open_each-After-first_letter-letter t) → c.first_letter-letter.result.0 < 128
-open_each_letter_few t c = omega (arith, c.first_letter-letter.ensures.1, (open_each_opening t (open_each_start_from_first_letter_letter t c)).underway.accepted.laid.limits.letters_most)
+open_each_letter_few t c = omega (arith, c.first_letter-letter.ensures.1, c.requires.underway.accepted.laid.limits.letters_most)
 
 pub open_each-bounds-known-at : goal.open_each-bounds-known-at
 open_each-bounds-known-at t c = open_each_letter_few t (goal.at.open_each-bounds-known-at t c).After-first_letter-letter.before
@@ -294,13 +355,15 @@ open_each-look-requires t c =
 pub open_each-bounds-known-at-then-known-at-eq0 : goal.open_each-bounds-known-at-then-known-at-eq0
 open_each-bounds-known-at-then-known-at-eq0 t c = open_each_letter_few t (goal.at.open_each-bounds-known-at-then-known-at-eq0 t c).After-first_letter-letter.before
 
-open_each_looked : (t : ℕ) → (c : open_each-Joined-known-at-eq0 t) → Known c.args.image.now (query_by c.args.asked c.args.path.now c.args.word.now) c.args.place c.args.trail c.if-known-at-eq0.known
+open_each_looked : (t : ℕ) → (c : open_each-Joined-known-at-eq0 t) → Known c.args.basis.now.image.now (query_of c.args.basis.now) c.args.place c.args.trail c.if-known-at-eq0.known
 open_each_looked t c =
     let loop = c.loop-e in
     let letter = c.first_letter-letter in
     let a = c.args in
     elim c.if-known-at-eq0.branch [
-      | open_each-then-known-at-eq0 v ↦ rw v.known-is (known_more loop.invariant.1.1.1.1 loop.e letter.result.0 v.look.result (open_each_letter_few t c.before.before.before) letter.ensures.0 (v.look.ensures (path_pattern a.asked.path a.path.now)))
+      | open_each-then-known-at-eq0 v ↦ rw v.known-is
+          (known_more loop.invariant.1.1.1.1 loop.e letter.result.0 v.look.result (open_each_letter_few t c.before.before.before) letter.ensures.0
+          (v.look.ensures (path_pattern a.basis.now.asked.path a.basis.now.path.now)))
       | open_each-else-known-at-eq0 v ↦ rw v.known-is loop.invariant.1.1.1.1
     ]
 
@@ -316,12 +379,6 @@ open_each-enter-next-requires t c =
 pub open_each-overflow_cast-longer : goal.open_each-overflow_cast-longer
 open_each-overflow_cast-longer t c = omega (arith, entry_few (open_each_opening t (goal.at.open_each-overflow_cast-longer t c).Start) c.loop-e.e c.loop-e-test.true)
 
-pub open_each-offset_bounds-longer-end : goal.open_each-offset_bounds-longer-end
-open_each-offset_bounds-longer-end t c = omega (arith, (open_each_opening t (goal.at.open_each-offset_bounds-longer-end t c).Start).spare)
-
-pub open_each-bounds-longer-end : goal.open_each-bounds-longer-end
-open_each-bounds-longer-end t c = (open_each_opening t (goal.at.open_each-bounds-longer-end t c).Start).spare
-
 pub open_each-overflow_add-longer : goal.open_each-overflow_add-longer
 open_each-overflow_add-longer t c = omega (arith, (open_each_opening t (goal.at.open_each-overflow_add-longer t c).Start).spare)
 
@@ -336,12 +393,11 @@ open_each_longer : (t : ℕ) → (c : open_each-In-loop-e t) → let a = c.args 
     }) (with_entry (reading_of
     a.trail) e) (a.trail.entries + 1) a.trail.pairs
 open_each_longer t c =
-    let o = open_each_opening t (open_each_start_from_loop_e t c) in
     let a = c.args in
-    let good = c.well_formed.1.1.1.1.1.1.1.1.1.1.0 in
-    let spare = o.spare in
+    let good = c.well_formed.1.1.0 in
+    let spare = c.requires.place_value.1 in
     let room : a.trail.entries < length a.trail.path = search rules in
-    longer_entry a.trail o.underway.short o.spare room c.loop-e.e
+    longer_entry a.trail c.requires.underway.short spare room c.loop-e.e
 
 pub open_each-pair-n-requires : goal.open_each-pair-n-requires
 open_each-pair-n-requires t c =
@@ -349,20 +405,23 @@ open_each-pair-n-requires t c =
     let loop = c.loop-e in
     let next = c.enter-next in
     let holds = open_each_longer t (goal.at.open_each-pair-n-requires t c).In-loop-e in
-    let less = open_less o loop.e holds next.result next.ensures.go (query_by c.args.asked c.args.path.now c.args.word.now) in
+    let less = open_less o loop.e holds next.result next.ensures.go (query_of c.args.basis.now) in
     let underway = open_underway o loop.e holds next.result next.ensures.go next.ensures.stands in
     let roomy : Roomy loop.out c.args.capacity = roomy_kept loop.invariant.1.1.0.0 c.requires.roomy.0 in
-    (omega (arith, c.decreases, less), (underway, (c.requires.sieve, ((roomy, loop.invariant.1.1.0.1), (omega (arith, c.requires.in_bounds.0, loop.invariant.0.0), loop.invariant.0.1)))))
+    (omega (arith, c.decreases, less), (underway, ((roomy, loop.invariant.1.1.0.1), (omega (arith, c.requires.in_bounds.0, loop.invariant.0.0), loop.invariant.0.1))))
 
 pub open_each-returns-then-capacity-n : goal.open_each-returns-then-capacity-n
 open_each-returns-then-capacity-n t c =
     let loop = c.loop-e in
     let next = c.enter-next in
     let passed = loop.invariant.1.1.1.0 in
-    let turn = open_turn (open_each_opening t (goal.at.open_each-returns-then-capacity-n t c).Start) loop.e (open_each_longer t (goal.at.open_each-returns-then-capacity-n t c).In-loop-e) next.result next.ensures.go (query_by c.args.asked c.args.path.now c.args.word.now) (loop.invariant.1.0.1.1.1 c.loop-e-test.true) in record {
+    let turn = open_turn (open_each_opening t (goal.at.open_each-returns-then-capacity-n t c).Start) loop.e
+    (open_each_longer t (goal.at.open_each-returns-then-capacity-n t c).In-loop-e) next.result next.ensures.go (query_of c.args.basis.now)
+    (loop.invariant.1.0.1.1.1 c.loop-e-test.true) in
+    record {
       rows = ⊎_elim
-          (λ e. inl (turns_stop (put_keeps c.args.capacity) c.args.h.entries (turns_more _ passed e refl) (omega (arith, c.loop-e-test.true)) c.if-capacity-n.true))
-          (λ g. inr (gave_turn c.args.h.entries passed c.loop-e-test.true g))
+          (λ e. inl (turns_stop (put_keeps c.args.capacity) c.args.basis.now.h.entries (turns_more _ passed e refl) (omega (arith, c.loop-e-test.true)) c.if-capacity-n.true))
+          (λ g. inr (gave_turn c.args.basis.now.h.entries passed c.loop-e-test.true g))
           (offered_same turn loop.invariant.0.0 c.pair-n.ensures.rows);
       table = c.pair-n.ensures.table;
     }
@@ -388,19 +447,34 @@ open_each-loop-e-preserved t c =
     let letter = c.first_letter-letter in
     let next = c.next_entry-following.ensures _ loop.invariant.1.0.0 in
     let e = c.next_entry-following.result.entry in
-    let known : List ℕ → Type 0 = Tabled c.args.image.now (query_by c.args.asked c.args.path.now c.args.word.now) c.args.table.now in
-    let passed : Turns (put c.args.capacity) (entry_one c.args.image.now (query_by c.args.asked c.args.path.now c.args.word.now) c.args.place c.args.trail) (c.args.out.now, c.args.found) (c.if-known-at-ne1.out, c.if-known-at-ne1.n) (c.loop-e.e + 1) =
+    let known : List ℕ → Type 0 = Tabled c.args.basis.now.image.now (query_of c.args.basis.now) c.args.table.now in
+    let passed : Turns (put c.args.capacity) (entry_one c.args.basis.now.image.now (query_of c.args.basis.now) c.args.place c.args.trail) (c.args.out.now, c.args.found)
+    (c.if-known-at-ne1.out, c.if-known-at-ne1.n) (c.loop-e.e + 1) =
     elim c.if-known-at-ne1.branch [
-      | open_each-then-known-at-ne1+else-capacity-n v ↦ let one = open_turn o loop.e (open_each_longer t (goal.at.open_each-loop-e-preserved t c).In-loop-e) v.enter-next.result v.enter-next.ensures.go (query_by c.args.asked c.args.path.now c.args.word.now) (loop.invariant.1.0.1.1.1 c.loop-e-test.true) in
+      | open_each-then-known-at-ne1+else-capacity-n v ↦ let one = open_turn o loop.e
+          (open_each_longer t (goal.at.open_each-loop-e-preserved t c).In-loop-e) v.enter-next.result v.enter-next.ensures.go (query_of c.args.basis.now)
+          (loop.invariant.1.0.1.1.1 c.loop-e-test.true) in
           turns_is (turns_more _ loop.invariant.1.1.1.0 (offered_all (omega (arith, v.if-capacity-n.false)) v.pair-n.ensures.rows) one) v.out-is v.n-is
-      | open_each-else-known-at-ne1 v ↦ turns_is (turns_skip loop.invariant.1.1.1.0 ((open_each_looked t (goal.at.open_each-loop-e-preserved t c).Joined-known-at-eq0).barren letter.result.0 v.if-known-at-ne1.false loop.e (sym letter.ensures.0))) v.out-is v.n-is
+      | open_each-else-known-at-ne1 v ↦ turns_is
+          (turns_skip loop.invariant.1.1.1.0
+          ((open_each_looked t (goal.at.open_each-loop-e-preserved t c).Joined-known-at-eq0).barren letter.result.0 v.if-known-at-ne1.false loop.e (sym letter.ensures.0))) v.out-is v.n-is
     ] in (
       elim c.if-known-at-ne1.branch [
         | open_each-then-known-at-ne1+else-capacity-n v ↦ subst known (sym v.table-is) (v.pair-n.auto.table ∙ loop.invariant.0.0, v.pair-n.ensures.table)
         | open_each-else-known-at-ne1 v ↦ subst known (sym v.table-is) loop.invariant.0
       ],
       (
-        (next.ways, (omega (arith, next.low_is), (omega (arith, next.next.in_bound, open_each_entries_are t (goal.at.open_each-loop-e-preserved t c).After-ways_on-opening), λ h. next.next.passes (omega (arith, h, open_each_entries_are t (goal.at.open_each-loop-e-preserved t c).After-ways_on-opening))))),
+        (
+          next.ways,
+          (
+            omega (arith, next.low_is),
+            (
+              omega (arith, next.next.in_bound, open_each_entries_are t (goal.at.open_each-loop-e-preserved t c).After-ways_on-opening),
+              λ h. next.next.passes
+                  (omega (arith, h, open_each_entries_are t (goal.at.open_each-loop-e-preserved t c).After-ways_on-opening)),
+            ),
+          ),
+        ),
         (
           (
             elim c.if-known-at-ne1.branch [
@@ -412,155 +486,145 @@ open_each-loop-e-preserved t c =
               | open_each-else-known-at-ne1 v ↦ omega (arith, v.n-is, loop.invariant.1.1.0.1)
             ],
           ),
-          (turns_far e passed next.next.onward (λ k i h. entry_none_lem o (query_by c.args.asked c.args.path.now c.args.word.now) k (next.next.passed k i h)), open_each_looked t (goal.at.open_each-loop-e-preserved t c).Joined-known-at-eq0),
+          (
+            turns_far e passed next.next.onward (λ k i h. entry_none_lem o (query_of c.args.basis.now) k (next.next.passed k i h)),
+            open_each_looked t
+                (goal.at.open_each-loop-e-preserved t c).Joined-known-at-eq0,
+          ),
         ),
       ),
     )
 
 pub open_each-returns : goal.open_each-returns
 open_each-returns t c =
-    record { rows = inl (turns_all c.args.h.entries c.loop-e.invariant.1.1.1.0 (omega (arith, c.loop-e-test.false, c.loop-e.invariant.1.0.1.1.0))); table = c.loop-e.invariant.0.1 }
+    record { rows = inl (turns_all c.args.basis.now.h.entries c.loop-e.invariant.1.1.1.0 (omega (arith, c.loop-e-test.false, c.loop-e.invariant.1.0.1.1.0))); table = c.loop-e.invariant.0.1 }
 
 -- `open_listed`: At the loop's head an `Opening` is known, and the list; each turn offers what its entry finds.
 
-abbrev open_listed_query : (t : ℕ) → open_listed-Start t → Query
-open_listed_query t s = query_by s.args.asked s.args.path.now s.args.word.now
-
 -- its entry
-abbrev open_listed_number : (t : ℕ) → Plain-open_listed-In-loop-k t → ℕ
-open_listed_number t c = get_or c.args.list.now c.loop-k.k 0
+abbrev open_listed_number : (t : ℕ) → open_listed-In-loop-e t → ℕ
+open_listed_number t c = get_or c.args.list.now c.loop-e.e-index 0
 
-open_listed_opening : (t : ℕ) → (s : open_listed-Start t) → let a = s.args in Opening a.image.now a.index.now (header_of a.h) a.place a.trail
+open_listed_opening : (t : ℕ) → (s : open_listed-Start t) → let a = s.args in Opening a.basis.now.image.now a.basis.now.index.now (header_of a.basis.now.h) a.place a.trail
 open_listed_opening t s = record { underway = s.requires.underway; open_here = s.requires.place_value.0; spare = s.requires.place_value.1 }
 
-open_listed_many_are : (t : ℕ) → (s : open_listed-Start t) → length (take s.args.many s.args.list.now) ≡ s.args.many
-open_listed_many_are t s = length-take-le s.args.many s.args.list.now s.requires.many_bound.0.1
-
-open_listed_named : (t : ℕ) → (c : Plain-open_listed-In-loop-k t) → get_or (take c.args.many c.args.list.now) c.loop-k.k 0 ≡ open_listed_number t c
-open_listed_named t c = get_or-take c.args.many c.args.list.now c.loop-k.k 0 c.loop-k-test.true
-
 -- it may open
-open_listed_may : (t : ℕ) → (c : Plain-open_listed-In-loop-k t) → let a = c.args in (open_listed_number t c < a.h.entries) × (may_enter a.image.now (query_by c.args.asked c.args.path.now c.args.word.now).entries a.place.last a.trail.entries (open_listed_number t c) ≡ true)
+open_listed_may : (t : ℕ) → (c : open_listed-In-loop-e t) → let a =
+    c.args in (open_listed_number t c < a.basis.now.h.entries)
+    × (may_enter a.basis.now.image.now (query_of c.args.basis.now).entries a.place.last a.trail.entries (open_listed_number t c) ≡ true)
 open_listed_may t c =
-    let a = c.args in
-    let m = c.requires.many_bound.1.may c.loop-k.k (omega (arith, c.loop-k-test.true, open_listed_many_are t (open_listed_start_from_loop_k t c))) in
-    let n = open_listed_named t c in
-    (omega (arith, m.0, n, ap (λ (g : Header). g.entries) c.requires.underway.accepted.laid.header_is), ap (may_enter a.image.now (query_by c.args.asked c.args.path.now c.args.word.now).entries a.place.last a.trail.entries) (sym n) ∙ m.1)
+    let m = c.requires.listed.may c.loop-e.e-index c.loop-e-test.true in
+    (omega (arith, m.0, ap (λ (g : Header). g.entries) c.requires.underway.accepted.laid.header_is), m.1)
 
 -- what all entries find is what those of the list do
 open_listed_all_are : (t : ℕ) → (s : open_listed-Start t) → let a = s.args in
-    flat_map (λ i. entry_one a.image.now (query_by s.args.asked s.args.path.now s.args.word.now) a.place a.trail (get_or (take a.many a.list.now) i 0)) (below a.many) ≡ flat_map (entry_one a.image.now (query_by s.args.asked s.args.path.now s.args.word.now) a.place a.trail) (below a.h.entries)
+    flat_map (λ i. entry_one a.basis.now.image.now (query_of s.args.basis.now) a.place a.trail (get_or a.list.now i 0)) (below (length a.list.now))
+    ≡ flat_map (entry_one a.basis.now.image.now (query_of s.args.basis.now) a.place a.trail) (below a.basis.now.h.entries)
 open_listed_all_are t s =
     let a = s.args in
-    let f = entry_one a.image.now (query_by s.args.asked s.args.path.now s.args.word.now) a.place a.trail in
-    let g : ℕ → List Reading = λ i. f (get_or (take a.many a.list.now) i 0) in
-    ap (λ (m : ℕ). flat_map g (below m)) (sym (open_listed_many_are t s)) ∙ sym s.requires.many_bound.1.all ∙ ap (λ (h : Header). flat_map f (below h.entries)) (sym s.requires.underway.accepted.laid.header_is)
+    let f = entry_one a.basis.now.image.now (query_of s.args.basis.now) a.place a.trail in
+    sym s.requires.listed.all ∙ ap (λ (h : Header). flat_map f (below h.entries)) (sym s.requires.underway.accepted.laid.header_is)
 
 open_listed_whole : (t : ℕ) → (s : open_listed-Start t) {state : List ℕ × ℕ} → let a = s.args in
-    state ≡ offer_all (put a.capacity) (a.out.now, a.found) (flat_map (λ i. entry_one a.image.now (query_by s.args.asked s.args.path.now s.args.word.now) a.place a.trail (get_or (take a.many a.list.now) i 0)) (below a.many))
-    → state ≡ offer_all (put a.capacity) (a.out.now, a.found) (flat_map (entry_one a.image.now (query_by s.args.asked s.args.path.now s.args.word.now) a.place a.trail) (below a.h.entries))
+    state
+    ≡ offer_all (put a.capacity) (a.out.now, a.found)
+    (flat_map (λ i. entry_one a.basis.now.image.now (query_of s.args.basis.now) a.place a.trail (get_or a.list.now i 0)) (below (length a.list.now)))
+    → state ≡ offer_all (put a.capacity) (a.out.now, a.found) (flat_map (entry_one a.basis.now.image.now (query_of s.args.basis.now) a.place a.trail) (below a.basis.now.h.entries))
 open_listed_whole t s e = let a = s.args in e ∙ ap (offer_all (put a.capacity) (a.out.now, a.found)) (open_listed_all_are t s)
 
-pub open_listed-loop-k-init : goal.open_listed-loop-k-init
-open_listed-loop-k-init t c = ((refl, c.requires.in_bounds.1), (omega arith, ((refl, c.requires.roomy.1), turns_none)))
-
-pub open_listed-offset_bounds-list-k : goal.open_listed-offset_bounds-list-k
-open_listed-offset_bounds-list-k t c = omega (arith, c.loop-k-test.true, c.requires.many_bound.0.0)
-
-pub open_listed-bounds-list-k : goal.open_listed-bounds-list-k
-open_listed-bounds-list-k t c = omega (arith, c.loop-k-test.true, c.requires.many_bound.0.1)
+pub open_listed-loop-e-init : goal.open_listed-loop-e-init
+open_listed-loop-e-init t c = ((refl, c.requires.in_bounds.1), ((refl, c.requires.roomy.1), turns_none))
 
 pub open_listed-enter-next-requires : goal.open_listed-enter-next-requires
-open_listed-enter-next-requires t c = let underway = c.requires.underway in record { accepted = underway.accepted; standing = underway.stands; e_lt_entries = (open_listed_may t (goal.at.open_listed-enter-next-requires t c).In-loop-k.before).0 }
-
-pub open_listed-overflow_cast-longer : goal.open_listed-overflow_cast-longer
-open_listed-overflow_cast-longer t c = omega (arith, entry_few (open_listed_opening t (goal.at.open_listed-overflow_cast-longer t c).Start) (open_listed_number t (goal.at.open_listed-overflow_cast-longer t c).In-loop-k.before) (open_listed_may t (goal.at.open_listed-overflow_cast-longer t c).In-loop-k.before).0)
-
-pub open_listed-offset_bounds-longer-end : goal.open_listed-offset_bounds-longer-end
-open_listed-offset_bounds-longer-end t c = omega (arith, (open_listed_opening t (goal.at.open_listed-offset_bounds-longer-end t c).Start).spare)
-
-pub open_listed-bounds-longer-end : goal.open_listed-bounds-longer-end
-open_listed-bounds-longer-end t c = (open_listed_opening t (goal.at.open_listed-bounds-longer-end t c).Start).spare
+open_listed-enter-next-requires t c =
+    let underway = c.requires.underway in
+    let inside = (open_listed_may t (goal.at.open_listed-enter-next-requires t c).In-loop-e).0 in
+    record { accepted = underway.accepted; standing = underway.stands; e_lt_entries = omega (arith, inside, c.from.ensures) }
 
 pub open_listed-overflow_add-longer : goal.open_listed-overflow_add-longer
 open_listed-overflow_add-longer t c = omega (arith, (open_listed_opening t (goal.at.open_listed-overflow_add-longer t c).Start).spare)
 
 -- the trail with it
-open_listed_longer : (t : ℕ) → (c : Plain-open_listed-In-loop-k t) → let a = c.args in let e = open_listed_number t c in
-    Holds (record { path = set a.trail.path a.trail.entries e; entries = a.trail.entries + 1; pairing = a.trail.pairing; pairs = a.trail.pairs }) (with_entry (reading_of a.trail) e) (a.trail.entries + 1) a.trail.pairs
+open_listed_longer : (t : ℕ) → (c : open_listed-In-loop-e t) → let a = c.args in let e = open_listed_number t c in
+    Holds (record { path = set a.trail.path a.trail.entries e; entries = a.trail.entries + 1; pairing = a.trail.pairing; pairs = a.trail.pairs }) (with_entry (reading_of a.trail) e)
+    (a.trail.entries + 1) a.trail.pairs
 open_listed_longer t c =
-    let o = open_listed_opening t (open_listed_start_from_loop_k t c) in
     let a = c.args in
-    let good = c.well_formed.1.1.1.1.1.1.1.1.1.1.0 in
-    let spare = o.spare in
+    let good = c.well_formed.1.1.0 in
+    let spare = c.requires.place_value.1 in
     let room : a.trail.entries < length a.trail.path = search rules in
-    longer_entry a.trail o.underway.short spare room (open_listed_number t c)
+    longer_entry a.trail c.requires.underway.short spare room (open_listed_number t c)
 
 pub open_listed-pair-n-requires : goal.open_listed-pair-n-requires
 open_listed-pair-n-requires t c =
     let o = open_listed_opening t (goal.at.open_listed-pair-n-requires t c).Start in
-    let loop = c.loop-k in
+    let loop = c.loop-e in
     let next = c.enter-next in
-    let holds = open_listed_longer t (goal.at.open_listed-pair-n-requires t c).In-loop-k.before in
-    let less = open_less o (open_listed_number t (goal.at.open_listed-pair-n-requires t c).In-loop-k.before) holds next.result next.ensures.go (query_by c.args.asked c.args.path.now c.args.word.now) in
-    let underway = open_underway o (open_listed_number t (goal.at.open_listed-pair-n-requires t c).In-loop-k.before) holds next.result next.ensures.go next.ensures.stands in
-    let roomy : Roomy loop.out c.args.capacity = roomy_kept loop.invariant.1.1.0.0 c.requires.roomy.0 in
-    (omega (arith, c.decreases, less), (underway, (c.requires.sieve, ((roomy, loop.invariant.1.1.0.1), (omega (arith, c.requires.in_bounds.0, loop.invariant.0.0), loop.invariant.0.1)))))
+    let go = rw c.from.ensures at next.ensures.go in
+    let holds = open_listed_longer t (goal.at.open_listed-pair-n-requires t c).In-loop-e in
+    let less = open_less o (open_listed_number t (goal.at.open_listed-pair-n-requires t c).In-loop-e) holds next.result go
+    (query_of c.args.basis.now) in
+    let underway = open_underway o (open_listed_number t (goal.at.open_listed-pair-n-requires t c).In-loop-e) holds next.result go next.ensures.stands in
+    let roomy : Roomy loop.out c.args.capacity = roomy_kept loop.invariant.1.0.0 c.requires.roomy.0 in
+    (omega (arith, c.decreases, less), (underway, ((roomy, loop.invariant.1.0.1), (omega (arith, c.requires.in_bounds.0, loop.invariant.0.0), loop.invariant.0.1))))
 
-abbrev open_listed_f : (t : ℕ) → open_listed-After-pair-n t → ℕ → List Reading
-open_listed_f t m = let a = m.args in λ i. entry_one a.image.now (query_by m.args.asked m.args.path.now m.args.word.now) a.place a.trail (get_or (take a.many a.list.now) i 0)
-
-open_listed_turned : (t : ℕ) → (m : open_listed-After-pair-n t) → let a = m.args in found_at a.image.now (query_by m.args.asked m.args.path.now m.args.word.now) m.enter-next.result (record { path = set a.trail.path a.trail.entries (open_listed_number t (open_listed_loop_k_from_pair_n t m)); entries = a.trail.entries + 1; pairing = a.trail.pairing; pairs = a.trail.pairs }) ≡ open_listed_f t m m.loop-k.k
-open_listed_turned t m =
-    let a = m.args in
-    open_turn (open_listed_opening t (open_listed_start_from_pair_n t m)) (open_listed_number t (open_listed_loop_k_from_pair_n t m)) (open_listed_longer t (open_listed_loop_k_from_pair_n t m)) m.enter-next.result m.enter-next.ensures.go (query_by m.args.asked m.args.path.now m.args.word.now) (open_listed_may t (open_listed_loop_k_from_pair_n t m)).1 ∙ ap (entry_one a.image.now (query_by m.args.asked m.args.path.now m.args.word.now) a.place a.trail) (sym (open_listed_named t (open_listed_loop_k_from_pair_n t m)))
-
-open_listed_done : (t : ℕ) → (m : open_listed-After-pair-n t) → let a = m.args in
-    Offered a.capacity (m.loop-k.out, m.loop-k.n) (open_listed_f t m m.loop-k.k) (m.pair-n.new.out, m.pair-n.result) (length a.table.now)
-open_listed_done t m = offered_same (open_listed_turned t m) m.loop-k.invariant.0.0 m.pair-n.ensures.rows
+-- what the turn's entry finds
+open_listed_turned : (t : ℕ) → (c : open_listed-In-loop-e t) → let a = c.args in let e = open_listed_number t c in let q = query_of a.basis.now in
+    (next : Place) → ((q : Query) (n p : ℕ) → node_of a.basis.now.image.now next (suc n) p ≡ go_at (grammar_of a.basis.now.image.now) q true (node_of a.basis.now.image.now a.place n p) (suc e))
+    → found_at a.basis.now.image.now q next (record { path = set a.trail.path a.trail.entries e; entries = a.trail.entries + 1; pairing = a.trail.pairing; pairs = a.trail.pairs })
+    ≡ entry_one a.basis.now.image.now q a.place a.trail (open_listed_number t c)
+open_listed_turned t c next go =
+    let a = c.args in
+    let e = open_listed_number t c in
+    let q = query_of a.basis.now in
+    let b = a.basis.now in
+    let o : Opening b.image.now b.index.now (header_of b.h) a.place a.trail = record { underway = c.requires.underway; open_here = c.requires.place_value.0; spare = c.requires.place_value.1 } in
+    open_turn o e (open_listed_longer t c) next go q (open_listed_may t c).1
 
 pub open_listed-returns-then-capacity-n : goal.open_listed-returns-then-capacity-n
 open_listed-returns-then-capacity-n t c =
-    let passed = c.loop-k.invariant.1.1.1 in record {
+    let start = (goal.at.open_listed-returns-then-capacity-n t c).Start in
+    let passed = c.loop-e.invariant.1.1 in
+    let turned = open_listed_turned t (goal.at.open_listed-returns-then-capacity-n t c).In-loop-e c.enter-next.result (rw c.from.ensures at c.enter-next.ensures.go) in
+    record {
       rows = ⊎_elim
-          (λ e. inl (open_listed_whole t (goal.at.open_listed-returns-then-capacity-n t c).Start (turns_stop (put_keeps c.args.capacity) c.args.many (turns_more _ passed e refl) (omega (arith, c.loop-k-test.true)) c.if-capacity-n.true)))
-          (λ g. inr (gave_same (open_listed_all_are t (goal.at.open_listed-returns-then-capacity-n t c).Start) (gave_turn c.args.many passed c.loop-k-test.true g)))
-          (open_listed_done t (goal.at.open_listed-returns-then-capacity-n t c).After-pair-n);
+          (λ e. inl (open_listed_whole t start (turns_stop (put_keeps c.args.capacity) (length c.args.list.now) (turns_more _ passed e refl) (omega (arith, c.loop-e-test.true)) c.if-capacity-n.true)))
+          (λ g. inr (gave_same (open_listed_all_are t start) (gave_turn (length c.args.list.now) passed c.loop-e-test.true g)))
+          (offered_same turned c.loop-e.invariant.0.0 c.pair-n.ensures.rows);
       table = c.pair-n.ensures.table;
     }
 
-pub open_listed-overflow_add-k : goal.open_listed-overflow_add-k
-open_listed-overflow_add-k t c = record { fits = omega (arith, c.loop-k-test.true, c.requires.many_bound.0.0) }
-
-pub open_listed-loop-k-smaller : goal.open_listed-loop-k-smaller
-open_listed-loop-k-smaller t c = omega (arith, c.loop-k-test.true)
-
-pub open_listed-loop-k-preserved : goal.open_listed-loop-k-preserved
-open_listed-loop-k-preserved t c =
-    let loop = c.loop-k in (
+pub open_listed-loop-e-preserved : goal.open_listed-loop-e-preserved
+open_listed-loop-e-preserved t c =
+    let loop = c.loop-e in
+    let turned = open_listed_turned t (goal.at.open_listed-loop-e-preserved t c).In-loop-e c.enter-next.result (rw c.from.ensures at c.enter-next.ensures.go) in
+    let done = offered_same turned loop.invariant.0.0 c.pair-n.ensures.rows in (
       (c.pair-n.auto.table ∙ loop.invariant.0.0, c.pair-n.ensures.table),
       (
-        omega (arith, c.loop-k-test.true),
-        ((c.pair-n.auto.out ∙ loop.invariant.1.1.0.0, c.if-capacity-n.false), turns_more _ loop.invariant.1.1.1 (offered_all (omega (arith, c.if-capacity-n.false)) (open_listed_done t (goal.at.open_listed-loop-k-preserved t c).After-pair-n)) refl),
+        (c.pair-n.auto.out ∙ loop.invariant.1.0.0, c.if-capacity-n.false),
+        turns_more _ loop.invariant.1.1 (offered_all (omega (arith, c.if-capacity-n.false)) done) refl,
       ),
     )
 
 pub open_listed-returns : goal.open_listed-returns
 open_listed-returns t c =
-    let loop = c.loop-k in
-    record { rows = inl (open_listed_whole t (goal.at.open_listed-returns t c).Start (turns_all c.args.many loop.invariant.1.1.1 (omega (arith, c.loop-k-test.false, loop.invariant.1.0)))); table = loop.invariant.0.1 }
+    let loop = c.loop-e in
+    let all = turns_all (length c.args.list.now) loop.invariant.1.1 (omega (arith, c.loop-e-test.false)) in
+    record { rows = inl (open_listed_whole t (goal.at.open_listed-returns t c).Start all); table = loop.invariant.0.1 }
 
 -- `pair`: What is found where the forced pairs lead is what was to be found: nothing, where that is known to be a dead end; and where nothing is found there, it is one.
 
 -- what is asked of the path
 abbrev pair_path : (t : ℕ) → pair-Start t → Pattern
-pair_path t s = path_pattern s.args.asked.path s.args.path.now
+pair_path t s = path_pattern s.args.basis.now.asked.path s.args.basis.now.path.now
 
 abbrev pair_query : (t : ℕ) → pair-Start t → Query
-pair_query t s = query_by s.args.asked s.args.path.now s.args.word.now
+pair_query t s = query_of s.args.basis.now
 
 -- nothing is found, and nothing offered
-pair_nothing : (t : ℕ) → (s : pair-Start t) → let a = s.args in found_at a.image.now (query_by s.args.asked s.args.path.now s.args.word.now) a.place a.trail ≡ [] → Offered a.capacity (a.out.now, a.found) (found_at a.image.now (query_by s.args.asked s.args.path.now s.args.word.now) a.place a.trail) (a.out.now, a.found) (length a.table.now)
+pair_nothing : (t : ℕ) → (s : pair-Start t) → let a =
+    s.args in found_at a.basis.now.image.now (query_of s.args.basis.now) a.place a.trail ≡ []
+    → Offered a.capacity (a.out.now, a.found) (found_at a.basis.now.image.now (query_of s.args.basis.now) a.place a.trail) (a.out.now, a.found) (length a.table.now)
 pair_nothing t s none = let a = s.args in inl (sym (ap (offer_all (put a.capacity) (a.out.now, a.found)) none ∙ offer_none _ _))
 
 pub pair-count-requires : goal.pair-count-requires
@@ -568,66 +632,77 @@ pair-count-requires t c = c.requires.in_bounds.0
 
 -- the search is given up
 pub pair-overflow_add-result : goal.pair-overflow_add-result
-pair-overflow_add-result t c = record { fits = omega (arith, c.requires.roomy.0, c.well_formed.1.1.1.1.1.1.1.1.1.1.1.0.0) }
+pair-overflow_add-result t c = record { fits = omega (arith, c.requires.roomy.0, c.well_formed.1.1.1.0.0) }
 
 pub pair-returns-then-not-count : goal.pair-returns-then-not-count
 pair-returns-then-not-count t c =
     let counted = c.count in
-    record { rows = inr (gave_none _ (counted.ensures.few (not-true counted.result c.if-not-count.true-raw))); table = counted.ensures.kept _ _ c.requires.in_bounds.1 }
+    record { rows = inr (gave_none _ (counted.ensures.few c.if-not-count.true)); table = counted.ensures.kept _ _ c.requires.in_bounds.1 }
 
 -- it goes on
-pub pair-lead-led-requires : goal.pair-lead-led-requires
-pair-lead-led-requires t c = c.requires.underway
+pub pair-lead-requires : goal.pair-lead-requires
+pair-lead-requires t c = c.requires.underway
 
-pub pair-returns-then-over : goal.pair-returns-then-over
-pair-returns-then-over t c =
-    record { rows = pair_nothing t (goal.at.pair-returns-then-over t c).Start ((c.lead-led.ensures (pair_path t (goal.at.pair-returns-then-over t c).Start)).ends c.if-over.true); table = c.count.ensures.kept _ _ c.requires.in_bounds.1 }
+pub pair-returns-in_default : goal.pair-returns-in_default
+pair-returns-in_default t c =
+    let start = (goal.at.pair-returns-in_default t c).Start in
+    let none = rw c.in_default.is at (c.lead.ensures (pair_path t start)) in
+    record { rows = pair_nothing t start none; table = c.count.ensures.kept _ _ c.requires.in_bounds.1 }
 
 -- a dead end
 pub pair-is_dead-requires : goal.pair-is_dead-requires
 pair-is_dead-requires t c =
-    let there = (c.lead-led.ensures (pair_path t (goal.at.pair-is_dead-requires t c).Start)).underway in
+    let there = (c.in-Some.ensures (pair_path t (goal.at.pair-is_dead-requires t c).Start)).underway in
     record { accepted = there.accepted; standing = there.stands; pairs_bound = there.short.pairs_most }
 
 pub pair-returns-then-is_dead : goal.pair-returns-then-is_dead
 pair-returns-then-is_dead t c =
-    let led = c.lead-led in
+    let start = (goal.at.pair-returns-then-is_dead t c).Start in
+    let some = c.in-Some in
     let known = c.count.ensures.kept _ _ c.requires.in_bounds.1 in
-    let dead = c.is_dead.ensures (query_by c.args.asked c.args.path.now c.args.word.now) known c.if-is_dead.true led.result.trail refl refl in
-    record { rows = pair_nothing t (goal.at.pair-returns-then-is_dead t c).Start (sym ((led.ensures (pair_path t (goal.at.pair-returns-then-is_dead t c).Start)).goes c.if-over.false) ∙ dead); table = known }
+    let dead = c.is_dead.ensures (query_of c.args.basis.now) known c.if-is_dead.true some.led.trail refl refl in
+    record { rows = pair_nothing t start (sym (some.ensures (pair_path t start)).goes ∙ dead); table = known }
 
 pub pair-pair_each-n-requires : goal.pair-pair_each-n-requires
 pair-pair_each-n-requires t c =
-    let led = c.lead-led.ensures (pair_path t (goal.at.pair-pair_each-n-requires t c).Start) in
+    let led = c.in-Some.ensures (pair_path t (goal.at.pair-pair_each-n-requires t c).Start) in
     let counted = c.count in
     let known = c.requires.in_bounds in
-    (omega (arith, c.decreases, led.no_more), (led.underway, (c.requires.sieve, (c.requires.roomy, (omega (arith, known.0, counted.auto.table), counted.ensures.kept _ _ known.1)))))
+    (omega (arith, c.decreases, led.no_more), (led.underway, (c.requires.roomy, (omega (arith, known.0, counted.auto.table), counted.ensures.kept _ _ known.1))))
 
 -- what was to be found has been offered
 pair_found_there : (t : ℕ) → (made : pair-After-pair_each-n t) → let a = made.args in
-    Offered a.capacity (a.out.now, a.found) (found_at a.image.now (query_by made.args.asked made.args.path.now made.args.word.now) a.place a.trail) (made.pair_each-n.new.out, made.pair_each-n.result) (length a.table.now)
-pair_found_there t made = offered_same ((made.lead-led.ensures (pair_path t (pair_start_from_pair_each_n t made))).goes made.if-over.false) made.count.auto.table made.pair_each-n.ensures.rows
+    Offered a.capacity (a.out.now, a.found) (found_at a.basis.now.image.now (query_of made.args.basis.now) a.place a.trail) (made.pair_each-n.new.out, made.pair_each-n.result)
+    (length a.table.now)
+pair_found_there t made =
+    let a = made.args in
+    offered_same (made.in-Some.ensures (path_pattern a.basis.now.asked.path a.basis.now.path.now)).goes made.count.auto.table made.pair_each-n.ensures.rows
 
 -- nothing was found
 pub pair-remember-requires : goal.pair-remember-requires
 pair-remember-requires t c =
-    let there = (c.lead-led.ensures (pair_path t (goal.at.pair-remember-requires t c).Start)).underway in
+    let there = (c.in-Some.ensures (pair_path t (goal.at.pair-remember-requires t c).Start)).underway in
     record { accepted = there.accepted; standing = there.stands; pairs_bound = there.short.pairs_most }
 
 pub pair-returns-then-n-found : goal.pair-returns-then-n-found
 pair-returns-then-n-found t c =
     let a = c.args in
-    let led = c.lead-led in
+    let led = c.in-Some.led in
     let none = offered_none c.requires.roomy.1 c.if-n-found.true c.pair_each-n.ensures.rows in
-    record { rows = pair_found_there t (goal.at.pair-returns-then-n-found t c).After-pair_each-n; table = c.remember.ensures (query_by c.args.asked c.args.path.now c.args.word.now) c.pair_each-n.ensures.table (dead_again a.image.now (query_by c.args.asked c.args.path.now c.args.word.now) led.result.place led.result.trail none) }
+    record {
+      rows = pair_found_there t (goal.at.pair-returns-then-n-found t c).After-pair_each-n;
+      table = c.remember.ensures
+          (query_of c.args.basis.now) c.pair_each-n.ensures.table (dead_again a.basis.now.image.now (query_of c.args.basis.now) led.place led.trail none);
+    }
 
 pub pair-returns-else-n-found : goal.pair-returns-else-n-found
 pair-returns-else-n-found t c = record { rows = pair_found_there t (goal.at.pair-returns-else-n-found t c).After-pair_each-n; table = c.pair_each-n.ensures.table }
 
--- `pair_each`: Where no entry opens the place is `Settled`: a letter is left, or the path has ended. At the loop's head a `Pairing` of it is known; each turn tries a candidate of the next letter, and offers what it finds where it is taken.
+-- `pair_each`: Where no entry opens the place is `Settled`: a letter is left, or the path has ended. At the loop's head a `Pairing` of it is known;
+-- each turn tries a candidate of the next letter, and offers what it finds where it is taken.
 
 abbrev pair_each_query : (t : ℕ) → pair_each-Start t → Query
-pair_each_query t s = query_by s.args.asked s.args.path.now s.args.word.now
+pair_each_query t s = query_of s.args.basis.now
 
 -- where the search stands, with the path ended where it ends here
 abbrev pair_each_here : (t : ℕ) → Plain-pair_each-Joined-place t → Place
@@ -642,7 +717,7 @@ pair_each-goes_on-requires t c = let underway = c.requires.underway in record { 
 
 pub pair_each-open-requires : goal.pair_each-open-requires
 pair_each-open-requires t c =
-    (omega (arith, c.decreases), (c.requires.underway, (c.requires.sieve, (c.goes_on.ensures.on c.if-goes_on.true, (c.requires.roomy, c.requires.in_bounds)))))
+    (omega (arith, c.decreases), (c.requires.underway, (c.goes_on.ensures.on c.if-goes_on.true, (c.requires.roomy, c.requires.in_bounds))))
 
 pub pair_each-returns-then-goes_on : goal.pair_each-returns-then-goes_on
 pair_each-returns-then-goes_on t c = record { rows = c.«open».ensures.rows; table = c.«open».ensures.table }
@@ -655,33 +730,39 @@ pair_each-put_ended-n-requires t c =
 pub pair_each-returns-then-capacity-n : goal.pair_each-returns-then-capacity-n
 pair_each-returns-then-capacity-n t c =
     let a = c.args in
-    let over = settled_over c.requires.underway (query_by c.args.asked c.args.path.now c.args.word.now) c.if-place.true (c.goes_on.ensures.over c.if-goes_on.false) in record {
+    let over = settled_over c.requires.underway (query_of c.args.basis.now) c.if-place.true (c.goes_on.ensures.over c.if-goes_on.false) in record {
       rows = inl
-          (end_fills over.underway (query_by c.args.asked c.args.path.now c.args.word.now) (put a.capacity) (a.out.now, a.found) (put_keeps a.capacity) c.if-capacity-n.true over.shut
+          (end_fills over.underway (query_of c.args.basis.now) (put a.capacity) (a.out.now, a.found) (put_keeps a.capacity) c.if-capacity-n.true over.shut
           c.put_ended-n.ensures
-          ∙ ap (offer_all (put a.capacity) (a.out.now, a.found)) (over.same (query_by c.args.asked c.args.path.now c.args.word.now)));
+          ∙ ap (offer_all (put a.capacity) (a.out.now, a.found)) (over.same (query_of c.args.basis.now)));
       table = c.requires.in_bounds.1;
     }
 
-pair_each_settled : (t : ℕ) → (w : Plain-pair_each-Joined-place t) → let a = w.args in Settled a.image.now a.index.now (header_of a.h) a.place a.trail w.if-place.last
+pair_each_settled : (t : ℕ) → (w : Plain-pair_each-Joined-place t) → let a = w.args in Settled a.basis.now.image.now a.basis.now.index.now (header_of a.basis.now.h) a.place a.trail w.if-place.last
 pair_each_settled t w =
     let a = w.args in
-    let at : ℕ → Type 0 = Settled a.image.now a.index.now (header_of a.h) a.place a.trail in
+    let at : ℕ → Type 0 = Settled a.basis.now.image.now a.basis.now.index.now (header_of a.basis.now.h) a.place a.trail in
     elim w.if-place.branch [
-      | pair_each-then-place+else-goes_on+else-capacity-n v ↦ subst at (sym v.last-is) (settled_over w.requires.underway (query_by w.args.asked w.args.path.now w.args.word.now) v.if-place.true (v.goes_on.ensures.over v.if-goes_on.false))
+      | pair_each-then-place+else-goes_on+else-capacity-n v ↦ subst at (sym v.last-is)
+          (settled_over w.requires.underway (query_of w.args.basis.now) v.if-place.true (v.goes_on.ensures.over v.if-goes_on.false))
       | pair_each-else-place v ↦ subst at (sym v.last-is) (settled_left w.requires.underway v.if-place.false)
     ]
 
 -- what is complete here has been offered
-pair_each_ending : (t : ℕ) → (w : Plain-pair_each-Joined-place t) → (w.if-place.out, w.if-place.n) ≡ offer_all (put w.args.capacity) (w.args.out.now, w.args.found) (given (complete (grammar_of w.args.image.now) (query_by w.args.asked w.args.path.now w.args.word.now) (node_at w.args.image.now (pair_each_here t w) w.args.trail)) (reading_of w.args.trail ∷ []))
+pair_each_ending : (t : ℕ) → (w : Plain-pair_each-Joined-place t)
+    → (w.if-place.out, w.if-place.n)
+    ≡ offer_all (put w.args.capacity) (w.args.out.now, w.args.found)
+    (given (complete (grammar_of w.args.basis.now.image.now) (query_of w.args.basis.now) (node_at w.args.basis.now.image.now (pair_each_here t w) w.args.trail))
+    (reading_of w.args.trail ∷ []))
 pair_each_ending t w =
     let a = w.args in
-    let g = grammar_of a.image.now in
+    let g = grammar_of a.basis.now.image.now in
     let offered : Bool → List ℕ × ℕ = λ b. offer_all (put a.capacity) (a.out.now, a.found) (given b (reading_of a.trail ∷ [])) in
-    let done : ℕ → Bool = λ last. complete g (query_by w.args.asked w.args.path.now w.args.word.now) (node_at a.image.now (with_last a.place last) a.trail) in
+    let done : ℕ → Bool = λ last. complete g (query_of w.args.basis.now) (node_at a.basis.now.image.now (with_last a.place last) a.trail) in
     elim w.if-place.branch [
       | pair_each-then-place+else-goes_on+else-capacity-n v ↦ state_is (v.put_ended-n.ensures ∙ ap (λ (last : ℕ). offered (done last)) (sym v.last-is)) v.out-is v.n-is
-      | pair_each-else-place v ↦ let none = not_ended a.image.now a.place w.requires.underway.stands (query_by w.args.asked w.args.path.now w.args.word.now) a.trail.entries a.trail.pairs v.if-place.false in
+      | pair_each-else-place v ↦ let none = not_ended a.basis.now.image.now a.place w.requires.underway.stands
+          (query_of w.args.basis.now) a.trail.entries a.trail.pairs v.if-place.false in
           state_is (sym (ap (λ (last : ℕ). offered (done last)) v.last-is ∙ ap offered none ∙ offer_none _ _)) v.out-is v.n-is
     ]
 
@@ -697,9 +778,10 @@ pair_each_room t w = elim w.if-place.branch [
   | pair_each-else-place v ↦ omega (arith, v.n-is, w.requires.roomy.1)
 ]
 
-pair_each_pairing : (t : ℕ) → (w : Plain-pair_each-After-candidate_count-many t) → let a = w.args in Pairing a.image.now a.index.now (header_of a.h) (pair_each_here t w.before.before.before.before) a.trail (pair_each_letter t w)
+pair_each_pairing : (t : ℕ) → (w : Plain-pair_each-After-candidate_count-many t) → let a =
+    w.args in Pairing a.basis.now.image.now a.basis.now.index.now (header_of a.basis.now.h) (pair_each_here t (pair_each_place t w)) a.trail (pair_each_letter t w)
 pair_each_pairing t w =
-    let at = pair_each_settled t w.before.before.before.before in
+    let at = pair_each_settled t (pair_each_place t w) in
     record {
       underway = at.underway;
       shut = at.shut;
@@ -710,92 +792,115 @@ pair_each_pairing t w =
 
 pub pair_each-returns-then-trail-ge40 : goal.pair_each-returns-then-trail-ge40
 pair_each-returns-then-trail-ge40 t c =
-    record { rows = inl (pair_each_ending t (goal.at.pair_each-returns-then-trail-ge40 t c).Joined-place.before ∙ ap (offer_all (put c.args.capacity) (c.args.out.now, c.args.found)) (sym (pair_last (pair_each_settled t (goal.at.pair_each-returns-then-trail-ge40 t c).Joined-place.before).underway (query_by c.args.asked c.args.path.now c.args.word.now) (pair_each_settled t (goal.at.pair_each-returns-then-trail-ge40 t c).Joined-place.before).shut c.if-trail-ge40.true) ∙ (pair_each_settled t (goal.at.pair_each-returns-then-trail-ge40 t c).Joined-place.before).same (query_by c.args.asked c.args.path.now c.args.word.now))); table = c.requires.in_bounds.1 }
+    record {
+      rows = inl (pair_each_ending t (goal.at.pair_each-returns-then-trail-ge40 t c).Joined-place.before ∙ ap (offer_all (put c.args.capacity) (c.args.out.now, c.args.found))
+          (sym (pair_last (pair_each_settled t (goal.at.pair_each-returns-then-trail-ge40 t c).Joined-place.before).underway (query_of c.args.basis.now)
+          (pair_each_settled t (goal.at.pair_each-returns-then-trail-ge40 t c).Joined-place.before).shut c.if-trail-ge40.true) ∙ (pair_each_settled t
+          (goal.at.pair_each-returns-then-trail-ge40 t c).Joined-place.before).same (query_of c.args.basis.now)));
+      table = c.requires.in_bounds.1;
+    }
 
 pub pair_each-next_letter-letter-requires : goal.pair_each-next_letter-letter-requires
 pair_each-next_letter-letter-requires t c = c.requires.underway.stands
 
 pub pair_each-candidate_count-many-requires : goal.pair_each-candidate_count-many-requires
-pair_each-candidate_count-many-requires t c = let underway = c.requires.underway in record { accepted = underway.accepted; index_value = underway.indexed; a_le_letters = letter_in underway c.next_letter-letter.ensures.1 }
+pair_each-candidate_count-many-requires t c =
+    let underway = c.requires.underway in record { accepted = underway.accepted; index_value = underway.indexed; a_le_letters = letter_in underway c.next_letter-letter.ensures.1 }
 
 pub pair_each-loop-k-init : goal.pair_each-loop-k-init
-pair_each-loop-k-init t c = ((refl, c.requires.in_bounds.1), (search rules, ((refl, pair_each_room t (goal.at.pair_each-loop-k-init t c).Joined-place), turns_none)))
+pair_each-loop-k-init t c = ((refl, c.requires.in_bounds.1), ((refl, pair_each_room t (goal.at.pair_each-loop-k-init t c).Joined-place), turns_none))
 
 -- what the candidates offer comes after it
 pair_each_whole : (t : ℕ) → (w : pair_each-After-candidate_count-many t) {state : List ℕ × ℕ} {places : ℕ} →
-    Offered w.args.capacity (w.if-place.out, w.if-place.n) (flat_map (candidate_one w.args.image.now (query_by w.args.asked w.args.path.now w.args.word.now) (pair_each_here t (pair_each_place_from_candidate_count_many t w)) w.args.trail (pair_each_letter t w.before)) (below (length (candidates w.args.image.now (pair_each_letter t w.before))))) state places
-    → Offered w.args.capacity (w.args.out.now, w.args.found) (found_at w.args.image.now (query_by w.args.asked w.args.path.now w.args.word.now) w.args.place w.args.trail) state places
+    Offered w.args.capacity (w.if-place.out, w.if-place.n)
+    (flat_map (candidate_one w.args.basis.now.image.now (query_of w.args.basis.now) (pair_each_here t (pair_each_place t w.before)) w.args.trail
+    (pair_each_letter t w.before)) (below (length (candidates w.args.basis.now.image.now (pair_each_letter t w.before))))) state places
+    → Offered w.args.capacity (w.args.out.now, w.args.found) (found_at w.args.basis.now.image.now (query_of w.args.basis.now) w.args.place w.args.trail) state places
 pair_each_whole t w o =
-    let same = (pair_each_settled t (pair_each_place_from_candidate_count_many t w)).same (query_by w.args.asked w.args.path.now w.args.word.now) in
+    let same = (pair_each_settled t (pair_each_place t w.before)).same (query_of w.args.basis.now) in
     ⊎_elim
-    (λ e. inl (pair_offered (pair_each_pairing t w.before) (query_by w.args.asked w.args.path.now w.args.word.now) (put w.args.capacity) (w.args.out.now, w.args.found) (pair_each_ending t (pair_each_place_from_candidate_count_many t w)) e ∙ ap (offer_all (put w.args.capacity) (w.args.out.now, w.args.found)) same))
-    (λ g. inr (gave_same (sym (pair_found (pair_each_pairing t w.before) (query_by w.args.asked w.args.path.now w.args.word.now)) ∙ same) (gave_next _ (pair_each_ending t (pair_each_place_from_candidate_count_many t w)) g)))
+    (λ e. inl (pair_offered (pair_each_pairing t w.before) (query_of w.args.basis.now) (put w.args.capacity) (w.args.out.now, w.args.found)
+    (pair_each_ending t (pair_each_place t w.before)) e ∙ ap (offer_all (put w.args.capacity) (w.args.out.now, w.args.found)) same))
+    (λ g. inr (gave_same (sym (pair_found (pair_each_pairing t w.before) (query_of w.args.basis.now)) ∙ same)
+    (gave_next _ (pair_each_ending t (pair_each_place t w.before)) g)))
     o
 
 -- the candidate of a turn
-pair_each_inside : (t : ℕ) → (c : Plain-pair_each-In-loop-k t) → c.loop-k.k < length (candidates c.args.image.now (pair_each_letter t c.before.before))
+pair_each_inside : (t : ℕ) → (c : pair_each-In-loop-k t) → c.loop-k.k < length (candidates c.args.basis.now.image.now (pair_each_letter t c.before.before))
 pair_each_inside t c = omega (arith, c.loop-k-test.true, c.candidate_count-many.ensures)
 
 pub pair_each-candidate-p-requires : goal.pair_each-candidate-p-requires
-pair_each-candidate-p-requires t c = let o = pair_each_pairing t (goal.at.pair_each-candidate-p-requires t c).After-candidate_count-many.before in record { accepted = o.underway.accepted; index_value = o.underway.indexed; a_le_letters = (o.in_letters, pair_each_inside t c.before) }
+pair_each-candidate-p-requires t c =
+    let o = pair_each_pairing t (goal.at.pair_each-candidate-p-requires t c).After-candidate_count-many.before in
+    record { accepted = o.underway.accepted; index_value = o.underway.indexed; a_le_letters = (o.in_letters, pair_each_inside t (goal.at.pair_each-candidate-p-requires t c).In-loop-k) }
 
-pair_each_chosen : (t : ℕ) → (c : pair_each-After-candidate-p t) → Candidate c.args.image.now (pair_each_letter t c.before.before.before.before) c.loop-k.k c.candidate-p.result
-pair_each_chosen t c = record { inside = pair_each_inside t c.before.before; this = c.candidate-p.ensures.0 }
+pair_each_chosen : (t : ℕ) → (c : pair_each-After-candidate-p t) → Candidate c.args.basis.now.image.now (pair_each_letter t (pair_each_turn t c).before.before) c.loop-k.k c.candidate-p.result
+pair_each_chosen t c = record { inside = pair_each_inside t (pair_each_turn t c); this = c.candidate-p.ensures.0 }
 
 pub pair_each-take-taken-requires : goal.pair_each-take-taken-requires
 pair_each-take-taken-requires t c =
     let a = c.args in
     let o = pair_each_pairing t (goal.at.pair_each-take-taken-requires t c).After-candidate_count-many.before in
-    record { accepted = o.underway.accepted; index_value = o.underway.indexed; standing = o.underway.stands; p_lt_pairs = c.candidate-p.ensures.1; t = candidate_spells (rest_of a.image.now a.place) o.letter (pair_each_chosen t c) }
+    record {
+      accepted = o.underway.accepted;
+      index_value = o.underway.indexed;
+      standing = o.underway.stands;
+      p_lt_pairs = c.candidate-p.ensures.1;
+      t = candidate_spells
+          (rest_of a.basis.now.image.now a.place) o.letter (pair_each_chosen t (goal.at.pair_each-take-taken-requires t c).After-candidate-p);
+    }
 
 -- what is asked of the path beside
 abbrev pair_each_path : (t : ℕ) → pair_each-After-take-taken t → Pattern
-pair_each_path t c = let a = c.args in path_pattern a.asked.path a.path.now
+pair_each_path t c = let a = c.args in path_pattern a.basis.now.asked.path a.basis.now.path.now
 
 -- it may be taken
 pub pair_each-overflow_cast-longer : goal.pair_each-overflow_cast-longer
 pair_each-overflow_cast-longer t c =
     omega (arith, c.candidate-p.ensures.1, (pair_each_pairing t (goal.at.pair_each-overflow_cast-longer t c).After-candidate_count-many.before).underway.accepted.laid.limits.pairs_most)
 
-pub pair_each-bounds-longer-end : goal.pair_each-bounds-longer-end
-pair_each-bounds-longer-end t c = (pair_each_pairing t (goal.at.pair_each-bounds-longer-end t c).After-candidate_count-many.before).spare
-
 pub pair_each-overflow_add-longer : goal.pair_each-overflow_add-longer
 pair_each-overflow_add-longer t c = omega (arith, (pair_each_pairing t (goal.at.pair_each-overflow_add-longer t c).After-candidate_count-many.before).spare)
 
 -- the trail with it
 pair_each_longer : (t : ℕ) → (c : pair_each-After-candidate-p t) → let a = c.args in let p = c.candidate-p.result in
-    Holds (record { path = a.trail.path; entries = a.trail.entries; pairing = set a.trail.pairing a.trail.pairs p; pairs = a.trail.pairs + 1 }) (with_pair (reading_of a.trail) p) a.trail.entries (a.trail.pairs + 1)
+    Holds (record { path = a.trail.path; entries = a.trail.entries; pairing = set a.trail.pairing a.trail.pairs p; pairs = a.trail.pairs + 1 }) (with_pair (reading_of a.trail) p) a.trail.entries
+    (a.trail.pairs + 1)
 pair_each_longer t c =
     let a = c.args in
-    let good = c.well_formed.1.1.1.1.1.1.1.1.1.1.0 in
-    let spare = (pair_each_pairing t c.before.before.before.before).spare in
+    let good = c.well_formed.1.1.0 in
+    let spare = (pair_each_pairing t (pair_each_turn t c).before.before).spare in
     let room : a.trail.pairs < length a.trail.pairing = search rules in
-    longer_pair a.trail (pair_each_pairing t c.before.before.before.before).underway.short spare room c.candidate-p.result
+    longer_pair a.trail (pair_each_pairing t (pair_each_turn t c).before.before).underway.short spare room c.candidate-p.result
 
 pub pair_each-pair-n-requires : goal.pair_each-pair-n-requires
 pair_each-pair-n-requires t c =
     let o = pair_each_pairing t (goal.at.pair_each-pair-n-requires t c).After-candidate_count-many.before in
     let loop = c.loop-k in
-    let may = c.if-taken.true in
+    let took = c.in-Some.ensures (pair_each_path t (goal.at.pair_each-pair-n-requires t c).After-take-taken) in
     let holds = pair_each_longer t (goal.at.pair_each-pair-n-requires t c).After-candidate-p in
-    let less = pair_less o (pair_each_chosen t (goal.at.pair_each-pair-n-requires t c).After-candidate-p) (c.take-taken.ensures (pair_each_path t (goal.at.pair_each-pair-n-requires t c).After-take-taken)) may holds in
-    let underway = pair_underway o (pair_each_chosen t (goal.at.pair_each-pair-n-requires t c).After-candidate-p) (c.take-taken.ensures (pair_each_path t (goal.at.pair_each-pair-n-requires t c).After-take-taken)) may holds in
-    let roomy : Roomy loop.out c.args.capacity = roomy_kept (loop.invariant.1.1.0.0 ∙ pair_each_kept t (goal.at.pair_each-pair-n-requires t c).Joined-place) c.requires.roomy.0 in (
+    let less = pair_less o (pair_each_chosen t (goal.at.pair_each-pair-n-requires t c).After-candidate-p) took holds in
+    let underway = pair_underway o (pair_each_chosen t (goal.at.pair_each-pair-n-requires t c).After-candidate-p) took holds in
+    let roomy : Roomy loop.out c.args.capacity = roomy_kept (loop.invariant.1.0.0 ∙ pair_each_kept t (goal.at.pair_each-pair-n-requires t c).Joined-place) c.requires.roomy.0 in (
       omega (arith, c.decreases, less, (pair_each_settled t (goal.at.pair_each-pair-n-requires t c).Joined-place.before).no_more),
-      (underway, (c.requires.sieve, ((roomy, loop.invariant.1.1.0.1), (omega (arith, c.requires.in_bounds.0, loop.invariant.0.0), loop.invariant.0.1)))),
+      (underway, ((roomy, loop.invariant.1.0.1), (omega (arith, c.requires.in_bounds.0, loop.invariant.0.0), loop.invariant.0.1))),
     )
 
 pub pair_each-returns-then-capacity-n-2 : goal.pair_each-returns-then-capacity-n-2
 pair_each-returns-then-capacity-n-2 t c =
     let loop = c.loop-k in
-    let many = length (candidates c.args.image.now (pair_each_letter t (goal.at.pair_each-returns-then-capacity-n-2 t c).After-candidate_count-many.before)) in
-    let passed = loop.invariant.1.1.1 in
-    let turn = pair_turn (pair_each_pairing t (goal.at.pair_each-returns-then-capacity-n-2 t c).After-candidate_count-many.before) (pair_each_chosen t (goal.at.pair_each-returns-then-capacity-n-2 t c).After-candidate-p) (c.take-taken.ensures (pair_each_path t (goal.at.pair_each-returns-then-capacity-n-2 t c).After-take-taken)) c.if-taken.true (pair_each_longer t (goal.at.pair_each-returns-then-capacity-n-2 t c).After-candidate-p) in record {
+    let many = length (candidates c.args.basis.now.image.now (pair_each_letter t (goal.at.pair_each-returns-then-capacity-n-2 t c).After-candidate_count-many.before)) in
+    let passed = loop.invariant.1.1 in
+    let turn = pair_turn (pair_each_pairing t (goal.at.pair_each-returns-then-capacity-n-2 t c).After-candidate_count-many.before)
+    (pair_each_chosen t (goal.at.pair_each-returns-then-capacity-n-2 t c).After-candidate-p)
+    (c.in-Some.ensures (pair_each_path t (goal.at.pair_each-returns-then-capacity-n-2 t c).After-take-taken))
+    (pair_each_longer t (goal.at.pair_each-returns-then-capacity-n-2 t c).After-candidate-p) in
+    record {
       rows = pair_each_whole t (goal.at.pair_each-returns-then-capacity-n-2 t c).After-candidate_count-many
           (⊎_elim
-          (λ e. inl (turns_stop (put_keeps c.args.capacity) many (turns_more _ passed e refl) (omega (arith, pair_each_inside t (goal.at.pair_each-returns-then-capacity-n-2 t c).In-loop-k.before)) c.if-capacity-n-2.true))
-          (λ g. inr (gave_turn many passed (pair_each_inside t (goal.at.pair_each-returns-then-capacity-n-2 t c).In-loop-k.before) g))
+          (λ e. inl (turns_stop (put_keeps c.args.capacity) many (turns_more _ passed e refl)
+          (omega (arith, pair_each_inside t (goal.at.pair_each-returns-then-capacity-n-2 t c).In-loop-k)) c.if-capacity-n-2.true))
+          (λ g. inr (gave_turn many passed (pair_each_inside t (goal.at.pair_each-returns-then-capacity-n-2 t c).In-loop-k) g))
           (offered_same turn loop.invariant.0.0 c.pair-n.ensures.rows));
       table = c.pair-n.ensures.table;
     }
@@ -803,35 +908,43 @@ pair_each-returns-then-capacity-n-2 t c =
 -- after a turn: the candidate that was taken has offered what it finds, or finds nothing
 pub pair_each-loop-k-preserved : goal.pair_each-loop-k-preserved
 pair_each-loop-k-preserved t c =
-    let o = pair_each_pairing t (goal.at.pair_each-loop-k-preserved t c).After-candidate_count-many.before in
-    let known : List ℕ → Type 0 = Tabled c.args.image.now (query_by c.args.asked c.args.path.now c.args.word.now) c.args.table.now in
+    let at = goal.at.pair_each-loop-k-preserved t c in
+    let q = query_of c.args.basis.now in
+    let o = pair_each_pairing t at.After-candidate_count-many.before in
+    let path = pair_each_path t at.After-take-taken in
+    let chosen = pair_each_chosen t at.After-candidate-p in
+    let longer = pair_each_longer t at.After-candidate-p in
+    let known : List ℕ → Type 0 = Tabled c.args.basis.now.image.now q c.args.table.now in
     let loop = c.loop-k in (
-      elim c.if-taken.branch [
-        | pair_each-then-taken+else-capacity-n-2 v ↦ subst known (sym v.table-is) (v.pair-n.auto.table ∙ loop.invariant.0.0, v.pair-n.ensures.table)
-        | pair_each-else-taken v ↦ subst known (sym v.table-is) loop.invariant.0
+      elim c.match-taken.branch [
+        | pair_each-in-Some+else-capacity-n-2 v ↦ subst known (sym v.table-is) (v.pair-n.auto.table ∙ loop.invariant.0.0, v.pair-n.ensures.table)
+        | pair_each-in_default v ↦ subst known (sym v.table-is) loop.invariant.0
       ],
       (
-        omega (arith, c.loop-k-test.true),
         (
-          (
-            elim c.if-taken.branch [
-              | pair_each-then-taken+else-capacity-n-2 v ↦ ap length v.out-is ∙ v.pair-n.auto.out ∙ loop.invariant.1.1.0.0
-              | pair_each-else-taken v ↦ ap length v.out-is ∙ loop.invariant.1.1.0.0
-            ],
-            elim c.if-taken.branch [
-              | pair_each-then-taken+else-capacity-n-2 v ↦ omega (arith, v.n-is, v.if-capacity-n-2.false)
-              | pair_each-else-taken v ↦ omega (arith, v.n-is, loop.invariant.1.1.0.1)
-            ],
-          ),
-          elim c.if-taken.branch [
-            | pair_each-then-taken+else-capacity-n-2 v ↦ turns_is (turns_more _ loop.invariant.1.1.1 (offered_all (omega (arith, v.if-capacity-n-2.false)) v.pair-n.ensures.rows) (pair_turn o (pair_each_chosen t (goal.at.pair_each-loop-k-preserved t c).After-candidate-p) (c.take-taken.ensures (pair_each_path t (goal.at.pair_each-loop-k-preserved t c).After-take-taken)) v.if-taken.true (pair_each_longer t (goal.at.pair_each-loop-k-preserved t c).After-candidate-p))) v.out-is v.n-is
-            | pair_each-else-taken v ↦ turns_is (turns_skip loop.invariant.1.1.1 (pair_none o (pair_each_chosen t (goal.at.pair_each-loop-k-preserved t c).After-candidate-p) (c.take-taken.ensures (pair_each_path t (goal.at.pair_each-loop-k-preserved t c).After-take-taken)) v.if-taken.false)) v.out-is v.n-is
+          elim c.match-taken.branch [
+            | pair_each-in-Some+else-capacity-n-2 v ↦ ap length v.out-is ∙ v.pair-n.auto.out ∙ loop.invariant.1.0.0
+            | pair_each-in_default v ↦ ap length v.out-is ∙ loop.invariant.1.0.0
+          ],
+          elim c.match-taken.branch [
+            | pair_each-in-Some+else-capacity-n-2 v ↦ omega (arith, v.n-is, v.if-capacity-n-2.false)
+            | pair_each-in_default v ↦ omega (arith, v.n-is, loop.invariant.1.0.1)
           ],
         ),
+        elim c.match-taken.branch [
+          | pair_each-in-Some+else-capacity-n-2 v ↦ let turn = pair_turn o chosen (v.in-Some.ensures path) longer in
+              turns_is (turns_more _ loop.invariant.1.1 (offered_all (omega (arith, v.if-capacity-n-2.false)) v.pair-n.ensures.rows) turn) v.out-is v.n-is
+          | pair_each-in_default v ↦ let shut = rw v.in_default.is at (c.take-taken.ensures path) in turns_is (turns_skip loop.invariant.1.1 (pair_none o chosen q shut)) v.out-is v.n-is
+        ],
       ),
     )
 
 pub pair_each-returns : goal.pair_each-returns
 pair_each-returns t c =
     let loop = c.loop-k in
-    record { rows = pair_each_whole t (goal.at.pair_each-returns t c).After-candidate_count-many (inl (turns_all (length (candidates c.args.image.now (pair_each_letter t (goal.at.pair_each-returns t c).After-candidate_count-many.before))) loop.invariant.1.1.1 (omega (arith, c.loop-k-test.false, loop.invariant.1.0, c.candidate_count-many.ensures)))); table = loop.invariant.0.1 }
+    record {
+      rows = pair_each_whole t (goal.at.pair_each-returns t c).After-candidate_count-many
+          (inl (turns_all (length (candidates c.args.basis.now.image.now (pair_each_letter t (goal.at.pair_each-returns t c).After-candidate_count-many.before))) loop.invariant.1.1
+          (omega (arith, c.loop-k-test.false, c.candidate_count-many.ensures))));
+      table = loop.invariant.0.1;
+    }

@@ -4,14 +4,14 @@ use Prim.Native.Nat.{ℕ, ◌<◌, ◌≤◌, ◌+◌, ◌*◌, ◌-◌}
 use mathlib.Core.Bool.{Bool, true}
 use mathlib.Core.Path.{◌≡◌}
 use mathlib.Core.List.{List}
-use lib.ListN.{length, get_or, take}
+use lib.ListN.{length, get_or}
 use Rattle.model.specs.Query.{Query}
 use Rattle.rows.specs.Fill.{put}
 use Rattle.dead.specs.Dead.{Remembered}
-use Rattle.listing.specs.Asked.{query_by}
 use Rattle.listing.specs.Places.{with_last}
 use Rattle.listing.specs.Opening.{may_enter, WaysOf}
 use Rattle.listing.specs.Search.{entry_one}
+use Rattle.walk.specs.Basis.{query_of}
 use Rattle.walk.proofs.Turns.{Turns}
 use Rattle.ahead.specs.Here.{steps_after}
 use Rattle.ahead.proofs.Heads.{candidate_one}
@@ -40,31 +40,28 @@ decreases-pair_each l = 4 * steps_after l.place l.trail + 2
 -- entry e is the next that may open, and those before it have offered what they find
 abbrev pub invariant-open_each-loop-e : goal.invariant-open_each-loop-e
 invariant-open_each-loop-e l =
-    let q = query_by l.asked l.path l.word in
-    let may : ℕ → Bool = may_enter l.image q.entries l.place.last l.trail.entries in
-    Tabled l.image q l.initial.table l.table
-    × ((WaysOf l.image may l.ways × ((l.ways.low ≤ l.e) × ((l.e ≤ l.h.entries) × (l.e < l.h.entries → may l.e ≡ true))))
-    × (((length l.out ≡ length l.initial.out) × (l.n ≤ l.capacity)) × (Turns (put l.capacity) (entry_one l.image q l.place l.trail) (l.initial.out, l.found) (l.out, l.n) l.e × Known l.image q l.place l.trail l.known)))
+    let q = query_of l.basis in
+    let may : ℕ → Bool = may_enter l.basis.image.now q.entries l.place.last l.trail.entries in
+    Tabled l.basis.image.now q l.initial.table l.table
+    × ((WaysOf l.basis.image.now may l.ways × ((l.ways.low ≤ l.e) × ((l.e ≤ l.basis.h.entries) × (l.e < l.basis.h.entries → may l.e ≡ true))))
+    × (((length l.out ≡ length l.initial.out) × (l.n ≤ l.capacity)) ×
+    (Turns (put l.capacity) (entry_one l.basis.image.now q l.place l.trail) (l.initial.out, l.found) (l.out, l.n) l.e × Known l.basis.image.now q l.place l.trail l.known)))
 
 abbrev pub decreases-open_each-loop-e : goal.decreases-open_each-loop-e
-decreases-open_each-loop-e l = l.entries - l.e
+decreases-open_each-loop-e l = l.basis.h.entries - l.e
 
--- the first k of the list have offered what they find
-abbrev pub invariant-open_listed-loop-k : goal.invariant-open_listed-loop-k
-invariant-open_listed-loop-k l =
-    let q = query_by l.asked l.path l.word in
-    Tabled l.image q l.initial.table l.table
-    × ((l.k ≤ l.many) × (((length l.out ≡ length l.initial.out) × (l.n ≤ l.capacity)) × Turns (put l.capacity) (λ i. entry_one l.image q l.place l.trail (get_or (take l.many l.list) i 0)) (l.initial.out, l.found) (l.out, l.n) l.k))
-
-abbrev pub decreases-open_listed-loop-k : goal.decreases-open_listed-loop-k
-decreases-open_listed-loop-k l = l.many - l.k
+-- those of the list before the index have offered what they find
+abbrev pub invariant-open_listed-loop-e : goal.invariant-open_listed-loop-e
+invariant-open_listed-loop-e l =
+    let q = query_of l.basis in
+    Tabled l.basis.image.now q l.initial.table l.table
+    × (((length l.out ≡ length l.initial.out) × (l.n ≤ l.capacity))
+    × Turns (put l.capacity) (λ i. entry_one l.basis.image.now q l.place l.trail (get_or l.list i 0)) (l.initial.out, l.found) (l.out, l.n) l.e-index)
 
 -- the first k candidates have offered what they find
 abbrev pub invariant-pair_each-loop-k : goal.invariant-pair_each-loop-k
 invariant-pair_each-loop-k l =
-    let q = query_by l.asked l.path l.word in
-    Tabled l.image q l.initial.table l.table
-    × ((l.k ≤ l.many) × (((length l.out ≡ length l.initial.out) × (l.n ≤ l.capacity)) × Turns (put l.capacity) (candidate_one l.image q (with_last l.place l.last) l.trail l.letter.0) (l.initial.out, l.initial.n) (l.out, l.n) l.k))
-
-abbrev pub decreases-pair_each-loop-k : goal.decreases-pair_each-loop-k
-decreases-pair_each-loop-k l = l.many - l.k
+    let q = query_of l.basis in
+    Tabled l.basis.image.now q l.initial.table l.table
+    × (((length l.out ≡ length l.initial.out) × (l.n ≤ l.capacity))
+    × Turns (put l.capacity) (candidate_one l.basis.image.now q (with_last l.place l.last) l.trail l.letter.0) (l.initial.out, l.initial.n) (l.out, l.n) l.k)
