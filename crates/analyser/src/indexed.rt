@@ -11,12 +11,18 @@ ghost use Rattle.requests.specs.Request.{request_of};
 ghost use Rattle.prepare.specs.Indexed.{Indexed};
 ghost use Rattle.analyser.specs.Tried.{TriedOf};
 
-use grammar::Verdict;
 use image::Header;
+use refusal::Refusal;
 use requests::Request;
 use rows::Reply;
 
-pub fn analyse(image: &[u8], index: &[u8], h: Header, word: &[u8], out: &mut [u8]) -> Reply
+pub fn analyse(
+    image: &[u8],
+    index: &[u8],
+    h: Header,
+    word: &[u8],
+    out: &mut [u8],
+) -> Result<Reply, Refusal>
     requires image_value { image_verdict image.now ≡ accepted }
     requires h_value { header_of h ≡ header image.now }
     requires indexed { Indexed image.now index.now }
@@ -26,35 +32,39 @@ pub fn analyse(image: &[u8], index: &[u8], h: Header, word: &[u8], out: &mut [u8
     list(image, index, h, Request::Analysis, word, out)
 }
 
-// What a search that may give up comes to.
-#[derive(Clone, Copy)]
-pub enum Tried {
-    Given(Reply),
-    Long,
-}
-
 // The same as `analyse`, or nothing: a search that turns out long is given up, and then the buffer's rows are of no use.
-pub fn try_analyse(image: &[u8], index: &[u8], h: Header, word: &[u8], out: &mut [u8]) -> Tried
+pub fn try_analyse(
+    image: &[u8],
+    index: &[u8],
+    h: Header,
+    word: &[u8],
+    out: &mut [u8],
+) -> Option<Result<Reply, Refusal>>
     requires image_value { image_verdict image.now ≡ accepted }
     requires h_value { header_of h ≡ header image.now }
     requires indexed { Indexed image.now index.now }
     ensures { TriedOf image.now word.now out.old out.new result }
 {
-    let verdict = requests::own::own_verdict(image, h, Request::Analysis, word);
-    match verdict {
-        Verdict::Refused(k) => Tried::Given(Reply::Refused(k)),
-        Verdict::Accepted => {
+    match requests::own::own_verdict(image, h, Request::Analysis, word) {
+        Err(refusal) => Some(Err(refusal)),
+        Ok(_) => {
             let capacity = out.len() / 116;
             let found = requests::try_word(image, &index[..39424], h, word, &index[39424..], out);
             if found < capacity + 2 {
-                return Tried::Given(rows::reply_for(found, capacity));
+                return Some(Ok(rows::reply_for(found, capacity)));
             }
-            Tried::Long
+            None
         }
     }
 }
 
-pub fn generate(image: &[u8], index: &[u8], h: Header, path: &[u8], out: &mut [u8]) -> Reply
+pub fn generate(
+    image: &[u8],
+    index: &[u8],
+    h: Header,
+    path: &[u8],
+    out: &mut [u8],
+) -> Result<Reply, Refusal>
     requires image_value { image_verdict image.now ≡ accepted }
     requires h_value { header_of h ≡ header image.now }
     requires indexed { Indexed image.now index.now }
@@ -72,28 +82,23 @@ pub fn list(
     request: Request,
     asked: &[u8],
     out: &mut [u8],
-) -> Reply
+) -> Result<Reply, Refusal>
     requires image_value { image_verdict image.now ≡ accepted }
     requires h_value { header_of h ≡ header image.now }
     requires indexed { Indexed image.now index.now }
     ensures reply { reply_of result ≡ listing_reply image.now (request_of request asked.now) (row_count out.old) }
     ensures bytes { out.new ≡ after_listing image.now (request_of request asked.now) out.old }
 {
-    let verdict = requests::own::own_verdict(image, h, request, asked);
-    match verdict {
-        Verdict::Refused(k) => Reply::Refused(k),
-        Verdict::Accepted => {
-            let capacity = out.len() / 116;
-            let found = requests::search_for(
-                image,
-                &index[..39424],
-                h,
-                request,
-                asked,
-                &index[39424..],
-                out,
-            );
-            rows::reply_for(found, capacity)
-        }
-    }
+    requests::own::own_verdict(image, h, request, asked)?;
+    let capacity = out.len() / 116;
+    let found = requests::search_for(
+        image,
+        &index[..39424],
+        h,
+        request,
+        asked,
+        &index[39424..],
+        out,
+    );
+    Ok(rows::reply_for(found, capacity))
 }

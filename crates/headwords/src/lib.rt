@@ -12,14 +12,10 @@ ghost use Rattle.judge.specs.Answers.{judgement_of};
 ghost use Rattle.conversion.specs.Conversion.{conversion_reply, after_conversion};
 ghost use Rattle.shares.specs.Words.{many_reply, after_replies, after_rows};
 ghost use Rattle.written_rules.specs.Judged.{rules_judged};
+ghost use Rattle.refusal.specs.Numbers.{number_of};
 ghost use Rattle.headwords.specs.Numbers.{refused_number, verdict_number, sealing_number, judgement_number, form_number, after_form, spelling_number, conversion_number, many_number};
 
-use converter::Conversion;
-use grammar::{FormReply, Verdict};
-use image::seal::Sealing;
-use judge::Judgement;
-use many::Many;
-use spelling::Spelling;
+use refusal::Refusal;
 
 pub fn headwords_analyse(image: &[u8], word: &[u8], out: &mut [u8]) -> u64
     ensures reply { result ≡ reply_number (listing_reply image.now (analysis word.now) (row_count out.old)) }
@@ -39,8 +35,8 @@ pub fn headwords_analyse_words(
     ensures rows { out.new ≡ after_rows image.now words.now replies.old out.old }
 {
     match many::analyse_words(image, words, replies, out) {
-        Many::Words(n) => 4 * (n as u64) + 1,
-        Many::Refused(k) => refusal(k),
+        Ok(n) => 4 * (n as u64) + 1,
+        Err(refusal) => refusal_number(refusal),
     }
 }
 
@@ -55,8 +51,8 @@ pub fn headwords_check(image: &[u8]) -> u64
     ensures { result ≡ verdict_number (image_verdict image.now) }
 {
     match grammar::check(image) {
-        Verdict::Accepted => 1,
-        Verdict::Refused(k) => refusal(k),
+        Ok(()) => 1,
+        Err(refusal) => refusal_number(refusal),
     }
 }
 
@@ -65,8 +61,8 @@ pub fn headwords_seal(image: &mut [u8]) -> u64
     ensures bytes { image.new ≡ after_sealing image.old }
 {
     match image::seal::seal(image) {
-        Sealing::Sealed => 1,
-        Sealing::Refused(k) => refusal(k),
+        Ok(()) => 1,
+        Err(refusal) => refusal_number(refusal),
     }
 }
 
@@ -87,8 +83,8 @@ pub fn headwords_form(image: &[u8], entry: usize, out: &mut [u8]) -> u64
     ensures bytes { out.new ≡ after_form (viewed image.now «entry») out.old }
 {
     match grammar::form_reply(image, entry) {
-        FormReply::Refused(k) => refusal(k),
-        FormReply::Letters(n) => {
+        Err(refusal) => refusal_number(refusal),
+        Ok(n) => {
             if out.len() < n {
                 return 4 * (n as u64) + 2;
             }
@@ -103,8 +99,8 @@ pub fn headwords_spell(image: &[u8], points: &[u8], letters: &mut [u8]) -> u64
     ensures bytes { letters.new ≡ after_spelling image.now points.now letters.old }
 {
     match spelling::spell(image, points, letters) {
-        Spelling::Letters(n) => 4 * (n as u64) + 1,
-        Spelling::Refused(k) => refusal(k),
+        Ok(n) => 4 * (n as u64) + 1,
+        Err(refusal) => refusal_number(refusal),
     }
 }
 
@@ -113,23 +109,23 @@ pub fn headwords_convert(image: &[u8], target: &mut [u8]) -> u64
     ensures bytes { target.new ≡ after_conversion image.now target.old }
 {
     match converter::convert(image, target) {
-        Conversion::Converted => 1,
-        Conversion::Refused(k) => refusal(k),
+        Ok(()) => 1,
+        Err(refusal) => refusal_number(refusal),
     }
 }
 
-fn judgement_number(judgement: Judgement) -> u64
+fn judgement_number(judgement: Result<bool, Refusal>) -> u64
     ensures { result ≡ judgement_number (judgement_of judgement) }
 {
     match judgement {
-        Judgement::Holds => 1,
-        Judgement::Fails => 0,
-        Judgement::Refused(k) => refusal(k),
+        Ok(true) => 1,
+        Ok(false) => 0,
+        Err(refusal) => refusal_number(refusal),
     }
 }
 
-fn refusal(k: u8) -> u64
-    ensures { result ≡ refused_number k }
+fn refusal_number(refusal: Refusal) -> u64
+    ensures { result ≡ refused_number (number_of refusal) }
 {
-    4 * (k as u64) + 3
+    4 * u64::from(refusal.number()) + 3
 }

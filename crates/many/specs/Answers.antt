@@ -1,8 +1,9 @@
 -- The call's answer in the words of its definition.
+use Rattle.std.specs.Prelude.{ℕ, Result, Ok, Err}
 use Rattle.shares.specs.Words as words
-use Rattle.many.specs.declared.Many.{Many}
-use Rattle.many.specs.declared.Many.TheVariants as many
+use Rattle.refusal.specs.declared.Refusal.{Refusal}
+use Rattle.refusal.specs.Numbers.{number_of}
 
-abbrev pub many_of : Many → words.ManyReply
-many_of (many.Words n) = words.ManyReply.words n
-many_of (many.Refused k) = words.ManyReply.refused k
+abbrev pub many_of : Result ℕ Refusal → words.ManyReply
+many_of (Ok n) = words.ManyReply.words n
+many_of (Err r) = words.ManyReply.refused (number_of r)

@@ -8,62 +8,56 @@ ghost use Rattle.grammar.specs.Answers.{tables_verdict};
 ghost use Rattle.shares.specs.Words.{many_reply, after_replies, after_rows};
 ghost use Rattle.many.specs.Answers.{many_of};
 
-use grammar::Verdict;
-
-#[derive(Clone, Copy)]
-pub enum Many {
-    Words(usize),
-    Refused(u8),
-}
+use refusal::Refusal;
 
 // A few words by the index alone.
-fn analyse_few(image: &[u8], words: &[u8], replies: &mut [u8], out: &mut [u8]) -> Many
+fn analyse_few(
+    image: &[u8],
+    words: &[u8],
+    replies: &mut [u8],
+    out: &mut [u8],
+) -> Result<usize, Refusal>
     requires { tables_verdict image.now ≡ accepted }
     ensures reply { many_of result ≡ many_reply image.now words.now replies.old }
     ensures replies { replies.new ≡ after_replies image.now words.now replies.old out.old }
     ensures rows { out.new ≡ after_rows image.now words.now replies.old out.old }
 {
     let mut index = [0u8; 39424];
-    let had = prepare::for_few(image, &mut index);
-    let h = had.h;
-    let verdict = had.verdict;
-    match verdict {
-        Verdict::Refused(k) => Many::Refused(k),
-        Verdict::Accepted => Many::Words(shares::answer_all(image, &index, h, words, replies, out)),
-    }
+    let h = prepare::for_few(image, &mut index)?;
+    Ok(shares::answer_all(image, &index, h, words, replies, out))
 }
 
 // More words by the index of forms as well.
-fn analyse_many(image: &[u8], words: &[u8], replies: &mut [u8], out: &mut [u8]) -> Many
+fn analyse_many(
+    image: &[u8],
+    words: &[u8],
+    replies: &mut [u8],
+    out: &mut [u8],
+) -> Result<usize, Refusal>
     requires { tables_verdict image.now ≡ accepted }
     ensures reply { many_of result ≡ many_reply image.now words.now replies.old }
     ensures replies { replies.new ≡ after_replies image.now words.now replies.old out.old }
     ensures rows { out.new ≡ after_rows image.now words.now replies.old out.old }
 {
     let mut index = [0u8; 186112];
-    let had = prepare::for_many(image, &mut index);
-    let h = had.h;
-    let verdict = had.verdict;
-    match verdict {
-        Verdict::Refused(k) => Many::Refused(k),
-        Verdict::Accepted => Many::Words(shares::answer_all(image, &index, h, words, replies, out)),
-    }
+    let h = prepare::for_many(image, &mut index)?;
+    Ok(shares::answer_all(image, &index, h, words, replies, out))
 }
 
 // From 5 words on the index of forms is worth making. An image that tests 1 to 6 refuse costs no index.
-pub fn analyse_words(image: &[u8], words: &[u8], replies: &mut [u8], out: &mut [u8]) -> Many
+pub fn analyse_words(
+    image: &[u8],
+    words: &[u8],
+    replies: &mut [u8],
+    out: &mut [u8],
+) -> Result<usize, Refusal>
     ensures reply { many_of result ≡ many_reply image.now words.now replies.old }
     ensures replies { replies.new ≡ after_replies image.now words.now replies.old out.old }
     ensures rows { out.new ≡ after_rows image.now words.now replies.old out.old }
 {
-    let early = grammar::check_tables(image);
-    match early {
-        Verdict::Refused(k) => Many::Refused(k),
-        Verdict::Accepted => {
-            if shares::word_count(words.len(), replies.len()) < 5 {
-                return analyse_few(image, words, replies, out);
-            }
-            analyse_many(image, words, replies, out)
-        }
+    grammar::check_tables(image)?;
+    if shares::word_count(words.len(), replies.len()) < 5 {
+        return analyse_few(image, words, replies, out);
     }
+    analyse_many(image, words, replies, out)
 }

@@ -7,42 +7,42 @@ ghost use Rattle.grammar.specs.Answers.{verdict_of};
 ghost use Rattle.requests.specs.Request.{request_of};
 
 use crate::Request;
-use grammar::Verdict;
 use image::Header;
+use refusal::Refusal;
 
 // Tests 9 and 10: 1 to 32 letters, each from 2 to L.
-fn word_verdict(image: &[u8], h: Header, word: &[u8]) -> Verdict
+fn word_verdict(image: &[u8], h: Header, word: &[u8]) -> Result<(), Refusal>
     requires { Accepted image.now (header_of h) }
     ensures { verdict_of result ≡ first_failing (word_tests image.now word.now) }
 {
     let n = word.len();
     if n < 1 {
-        return Verdict::Refused(9);
+        return Err(Refusal::WordLength);
     }
     if n > 32 {
-        return Verdict::Refused(9);
+        return Err(Refusal::WordLength);
     }
     if !letters::are_letters(word, 0, n, h.letters) {
-        return Verdict::Refused(10);
+        return Err(Refusal::WordLetters);
     }
-    Verdict::Accepted
+    Ok(())
 }
 
 // Tests 11 and 12: 1 to 16 entries, two bytes to each, linked through the lexicon.
-fn path_verdict(image: &[u8], h: Header, path: &[u8]) -> Verdict
+fn path_verdict(image: &[u8], h: Header, path: &[u8]) -> Result<(), Refusal>
     requires { Accepted image.now (header_of h) }
     ensures { verdict_of result ≡ first_failing (path_tests image.now path.now) }
 {
     if !rules::paths::path_length_right(path) {
-        return Verdict::Refused(11);
+        return Err(Refusal::PathLength);
     }
     if !rules::paths::path_linked(image, h, path) {
-        return Verdict::Refused(12);
+        return Err(Refusal::PathLinks);
     }
-    Verdict::Accepted
+    Ok(())
 }
 
-pub fn own_verdict(image: &[u8], h: Header, request: Request, asked: &[u8]) -> Verdict
+pub fn own_verdict(image: &[u8], h: Header, request: Request, asked: &[u8]) -> Result<(), Refusal>
     requires { Accepted image.now (header_of h) }
     ensures { verdict_of result ≡ first_failing (own_tests image.now (request_of request asked.now)) }
 {

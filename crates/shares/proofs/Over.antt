@@ -7,7 +7,7 @@ use mathlib.Core.Path.{◌≡◌, refl, sym, ap, ap₂, ◌∙◌}
 use mathlib.Core.List.{List, ◌++◌, append_assoc}
 use lib.ListN.{length, take, drop, length-take, length-drop, length-append}
 use lib.Seq.{drop-drop, take_at, drop_at}
-use borrow.Rule.Slice.PartMut.{put_mid}
+use borrow.Rule.Slice.PartMut.{put_mid, same_len_mid}
 use Rattle.model.specs.Lists.{below, flat_map, part}
 use Rattle.model.proofs.Lists.{flat_map_below}
 use Rattle.shares.specs.Words.{laid_over}
@@ -17,6 +17,10 @@ pub record Over (w : ℕ) (f : ℕ → List ℕ) (buffer : List ℕ) (i : ℕ) (
   pub is : now ≡ laid_over w i f buffer
   pub front : length (flat_map f (below i)) ≡ w * i
   pub same : length now ≡ length buffer
+
+-- how long a part is that lies inside
+pub part_long : (w i : ℕ) (buffer : List ℕ) → w * i + w ≤ length buffer → length (part w buffer i) ≡ w
+part_long w i buffer h = omega (arith, length-take w (drop (w * i) buffer), length-drop (w * i) buffer)
 
 module _ (w : ℕ) (f : ℕ → List ℕ) (buffer : List ℕ) where
   pub over_none : Over w f buffer 0 buffer
@@ -31,27 +35,28 @@ module _ (w : ℕ) (f : ℕ → List ℕ) (buffer : List ℕ) where
     rest = ap (drop (w * i)) o.is ∙ drop_at (flat_map f (below i)) (drop (w * i) buffer) (w * i) o.front
 
     -- the part that is lent is the buffer's own
-    pub over_lent : (from m : ℕ) → from ≡ w * i → m ≡ w → take m (drop from now) ≡ part w buffer i
-    over_lent from m e k = rw (e, k) (ap (take w) rest)
+    pub over_lent : (m : ℕ) → m ≡ w → take m (drop (w * i) now) ≡ part w buffer i
+    over_lent m e = rw e (ap (take w) rest)
 
     -- and a part in its place
-    module _ (from m : ℕ) (at : from ≡ w * i) (wide : m ≡ w) (x : List ℕ) (new : x ≡ f i) (kept : length x ≡ w) where
-      pub over_more : length (put_mid from m now x) ≡ length now → Over w f buffer (i + 1) (put_mid from m now x)
-      over_more long =
+    module _ (m : ℕ) (wide : m ≡ w) (inside : w * i + w ≤ length buffer) (x : List ℕ) (new : x ≡ f i) (kept : length x ≡ length (take m (drop (w * i) now))) where
+      pub over_more : Over w f buffer (i + 1) (put_mid (w * i) m now x)
+      over_more =
           let next : w * i + w ≡ w * (i + 1) = sym (mul-suc w i) ∙ ap (λ (n : ℕ). w * n) (sym (add-one i)) in
           let parts : flat_map f (below i) ++ f i ≡ flat_map f (below (i + 1)) = sym (flat_map_below f i) ∙ ap (λ (n : ℕ). flat_map f (below n)) (sym (add-one i)) in
-          let past : drop m (drop from now) ≡ drop (w * (i + 1)) buffer = rw (at, wide) (ap (drop w) rest ∙ drop-drop w (w * i) buffer ∙ ap (λ (n : ℕ). drop n buffer) next) in
-          let before : take from now ≡ flat_map f (below i) = rw at (ap (take (w * i)) o.is ∙ take_at (flat_map f (below i)) (drop (w * i) buffer) (w * i) o.front) in
+          let past : drop m (drop (w * i) now) ≡ drop (w * (i + 1)) buffer = rw wide (ap (drop w) rest ∙ drop-drop w (w * i) buffer ∙ ap (λ (n : ℕ). drop n buffer) next) in
+          let before : take (w * i) now ≡ flat_map f (below i) = ap (take (w * i)) o.is ∙ take_at (flat_map f (below i)) (drop (w * i) buffer) (w * i) o.front in
+          let long : length x ≡ w = kept ∙ ap length (over_lent m wide) ∙ part_long w i buffer inside in
           record {
-            is = ap₂ (λ (a b : List ℕ). a ++ (x ++ b)) before past ∙ ap (λ (y : List ℕ). flat_map f (below i) ++ (y ++ drop (w * (i + 1)) buffer)) new ∙ sym (append_assoc (flat_map f (below i)) (f i) (drop (w * (i + 1)) buffer)) ∙ ap (λ (y : List ℕ). y ++ drop (w * (i + 1)) buffer) parts;
-            front = ap length (sym parts) ∙ length-append (flat_map f (below i)) (f i) ∙ ap₂ (λ (a b : ℕ). a + b) o.front (ap length (sym new) ∙ kept) ∙ next;
-            same = long ∙ o.same;
+            is = ap₂ (λ (a b : List ℕ). a ++ (x ++ b)) before past
+                ∙ ap (λ (y : List ℕ). flat_map f (below i) ++ (y ++ drop (w * (i + 1)) buffer)) new
+                ∙ sym (append_assoc (flat_map f (below i)) (f i) (drop (w * (i + 1)) buffer))
+                ∙ ap (λ (y : List ℕ). y ++ drop (w * (i + 1)) buffer) parts;
+            front = ap length (sym parts) ∙ length-append (flat_map f (below i)) (f i) ∙ ap₂ (λ (a b : ℕ). a + b) o.front (ap length (sym new) ∙ long) ∙ next;
+            same = same_len_mid (w * i) m now x kept ∙ o.same;
           }
 
--- how long a part is that lies inside, and how many rows a share has
-pub part_long : (w i : ℕ) (buffer : List ℕ) → w * i + w ≤ length buffer → length (part w buffer i) ≡ w
-part_long w i buffer h = omega (arith, length-take w (drop (w * i) buffer), length-drop (w * i) buffer)
-
+-- how many rows a share has
 pub share_rows_lem : (s : ℕ) → 116 * s / 116 ≡ s
 share_rows_lem s = omega arith
 

@@ -16,12 +16,7 @@ use image::Header;
 pub fn word_count(words: usize, replies: usize) -> usize
     ensures { result ≡ word_count words replies }
 {
-    let records = words / 33;
-    let places = replies / 8;
-    if places < records {
-        return places;
-    }
-    records
+    (words / 33).min(replies / 8)
 }
 
 // Word after word, each with `share` rows.
@@ -44,24 +39,16 @@ fn answer_each(
     ensures rows { out.new ≡ laid_over (116 * share) n (share_at image.now words.now share out.old) out.old }
 {
     let width = 116 * share;
-    let mut from: usize = 0;
-    let mut i: usize = 0;
-    while i < n {
-        let record = 33 * i;
-        let record_end = record + 33;
-        let place = 8 * i;
-        let place_end = place + 8;
-        let to = from + width;
+    for i in 0..n {
+        let from = width * i;
         word::answer_word(
             image,
             index,
             h,
-            &words[record..record_end],
-            &mut replies[place..place_end],
-            &mut out[from..to],
+            &words[33 * i..33 * i + 33],
+            &mut replies[8 * i..8 * i + 8],
+            &mut out[from..from + width],
         );
-        from = to;
-        i += 1;
     }
 }
 

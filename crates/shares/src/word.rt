@@ -8,6 +8,7 @@ ghost use Rattle.prepare.specs.Indexed.{Indexed};
 ghost use Rattle.shares.specs.Words.{low_first, record_reply, after_record};
 
 use image::Header;
+use refusal::Refusal;
 
 // The reply's number, as plain analysis of the record's first letters gives it, and the rows. A length byte over 32 is refused with 9.
 fn list_record(image: &[u8], index: &[u8], h: Header, asked: &[u8], share: &mut [u8]) -> u64
@@ -20,27 +21,13 @@ fn list_record(image: &[u8], index: &[u8], h: Header, asked: &[u8], share: &mut 
 {
     let n = image::byte_at(asked, 0);
     if n > 32 {
-        return 39;
+        return rows::reply_number(Err(Refusal::WordLength));
     }
-    let to = n + 1;
-    let reply = analyser::indexed::analyse(image, index, h, &asked[1..to], share);
+    let reply = analyser::indexed::analyse(image, index, h, &asked[1..n + 1], share);
     rows::reply_number(reply)
 }
 
-// A number in eight bytes, the low byte first.
-fn put_number(place: &mut [u8], n: u64)
-    requires { length place.old ≡ 8 }
-    ensures { place.new ≡ low_first 8 n }
-{
-    let mut rest = n;
-    let mut i: usize = 0;
-    while i < 8 {
-        place[i] = (rest % 256) as u8;
-        rest = rest / 256;
-        i += 1;
-    }
-}
-
+// The reply's number in eight bytes, the low byte first, and the rows.
 pub fn answer_word(
     image: &[u8],
     index: &[u8],
@@ -58,5 +45,5 @@ pub fn answer_word(
     ensures bytes { share.new ≡ after_record image.now asked.now share.old }
 {
     let number = list_record(image, index, h, asked, share);
-    put_number(place, number);
+    place.copy_from_slice(&number.to_le_bytes());
 }

@@ -2,16 +2,17 @@
 use mathlib.Core.Path.{sym, ap, ◌∙◌}
 use Rattle.grammar.specs.Answers.{verdict_of}
 use Rattle.grammar.proofs.Verdicts.{refused_early}
+use Rattle.refusal.proofs.Given.{same_refusal}
+use Rattle.rows.specs.Fill.{reply_of}
 use Rattle.requests.specs.Request.{request_of}
 use Rattle.analyser.proofs.Replies.{image_refused}
 use Rattle.analyser.proofs.list.Goals as goal
 
 pub list_tabled-requires : goal.list_tabled-requires
-list_tabled-requires c = sym c.check_tables-early.ensures ∙ ap verdict_of c.in-Accepted.is
+list_tabled-requires c = sym c.check_tables.ensures ∙ ap verdict_of c.in_ok-check_tables.was
 
-pub returns-in-Refused : goal.returns-in-Refused
-returns-in-Refused c =
+pub returns-in_err-check_tables : goal.returns-in_err-check_tables
+returns-in_err-check_tables c =
     let a = c.args in
-    let k = c.in-Refused.k in
-    let refused = refused_early a.image.now k (sym c.check_tables-early.ensures ∙ ap verdict_of c.in-Refused.is) in
-    record { reply = (image_refused a.image.now (request_of a.request a.asked.now) a.out.now k (sym refused)).0; bytes = (image_refused a.image.now (request_of a.request a.asked.now) a.out.now k (sym refused)).1 }
+    let both = image_refused a.image.now (request_of a.request a.asked.now) a.out.now _ (sym (refused_early a.image.now _ (sym c.in_err-check_tables.ensures))) in
+    record { reply = ap reply_of (same_refusal c.from_residual.result _ c.from_residual.ensures.1) ∙ both.0; bytes = both.1 }

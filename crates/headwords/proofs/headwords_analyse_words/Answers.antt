@@ -8,15 +8,15 @@ use Rattle.many.specs.Answers.{many_of}
 use Rattle.shares.proofs.Replies.{answered_few}
 use Rattle.headwords.specs.Numbers.{many_number}
 use Rattle.headwords.proofs.headwords_analyse_words.Goals as goal
-use Rattle.headwords.proofs.headwords_analyse_words.Goals.{In-Words}
+use Rattle.headwords.proofs.headwords_analyse_words.Goals.{In-Ok}
 
 -- in the arm of words that are answered
-module _ (c : In-Words) where
+module _ (c : In-Ok) where
   abbrev n : ℕ
-  n = c.in-Words.n
+  n = c.in-Ok.n
 
   replied : many_reply c.args.image.now c.args.words.now c.args.replies.now ≡ ManyReply.words n
-  replied = sym c.analyse_words.ensures.reply ∙ ap many_of c.in-Words.is
+  replied = sym c.analyse_words.ensures.reply ∙ ap many_of c.in-Ok.is
 
   few : 8 * n ≤ length c.args.replies.now
   few = answered_few c.args.image.now c.args.words.now c.args.replies.now n replied
@@ -27,10 +27,10 @@ overflow_mul-result c = omega (arith, few c, c.well_formed.1.1.0.0)
 pub overflow_add-result : goal.overflow_add-result
 overflow_add-result c = omega (arith, few c, c.well_formed.1.1.0.0)
 
-pub returns-in-Words : goal.returns-in-Words
-returns-in-Words c = record { reply = sym (ap many_number (replied c)); replies = c.analyse_words.ensures.replies; rows = c.analyse_words.ensures.rows }
+pub returns-in-Ok : goal.returns-in-Ok
+returns-in-Ok c = record { reply = sym (ap many_number (replied c)); replies = c.analyse_words.ensures.replies; rows = c.analyse_words.ensures.rows }
 
-pub returns-in-Refused : goal.returns-in-Refused
-returns-in-Refused c =
+pub returns-in-Err : goal.returns-in-Err
+returns-in-Err c =
     let call = c.analyse_words in
-    record { reply = c.refusal.ensures ∙ ap many_number (sym (ap many_of c.in-Refused.is) ∙ call.ensures.reply); replies = call.ensures.replies; rows = call.ensures.rows }
+    record { reply = c.refusal_number.ensures ∙ ap many_number (sym (ap many_of c.in-Err.is) ∙ call.ensures.reply); replies = call.ensures.replies; rows = call.ensures.rows }

@@ -13,56 +13,56 @@ use Rattle.grammar.proofs.Verdicts.{Viewed, viewed_there}
 use Rattle.headwords.specs.Numbers.{form_number}
 use Rattle.headwords.proofs.Replies.{form_refused, form_short, form_fits, letters_are}
 use Rattle.headwords.proofs.headwords_form.Goals as goal
-use Rattle.headwords.proofs.headwords_form.Goals.{In-Letters}
+use Rattle.headwords.proofs.headwords_form.Goals.{In-Ok}
 
 -- in the arm of an entry that is there
-replied : (c : In-Letters) → form_reply c.args.image.now c.args.entry ≡ beside.FormReply.letters c.in-Letters.n
-replied c = sym c.form_reply.ensures ∙ ap form_reply_of c.in-Letters.is
+replied : (c : In-Ok) → form_reply c.args.image.now c.args.entry ≡ beside.FormReply.letters c.in-Ok.n
+replied c = sym c.form_reply.ensures ∙ ap form_reply_of c.in-Ok.is
 
-there : (c : In-Letters) → Viewed c.args.image.now c.args.entry c.in-Letters.n
-there c = viewed_there c.args.image.now c.args.entry c.in-Letters.n (replied c)
+there : (c : In-Ok) → Viewed c.args.image.now c.args.entry c.in-Ok.n
+there c = viewed_there c.args.image.now c.args.entry c.in-Ok.n (replied c)
 
 pub overflow_mul-result : goal.overflow_mul-result
-overflow_mul-result c = omega (arith, (there (goal.at.overflow_mul-result c).In-Letters).few)
+overflow_mul-result c = omega (arith, (there (goal.at.overflow_mul-result c).In-Ok).few)
 
 pub overflow_add-result : goal.overflow_add-result
-overflow_add-result c = omega (arith, (there (goal.at.overflow_add-result c).In-Letters).few)
+overflow_add-result c = omega (arith, (there (goal.at.overflow_add-result c).In-Ok).few)
 
 pub returns-then-out-n : goal.returns-then-out-n
 returns-then-out-n c =
     let a = c.args in
-    let n = c.in-Letters.n in
-    record { reply = sym (ap (form_number (length a.out.now)) (replied (goal.at.returns-then-out-n c).In-Letters) ∙ rw (lt-leb n (length a.out.now) c.if-out-n.true) refl); bytes = form_short a.image.now a.entry a.out.now n (replied (goal.at.returns-then-out-n c).In-Letters) c.if-out-n.true }
+    let n = c.in-Ok.n in
+    record { reply = sym (ap (form_number (length a.out.now)) (replied (goal.at.returns-then-out-n c).In-Ok) ∙ rw (lt-leb n (length a.out.now) c.if-out-n.true) refl); bytes = form_short a.image.now a.entry a.out.now n (replied (goal.at.returns-then-out-n c).In-Ok) c.if-out-n.true }
 
 pub form_part-requires : goal.form_part-requires
-form_part-requires c = replied (goal.at.form_part-requires c).In-Letters
+form_part-requires c = replied (goal.at.form_part-requires c).In-Ok
 
-pub overflow_mul-result-in-Letters : goal.overflow_mul-result-in-Letters
-overflow_mul-result-in-Letters c = omega (arith, (there (goal.at.overflow_mul-result-in-Letters c).In-Letters).few)
+pub overflow_mul-result-in-Ok : goal.overflow_mul-result-in-Ok
+overflow_mul-result-in-Ok c = omega (arith, (there (goal.at.overflow_mul-result-in-Ok c).In-Ok).few)
 
-pub overflow_add-result-in-Letters : goal.overflow_add-result-in-Letters
-overflow_add-result-in-Letters c = omega (arith, (there (goal.at.overflow_add-result-in-Letters c).In-Letters).few)
+pub overflow_add-result-in-Ok : goal.overflow_add-result-in-Ok
+overflow_add-result-in-Ok c = omega (arith, (there (goal.at.overflow_add-result-in-Ok c).In-Ok).few)
 
-pub returns-in-Refused : goal.returns-in-Refused
-returns-in-Refused c =
+pub returns-in-Err : goal.returns-in-Err
+returns-in-Err c =
     let a = c.args in
-    let refused = sym c.form_reply.ensures ∙ ap form_reply_of c.in-Refused.is in
-    record { reply = c.refusal.ensures ∙ sym (ap (form_number (length a.out.now)) refused); bytes = form_refused a.image.now a.entry a.out.now c.in-Refused.k refused }
+    let refused = sym c.form_reply.ensures ∙ ap form_reply_of c.in-Err.is in
+    record { reply = c.refusal_number.ensures ∙ sym (ap (form_number (length a.out.now)) refused); bytes = form_refused a.image.now a.entry a.out.now _ refused }
 
 pub copy_from_slice-requires : goal.copy_from_slice-requires
 copy_from_slice-requires c =
     let a = c.args in
-    length-take-le c.in-Letters.n a.out.now c.if-out-n.false ∙ sym (ap length c.form_part.ensures ∙ letters_are a.image.now a.entry a.out.now c.in-Letters.n (replied (goal.at.copy_from_slice-requires c).In-Letters))
+    length-take-le c.in-Ok.n a.out.now c.if-out-n.false ∙ sym (ap length c.form_part.ensures ∙ letters_are a.image.now a.entry a.out.now c.in-Ok.n (replied (goal.at.copy_from_slice-requires c).In-Ok))
 
 pub returns-else-out-n-clause-reply : goal.returns-else-out-n-clause-reply
 returns-else-out-n-clause-reply c =
-    let n = c.in-Letters.n in
-    sym (ap (form_number (length c.args.out.now)) (replied (goal.at.returns-else-out-n-clause-reply c).In-Letters) ∙ rw (le-leb n (length c.args.out.now) c.if-out-n.false) refl)
+    let n = c.in-Ok.n in
+    sym (ap (form_number (length c.args.out.now)) (replied (goal.at.returns-else-out-n-clause-reply c).In-Ok) ∙ rw (le-leb n (length c.args.out.now) c.if-out-n.false) refl)
 
 pub returns-else-out-n-clause-bytes : goal.returns-else-out-n-clause-bytes
 returns-else-out-n-clause-bytes c =
     let a = c.args in
-    let n = c.in-Letters.n in
-    let told = replied (goal.at.returns-else-out-n-clause-bytes c).In-Letters in
+    let n = c.in-Ok.n in
+    let told = replied (goal.at.returns-else-out-n-clause-bytes c).In-Ok in
     let form = viewed a.image.now a.entry in
     ap (λ (s : List ℕ). s ++ drop n a.out.now) (c.copy_from_slice.ensures.after ∙ c.form_part.ensures) ∙ ap (λ (m : ℕ). form ++ drop m a.out.now) (sym (letters_are a.image.now a.entry a.out.now n told)) ∙ form_fits a.image.now a.entry a.out.now n told c.if-out-n.false

@@ -5,7 +5,7 @@ use borrow.Rule.Slice.PartMut.{put_mid, same_len_mid}
 use mathlib.Core.Logic.{inr}
 use mathlib.Core.Path.{◌≡◌, sym, ap, ◌∙◌, subst}
 use mathlib.Core.List.{List, ◌++◌}
-use lib.ListN.{length, take, drop, replicate, length-append, length-replicate}
+use lib.ListN.{length, take, drop, replicate, length-append, length-take, length-replicate}
 use lib.Seq.{take_at, drop_at, take-append_seam, drop-append_seam}
 use Rattle.model.specs.Lists.{below, flat_map}
 use Rattle.image.specs.Index.{column_row, index_of}
@@ -39,10 +39,15 @@ module _ (image bytes : List ℕ) (e : bytes ≡ begun image ++ replicate 146688
 
   -- what is filled, in the place of both
   both : (index forms : List ℕ) → length index ≡ 39424 → put_mid 39424 146688 (index ++ drop 39424 bytes) forms ≡ index ++ forms
-  both index forms k = last_filled 39424 146688 index (index ++ drop 39424 bytes) k (ap (λ (l : List ℕ). index ++ l) (ap (drop 39424) e ∙ drop_at (begun image) (replicate 146688 0) 39424 (length_begun image))) forms
+  both index forms k =
+      let rest = ap (drop 39424) e ∙ drop_at (begun image) (replicate 146688 0) 39424 (length_begun image) in
+      last_filled 39424 146688 index (index ++ drop 39424 bytes) k (ap (λ (l : List ℕ). index ++ l) rest) forms
 
 pub slice_bounds-fill_index-end : goal.slice_bounds-fill_index-end
 slice_bounds-fill_index-end c = omega (arith, long c.args.image.now c.args.index.now c.requires.index_value)
+
+pub slice_bounds-fill_index-end-2 : goal.slice_bounds-fill_index-end-2
+slice_bounds-fill_index-end-2 c = simp length-take (omega (arith, long c.args.image.now c.args.index.now c.requires.index_value))
 
 pub fill_index-requires : goal.fill_index-requires
 fill_index-requires c = record { accepted = c.requires.accepted; out_value = index_part c.args.image.now c.args.index.now c.requires.index_value }

@@ -35,18 +35,27 @@ pub byte_at-n-requires : goal.byte_at-n-requires
 byte_at-n-requires c = omega (arith, c.requires.asked_len)
 
 pub returns-then-n-gt32 : goal.returns-then-n-gt32
-unfolding reply_number
 returns-then-n-gt32 c =
-    let l = record_long (image (goal.at.returns-then-n-gt32 c).After-byte_at-n) (asked (goal.at.returns-then-n-gt32 c).After-byte_at-n) (omega (arith, c.byte_at-n.ensures.0)) in
-    record { reply = ap reply_number (l.0 (row_count (share (goal.at.returns-then-n-gt32 c).After-byte_at-n))); bytes = l.1 (share (goal.at.returns-then-n-gt32 c).After-byte_at-n) }
+    let at = (goal.at.returns-then-n-gt32 c).After-byte_at-n in
+    let l = record_long (image at) (asked at) (omega (arith, c.byte_at-n.ensures.0)) in
+    record { reply = c.reply_number.ensures ∙ ap reply_number (l.0 (row_count (share at))); bytes = l.1 (share at) }
 
 pub slice_bounds-analyse-end : goal.slice_bounds-analyse-end
 slice_bounds-analyse-end c = omega (arith, c.requires.asked_len)
 
-pub reply_number-requires : goal.reply_number-requires
-reply_number-requires c =
-    omega (arith, listing_rows_lem (image (goal.at.reply_number-requires c).After-byte_at-n) (analysis (word_of (asked (goal.at.reply_number-requires c).After-byte_at-n))) (row_count (share (goal.at.reply_number-requires c).After-byte_at-n)), ap reply_rows (c.analyse-reply.ensures.reply ∙ ap (λ (w : List ℕ). listing_reply (image (goal.at.reply_number-requires c).After-byte_at-n) (analysis w) (row_count (share (goal.at.reply_number-requires c).After-byte_at-n))) (lent_word (goal.at.reply_number-requires c).After-byte_at-n)), c.well_formed.1.1.1.1.0.0)
+pub reply_number-requires-2 : goal.reply_number-requires-2
+reply_number-requires-2 c =
+    let at = (goal.at.reply_number-requires-2 c).After-byte_at-n in
+    let same = ap (λ (w : List ℕ). listing_reply (image at) (analysis w) (row_count (share at))) (lent_word at) in
+    omega (arith, listing_rows_lem (image at) (analysis (word_of (asked at))) (row_count (share at)), ap reply_rows (c.analyse-reply.ensures.reply ∙ same), c.well_formed.1.1.1.1.0.0)
 
 pub returns : goal.returns
 returns c =
-    let l = record_listed (image (goal.at.returns c).After-byte_at-n) (asked (goal.at.returns c).After-byte_at-n) (omega (arith, c.byte_at-n.ensures.0, c.if-n-gt32.false)) in record { reply = c.reply_number.ensures ∙ ap reply_number (c.analyse-reply.ensures.reply ∙ ap (λ (w : List ℕ). listing_reply (image (goal.at.returns c).After-byte_at-n) (analysis w) (row_count (share (goal.at.returns c).After-byte_at-n))) (lent_word (goal.at.returns c).After-byte_at-n) ∙ l.0 (row_count (share (goal.at.returns c).After-byte_at-n))); bytes = c.analyse-reply.ensures.bytes ∙ ap (λ (w : List ℕ). after_listing (image (goal.at.returns c).After-byte_at-n) (analysis w) (share (goal.at.returns c).After-byte_at-n)) (lent_word (goal.at.returns c).After-byte_at-n) ∙ l.1 (share (goal.at.returns c).After-byte_at-n) }
+    let at = (goal.at.returns c).After-byte_at-n in
+    let l = record_listed (image at) (asked at) (omega (arith, c.byte_at-n.ensures.0, c.if-n-gt32.false)) in
+    let same = ap (λ (w : List ℕ). listing_reply (image at) (analysis w) (row_count (share at))) (lent_word at) in
+    let left = ap (λ (w : List ℕ). after_listing (image at) (analysis w) (share at)) (lent_word at) in
+    record {
+      reply = c.reply_number-2.ensures ∙ ap reply_number (c.analyse-reply.ensures.reply ∙ same ∙ l.0 (row_count (share at)));
+      bytes = c.analyse-reply.ensures.bytes ∙ left ∙ l.1 (share at);
+    }
