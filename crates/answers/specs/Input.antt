@@ -1,13 +1,11 @@
 -- The input as it comes in: the line begun after more bytes, and the text of the lines that ended in them.
-use Rattle.std.specs.Prelude.{ℕ, ◌+◌, ◌≤◌, min, not, cond, ◌≡◌, List, [], ◌∷◌, ◌++◌, length, eqb}
+use Rattle.std.specs.Prelude.{ℕ, ◌+◌, ◌≤◌, min, not, cond, ◌≡◌, List, [], ◌∷◌, ◌++◌, length, eqb, Option, Some, None}
 use Rattle.model.specs.Lists.{given}
 use Rattle.model.specs.Tree.{is_nil}
 use Rattle.model.specs.Lines.{line_of, printed_line}
 use Rattle.print.specs.Text.{Put}
 use Rattle.parse.specs.Fields.{Begun, line_after}
 use Rattle.answers.specs.declared.input.Reached.{Reached}
-use Rattle.answers.specs.declared.input.Onward.{Onward}
-use Rattle.answers.specs.declared.input.Onward.TheVariants as onward
 use Rattle.answers.specs.Answered.{Waited}
 
 abbrev pub begun_after : List ℕ → List ℕ → List ℕ
@@ -41,6 +39,6 @@ module _ (image line line' out out' : List ℕ) (from : Reached) (b : ℕ) where
     pub text : (l : List ℕ) → Begun line from.kept l → Put out out' from.end to.end (text_after image l (b ∷ []))
     pub end_near : to.end ≤ from.end + 22032
 
-  abbrev pub ByteRead : Onward → Type 0
-  ByteRead (onward.To to) = Passed to
-  ByteRead onward.Waits = (line' ≡ line) × Waited out out' from.end
+  abbrev pub ByteRead : Option Reached → Type 0
+  ByteRead (Some to) = Passed to
+  ByteRead None = (line' ≡ line) × Waited out out' from.end

@@ -4,3 +4,4 @@
 
 pub mod input;
 mod line;
+pub mod run;

@@ -2,38 +2,26 @@
 
 #![tactic(auto)]
 
-ghost use Rattle.std.specs.Prelude.{◌≡◌, ◌+◌, ◌<◌, ◌≤◌, ◌^◌, length};
-ghost use Rattle.moving.specs.Told.{ToldBy, bytes_told, onward_of, image_length, TakenBy, TakenIn, GivenOut, IsPrefixLen};
+ghost use Rattle.std.specs.Prelude.{◌≡◌, ◌+◌, ◌<◌, ◌≤◌, ◌^◌, length, IfOk};
+ghost use Rattle.moving.specs.Told.{ToldBy, bytes_told, onward_of, length_read, TakenBy, TakenIn, GivenOut, IsPrefixLen};
 
 use std::io::{Cursor, ErrorKind, Read, Write};
 use std::rt::Files;
 use std::{fs, io, str};
 
-// What a call told: bytes moved, none since a signal came first, or that it failed.
-#[derive(Clone, Copy)]
-pub enum Told {
-    Bytes(usize),
-    Interrupted,
-    Failed(io::Error),
-}
-
-// What std's answer says of a call that was lent `part`.
-fn told_by(answer: io::Result<usize>, part: &[u8]) -> Told
+// What std's answer says of a call that was lent `part`: how many bytes it moved, or none where a signal came first.
+fn told_by(answer: io::Result<usize>, part: &[u8]) -> io::Result<Option<usize>>
     ensures { ToldBy answer (length part.now) result }
 {
     match answer {
-        Ok(n) => Told::Bytes(n.min(part.len())),
-        Err(e) => {
-            if e.kind() == ErrorKind::Interrupted {
-                return Told::Interrupted;
-            }
-            Told::Failed(e)
-        }
+        Ok(n) => Ok(Some(n.min(part.len()))),
+        Err(error) if error.kind() == ErrorKind::Interrupted => Ok(None),
+        Err(error) => Err(error),
     }
 }
 
 // One read into the lent part.
-fn read_some<I: Read>(input: &mut I, part: &mut [u8]) -> Told
+fn read_some<I: Read>(input: &mut I, part: &mut [u8]) -> io::Result<Option<usize>>
     ensures { bytes_told result ≤ length part.old }
 {
     let answer = input.read(part);
@@ -41,76 +29,41 @@ fn read_some<I: Read>(input: &mut I, part: &mut [u8]) -> Told
 }
 
 // One write of the lent part to standard output.
-fn write_some<R: Print>(rt: &R, part: &[u8]) -> Told
+fn write_some<R: Print>(rt: &R, part: &[u8]) -> io::Result<Option<usize>>
     ensures { bytes_told result ≤ length part.now }
 {
-    let answer = rt.write_some(part);
-    told_by(answer, part)
+    told_by(rt.write_some(part), part)
 }
 
-// What follows: another call, after so many bytes in all; or nothing more comes; or a call failed.
-#[derive(Clone, Copy)]
-pub enum Onward {
-    On(usize),
-    Ended,
-    Failed(io::Error),
-}
-
-fn after(done: usize, told: Told) -> Onward
+// How many bytes have been moved in all after one call more, or none where nothing more comes.
+fn after(done: usize, told: io::Result<Option<usize>>) -> io::Result<Option<usize>>
     requires { done + bytes_told told < 2 ^ 64 }
     ensures { result ≡ onward_of done told }
 {
-    match told {
-        Told::Failed(e) => Onward::Failed(e),
-        Told::Interrupted => Onward::On(done),
-        Told::Bytes(n) => {
-            if n == 0 {
-                return Onward::Ended;
-            }
-            Onward::On(done + n)
-        }
-    }
-}
-
-// The length of an image of which so many bytes were read when the last call told this.
-fn image_length(done: usize, last: Onward) -> usize
-    ensures { result ≡ image_length done last }
-{
-    match last {
-        Onward::On(_) => 0,
-        Onward::Ended => done,
-        Onward::Failed(_) => 0,
+    let moved = told?;
+    match moved {
+        None => Ok(Some(done)),
+        Some(0) => Ok(None),
+        Some(n) => Ok(Some(done + n)),
     }
 }
 
 // Reads a file into the buffer until it ends or the buffer is full.
-fn read_image<R: Eprint, I: Read>(rt: &R, file: &mut I, image: &mut [u8]) -> usize
-    ensures { IsPrefixLen result image.new }
+fn read_image<I: Read>(file: &mut I, image: &mut [u8]) -> io::Result<usize>
+    ensures { IsPrefixLen (length_read result) image.new }
 {
-    let most = image.len();
-    let mut done: usize = 0;
-    let mut left: u64 = 18446744073709551615;
-    while left > 0 {
-        if done == most {
-            return done;
+    let mut done = 0;
+    for _ in 0..u64::MAX {
+        if done == image.len() {
+            return Ok(done);
         }
         let told = read_some(file, &mut image[done..]);
-        let last = after(done, told);
-        match last {
-            Onward::On(n) => {
-                done = n;
-            }
-            Onward::Ended => {
-                return image_length(done, last);
-            }
-            Onward::Failed(e) => {
-                tell_image(rt, e);
-                return image_length(done, last);
-            }
-        }
-        left -= 1;
+        let Some(next) = after(done, told)? else {
+            return Ok(done);
+        };
+        done = next;
     }
-    0
+    Ok(0)
 }
 
 // Says on standard error what failed, and why in the system's words, without the number that std writes after them.
@@ -126,9 +79,17 @@ fn tell<R: Eprint>(rt: &R, what: &str, e: io::Error) {
     let _told = eprintln!(rt; "{what}: {words}");
 }
 
-// Says on standard error why the image can't be read.
-fn tell_image<R: Eprint>(rt: &R, e: io::Error) {
-    tell(rt, "grammar.img", e);
+// The length of an image that was read. Of one that can't be read, standard error says why.
+fn image_length<R: Eprint>(rt: &R, read: io::Result<usize>) -> usize
+    ensures { result ≡ length_read read }
+{
+    match read {
+        Ok(n) => n,
+        Err(e) => {
+            tell(rt, "grammar.img", e);
+            0
+        }
+    }
 }
 
 // Puts the image into the buffer and answers its length: 0 where it can't be read. The buffer has one byte more than an image may have, so that a
@@ -137,13 +98,11 @@ pub fn load_image<R: Files + Eprint>(rt: &R, image: &mut [u8]) -> usize
     requires { length image.old ≡ 65537 }
     ensures { IsPrefixLen result image.new }
 {
-    match fs::open(rt, "grammar.img") {
-        Ok(mut file) => read_image(rt, &mut file, image),
-        Err(e) => {
-            tell_image(rt, e);
-            0
-        }
-    }
+    let read = match fs::open(rt, "grammar.img") {
+        Ok(mut file) => read_image(&mut file, image),
+        Err(e) => Err(e),
+    };
+    image_length(rt, read)
 }
 
 // How many bytes have come in, or gone out, as the calls told. Only the calls here make one.
@@ -167,93 +126,79 @@ fn counted(before: Count, n: usize) -> Count
     }
 }
 
-// What came in: so many bytes, and how many in all; the end of the input; nothing this time; or a failure.
+// What came in: so many bytes, and how many in all; the end of the input; or nothing this time.
 #[derive(Clone, Copy)]
 pub enum Taken {
     Bytes(usize, Count),
     End,
     Nothing,
-    Failed,
 }
 
-// What came in by what a read told.
-fn taken_by<R: Eprint>(rt: &R, told: Told, before: Count) -> Taken
+// What came in by what a read told, where it did not fail.
+fn taken_by(told: io::Result<Option<usize>>, before: Count) -> io::Result<Taken>
     requires { before.bytes + bytes_told told < 2 ^ 64 }
     ensures { TakenBy told before result }
 {
-    match told {
-        Told::Failed(e) => input_failed(rt, e),
-        Told::Interrupted => Taken::Nothing,
-        Told::Bytes(n) => {
-            if n == 0 {
-                return Taken::End;
-            }
-            Taken::Bytes(n, counted(before, n))
-        }
+    let came = told?;
+    match came {
+        None => Ok(Taken::Nothing),
+        Some(0) => Ok(Taken::End),
+        Some(n) => Ok(Taken::Bytes(n, counted(before, n))),
     }
 }
 
-// One read of standard input, which `input` stands for.
-pub fn take_in<R: Eprint, I: Read>(rt: &R, input: &mut I, chunk: &mut [u8], before: Count) -> Taken
+// One read of standard input, which `input` stands for: what came in, or none where the read failed.
+pub fn take_in<R: Eprint, I: Read>(
+    rt: &R,
+    input: &mut I,
+    chunk: &mut [u8],
+    before: Count,
+) -> Option<Taken>
     requires { before.bytes + length chunk.old < 2 ^ 64 }
     ensures { TakenIn (length chunk.old) before result }
 {
     let told = read_some(input, chunk);
-    taken_by(rt, told, before)
+    match taken_by(told, before) {
+        Ok(taken) => Some(taken),
+        Err(e) => {
+            tell(rt, "standard input", e);
+            None
+        }
+    }
 }
 
-fn input_failed<R: Eprint>(rt: &R, e: io::Error) -> Taken
-    ensures { result ≡ Taken.Failed }
+// Writes a text to standard output, until all of it has gone out.
+fn write_text<R: Print>(rt: &R, text: &[u8], before: Count) -> io::Result<Count>
+    requires { before.bytes + length text.now < 2 ^ 64 }
+    ensures { IfOk result (λ all. all.bytes ≡ before.bytes + length text.now) }
 {
-    tell(rt, "standard input", e);
-    Taken::Failed
+    let mut done = 0;
+    for _ in 0..u64::MAX {
+        if done == text.len() {
+            return Ok(counted(before, done));
+        }
+        let told = write_some(rt, &text[done..]);
+        let Some(next) = after(done, told)? else {
+            return Err(io::Error::new(ErrorKind::WriteZero, "failed to write whole buffer"));
+        };
+        done = next;
+    }
+    Err(io::Error::new(ErrorKind::TimedOut, "gave up after 2^64 writes"))
 }
 
-// What became of a text: all of it has gone out, or a call failed.
-#[derive(Clone, Copy)]
-pub enum Given {
-    All(Count),
-    Failed,
-}
-
-// Hands a text to standard output.
-pub fn give<R: Print + Eprint>(rt: &R, text: &[u8], before: Count) -> Given
+// Hands a text to standard output: how many bytes have gone out in all, or none where a call failed. A reader that goes away is told of by no word: it
+// wants no more.
+pub fn give<R: Print + Eprint>(rt: &R, text: &[u8], before: Count) -> Option<Count>
     requires { before.bytes + length text.now < 2 ^ 64 }
     ensures { GivenOut (length text.now) before result }
 {
-    let most = text.len();
-    let mut done: usize = 0;
-    let mut left: u64 = 18446744073709551615;
-    while left > 0 {
-        if most == done {
-            return Given::All(counted(before, done));
+    match write_text(rt, text, before) {
+        Ok(all) => Some(all),
+        Err(e) => {
+            if e.kind() != ErrorKind::BrokenPipe {
+                tell(rt, "standard output", e);
+            }
+            None
         }
-        let told = write_some(rt, &text[done..]);
-        let next = after(done, told);
-        match next {
-            Onward::On(n) => {
-                done = n;
-            }
-            Onward::Ended => {
-                let no_byte = io::Error::new(ErrorKind::WriteZero, "failed to write whole buffer");
-                return output_failed(rt, no_byte);
-            }
-            Onward::Failed(e) => {
-                return output_failed(rt, e);
-            }
-        }
-        left -= 1;
     }
-    let too_many = io::Error::new(ErrorKind::TimedOut, "gave up after 2^64 writes");
-    output_failed(rt, too_many)
-}
-
-// A reader that goes away is told of by no word: it wants no more.
-fn output_failed<R: Eprint>(rt: &R, e: io::Error) -> Given
-    ensures { result ≡ Given.Failed }
-{
-    if e.kind() != ErrorKind::BrokenPipe {
-        tell(rt, "standard output", e);
-    }
-    Given::Failed
 }

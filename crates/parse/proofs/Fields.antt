@@ -1,74 +1,85 @@
--- The fields of a line one after another, and a field's value digit by digit.
+-- The fields of a line are the parts that its spaces divide it into; what is read of them one after another, and of a field digit by digit.
 use Prim.Native.Nat.{ℕ, zero, suc, ◌+◌, ◌*◌, ◌-◌, ◌<◌, ◌≤◌}
 use native.Mathlib.Numerals.{add-one}
 use native.Mathlib.Omega.{arith}
-use native.Mathlib.Decide.{dec_lt}
 use mathlib.Core.Bool.{Bool, true, false, ◌&&◌, cond, true≢false}
 use mathlib.Core.Path.{◌≡◌, refl, sym, ap, ap₂, ◌∙◌}
 use mathlib.Core.List.{List, [], ◌∷◌, ◌++◌, map, append_assoc, append-nil}
-use lib.ListN.{length, get_or, set, take, drop, length-set, length-take, length-drop, take-append-drop}
-use lib.Seq.{take-suc, take-suc-set, drop-set-lt, drop-drop, drop-cons, drop-length, get_or-take, get_or-drop, length-take-le}
-use lib.Dec.{leb}
-use borrow.Author.Tests.{le-leb, lt-leb, ne_eqb}
+use lib.ListN.{length, get_or, set, take, drop, length-append, length-set, take-append-drop}
+use lib.Seq.{take_all, take-suc, take-suc-set, drop-set-lt, drop-drop, drop-cons, drop-length, length-take-le}
+use lib.Dec.{leb, eqb}
+use borrow.Author.Rules.{rules}
+use borrow.Author.Tests.{le-leb, lt-leb, tests}
+use Rattle.std.specs.Prelude.{Result, Ok, Err, Some, None}
+use Rattle.std.specs.Result.{OkIff, result_ok}
+use Rattle.std.specs.List.{slice_split, onto_first}
+use Rattle.std.proofs.lemmas.List.Splits.{length-slice_split}
 use Rattle.model.specs.Lists.{every, within}
 use Rattle.model.specs.Lines as lines
 use Rattle.model.specs.Lines.{fields_from, fields_of, value_from, value_of, is_number, line_of}
 use Rattle.model.proofs.Lists.{member_at, every_append, every_not}
-use Rattle.parse.specs.Fields.{EndsField, ValueTold, first_values, word_after}
+use Rattle.parse.specs.Fields.{number_of, first_values, word_after}
 
--- the field that ends at `to`
-module _ (line : List ℕ) where
-  -- a byte that is no space joins the field
-  field_byte : (field : List ℕ) (i : ℕ) → i < length line → (get_or line i 0 ≡ 32 → ⊥) → fields_from field (drop i line) ≡ fields_from (field ++ (get_or line i 0 ∷ [])) (drop (suc i) line)
-  unfolding fields_from
-  field_byte field i h e = rw (drop-cons line i 0 h, ne_eqb (get_or line i 0) 32 e) refl
+abbrev pub parts : List ℕ → List (List ℕ)
+parts = slice_split (λ b. eqb b 32)
 
-  field_run : (m : ℕ) (field : List ℕ) (from : ℕ) → from + m ≤ length line → ((i : ℕ) → from ≤ i → i < from + m → get_or line i 0 ≡ 32 → ⊥)
-      → fields_from field (drop from line) ≡ fields_from (field ++ take m (drop from line)) (drop (from + m) line)
-  field_run zero field from h e =
-      let w : from + 0 ≡ from = omega arith in
-      ap₂ fields_from (sym (append-nil field)) (ap (λ (n : ℕ). drop n line) (sym w))
-  field_run (suc m) field from h e =
-      let w : suc from + m ≡ from + suc m = omega arith in
-      let here : from < length line = omega arith in
-      field_byte field from here (e from (omega arith) (omega arith))
-      ∙ field_run m (field ++ (get_or line from 0 ∷ [])) (suc from) (omega arith) (λ i k l. e i (omega arith) (omega arith))
-      ∙ ap₂ fields_from (append_assoc field (get_or line from 0 ∷ []) (take m (drop (suc from) line)) ∙ ap (λ (l : List ℕ). field ++ l) (sym (ap (take (suc m)) (drop-cons line from 0 here)))) (ap (λ (n : ℕ). drop n line) w)
+-- the parts of a line that goes on after the beginning of a field
+begun : List ℕ → List (List ℕ) → List (List ℕ)
+begun field [] = field ∷ []
+begun field (p ∷ ps) = (field ++ p) ∷ ps
 
-  module _ (from to : ℕ) (ends : EndsField line from to) where
-    abbrev pub field : List ℕ
-    field = take (to - from) (drop from line)
+begun_more : (field : List ℕ) (b : ℕ) (ps : List (List ℕ)) → begun field (onto_first b ps) ≡ begun (field ++ (b ∷ [])) ps
+unfolding begun
+begun_more field b [] = refl
+begun_more field b (p ∷ ps) = ap (λ (f : List ℕ). f ∷ ps) (sym (append_assoc field (b ∷ []) p))
 
-    run : fields_of (drop from line) ≡ fields_from field (drop to line)
-    unfolding fields_of
-    run =
-        let w : from + (to - from) ≡ to = omega (arith, ends.in_order) in
-        field_run (to - from) [] from (omega (arith, w, ends.inside)) (λ i k l. ends.no_space i k (omega (arith, w)))
-        ∙ ap (λ (n : ℕ). fields_from field (drop n line)) w
+begun_none : (ps : List (List ℕ)) → 0 < length ps → begun [] ps ≡ ps
+unfolding begun
+begun_none [] h = absurd (omega arith)
+begun_none (p ∷ ps) h = refl
 
-    pub last_field : to ≡ length line → fields_of (drop from line) ≡ field ∷ []
-    unfolding fields_from
-    last_field e = run ∙ rw (ap (λ (n : ℕ). drop n line) e ∙ drop-length line) refl
+some_parts : (line : List ℕ) → 0 < length (parts line)
+some_parts line = omega (arith, length-slice_split (λ (x : ℕ). eqb x 32) line)
 
-    pub more_fields : to < length line → fields_of (drop from line) ≡ field ∷ fields_of (drop (to + 1) line)
-    unfolding fields_from fields_of
-    more_fields h = run ∙ rw (drop-cons line to 0 h, ends.then_space h, add-one to) refl
+fields_begun : (field line : List ℕ) → begun field (parts line) ≡ fields_from field line
+unfolding begun fields_from
+fields_begun field [] = ap (λ (f : List ℕ). f ∷ []) (append-nil field)
+fields_begun field (b ∷ bs) = go (eqb b 32) (fields_begun [] bs) (fields_begun (field ++ (b ∷ [])) bs)
+  where
+    go : (t : Bool) → begun [] (parts bs) ≡ fields_from [] bs → begun (field ++ (b ∷ [])) (parts bs) ≡ fields_from (field ++ (b ∷ [])) bs
+        → begun field (cond t ([] ∷ parts bs) (onto_first b (parts bs))) ≡ cond t (field ∷ fields_from [] bs) (fields_from (field ++ (b ∷ [])) bs)
+    go true h k = let e : parts bs ≡ fields_from [] bs = sym (begun_none (parts bs) (some_parts bs)) ∙ h in ap₂ (λ (f : List ℕ) (fs : List (List ℕ)). f ∷ fs) (append-nil field) e
+    go false h k = begun_more field b (parts bs) ∙ k
 
--- a part of a line
-pub part_length : (line : List ℕ) (from to : ℕ) → from ≤ to → to ≤ length line → length (take (to - from) (drop from line)) ≡ to - from
-part_length line from to h k = length-take (to - from) (drop from line) ∙ omega (arith, length-drop from line)
+pub fields_parts : (line : List ℕ) → parts line ≡ fields_of line
+unfolding fields_of
+fields_parts line = sym (begun_none (parts line) (some_parts line)) ∙ fields_begun [] line
 
-pub part_at : (line : List ℕ) (from to at : ℕ) → from ≤ at → at < to → get_or (take (to - from) (drop from line)) (at - from) 0 ≡ get_or line at 0
-part_at line from to at h k =
-    let w : from + (at - from) ≡ at = omega arith in
-    get_or-take (to - from) (drop from line) (at - from) 0 (omega arith) ∙ get_or-drop from line (at - from) 0 ∙ ap (λ (n : ℕ). get_or line n 0) w
+-- the bytes of fields, and one more after each of them
+pub span : List (List ℕ) → ℕ
+span [] = 0
+span (f ∷ fs) = length f + 1 + span fs
+
+span_from : (field line : List ℕ) → span (fields_from field line) ≡ length field + length line + 1
+unfolding span fields_from
+span_from field [] = omega arith
+span_from field (b ∷ bs) = go (eqb b 32) (span_from [] bs) (span_from (field ++ (b ∷ [])) bs)
+  where
+    go : (t : Bool) → span (fields_from [] bs) ≡ length {A = ℕ} [] + length bs + 1 → span (fields_from (field ++ (b ∷ [])) bs) ≡ length (field ++ (b ∷ [])) + length bs + 1
+        → span (cond t (field ∷ fields_from [] bs) (fields_from (field ++ (b ∷ [])) bs)) ≡ length field + suc (length bs) + 1
+    go true h k = omega (arith, h)
+    go false h k = omega (arith, k, length-append field (b ∷ []))
+
+span_line : (line : List ℕ) → span (fields_of line) ≡ length line + 1
+unfolding fields_of
+span_line line = omega (arith, span_from [] line)
 
 -- a value of so many digits is below this
 unfoldable pub limit : ℕ → ℕ
 limit zero = 1
 limit (suc k) = 10 * limit k
 
-pub limit_most : (k : ℕ) → k ≤ 3 → limit k ≤ 1000
+limit_most : (k : ℕ) → k ≤ 3 → limit k ≤ 1000
 unfolding limit
 limit_most zero h = omega arith
 limit_most (suc zero) h = omega arith
@@ -82,70 +93,88 @@ unfolding value_from
 value_more n [] d = refl
 value_more n (e ∷ ds) d = value_more (10 * n + (e - 48)) ds d
 
--- the digits of a field that have been read
-pub record Digits (line : List ℕ) (from at value : ℕ) : Type 0 where
-  pub in_order : from ≤ at
-  pub value_is : value ≡ value_of (take (at - from) (drop from line))
-  pub all_digits : every (within 48 57) (take (at - from) (drop from line)) ≡ true
-  pub small : value < limit (at - from)
+-- the first bytes of a field are digits, of this value
+pub record Digits (field : List ℕ) (at value : ℕ) : Type 0 where
+  pub value_is : value ≡ value_of (take at field)
+  pub all_digits : every (within 48 57) (take at field) ≡ true
+  pub small : value < limit at
 
-pub digits_none : (line : List ℕ) (from : ℕ) → Digits line from from 0
+pub digits_none : (field : List ℕ) → Digits field 0 0
 unfolding value_from limit
-digits_none line from = let z : from - from ≡ 0 = omega arith in record { in_order = omega arith; value_is = rw z refl; all_digits = rw z refl; small = rw z (omega arith) }
+digits_none field = record { value_is = refl; all_digits = refl; small = omega arith }
 
-module _ (line : List ℕ) (from at value : ℕ) (d : Digits line from at value) (inside : at < length line) where
-  grown : take (at + 1 - from) (drop from line) ≡ take (at - from) (drop from line) ++ (get_or line at 0 ∷ [])
-  grown =
-      let w : at + 1 - from ≡ suc (at - from) = omega (arith, d.in_order) in
-      let k : at - from < length (drop from line) = omega (arith, length-drop from line, d.in_order) in
-      let v : from + (at - from) ≡ at = omega (arith, d.in_order) in
-      ap (λ (n : ℕ). take n (drop from line)) w
-      ∙ take-suc (drop from line) (at - from) 0 k
-      ∙ ap (λ (x : ℕ). take (at - from) (drop from line) ++ (x ∷ [])) (get_or-drop from line (at - from) 0 ∙ ap (λ (n : ℕ). get_or line n 0) v)
+pub digits_few : (field : List ℕ) (at value : ℕ) → Digits field at value → at ≤ 3 → value < 1000
+digits_few field at value d h = omega (arith, d.small, limit_most at h)
 
-  pub digits_more : 48 ≤ get_or line at 0 → get_or line at 0 ≤ 57 → Digits line from (at + 1) (10 * value + (get_or line at 0 - 48))
-  unfolding limit
-  digits_more h k =
-      let w : at + 1 - from ≡ suc (at - from) = omega (arith, d.in_order) in
-      record {
-        in_order = omega (arith, d.in_order);
-        value_is = ap (λ (v : ℕ). 10 * v + (get_or line at 0 - 48)) d.value_is ∙ sym (ap value_of grown ∙ value_more 0 (take (at - from) (drop from line)) (get_or line at 0));
-        all_digits = ap (every (within 48 57)) grown ∙ every_append (within 48 57) (take (at - from) (drop from line)) (get_or line at 0 ∷ []) ∙ rw (d.all_digits, le-leb 48 (get_or line at 0) h, le-leb (get_or line at 0) 57 k) refl;
-        small = rw w (omega (arith, d.small));
-      }
+pub digit_few : (b : ℕ) → within 48 57 b ≡ true → b ≤ 57
+digit_few b h = search (rules, tests)
+
+pub digits_more : (field : List ℕ) (at value : ℕ) → Digits field at value → at < length field → within 48 57 (get_or field at 0) ≡ true → Digits field (at + 1) (10 * value + (get_or field at 0 - 48))
+unfolding limit
+digits_more field at value d inside h =
+    let grown : take (at + 1) field ≡ take at field ++ (get_or field at 0 ∷ []) = ap (λ (n : ℕ). take n field) (add-one at) ∙ take-suc field at 0 inside in
+    record {
+      value_is = ap (λ (v : ℕ). 10 * v + (get_or field at 0 - 48)) d.value_is ∙ sym (ap value_of grown ∙ value_more 0 (take at field) (get_or field at 0));
+      all_digits = ap (every (within 48 57)) grown ∙ every_append (within 48 57) (take at field) (get_or field at 0 ∷ []) ∙ rw (d.all_digits, h) refl;
+      small = rw (add-one at) (omega (arith, d.small, digit_few (get_or field at 0) h));
+    }
 
 middle_false : (a b c : Bool) → b ≡ false → (a && b && c) ≡ false
 middle_false true b c e = rw e refl
 middle_false false b c e = refl
 
--- what is told of a field
-told_none : (field : List ℕ) → is_number field ≡ false → ValueTold field 256
-told_none field e = record { number = λ h. absurd (omega arith); none = λ h. e }
+-- what a field is told to be
+told_none : (field : List ℕ) → is_number field ≡ false → None ≡ number_of field
+unfolding number_of
+told_none field e = rw e refl
 
-pub told_empty : (field : List ℕ) → length field < 1 → ValueTold field 256
+pub told_empty : (field : List ℕ) → length field < 1 → None ≡ number_of field
 unfolding is_number
 told_empty field h = told_none field (rw (lt-leb 1 (length field) h) refl)
 
-pub told_long : (field : List ℕ) → 3 < length field → ValueTold field 256
+pub told_long : (field : List ℕ) → 3 < length field → None ≡ number_of field
 unfolding is_number
 told_long field h = told_none field (rw (le-leb 1 (length field) (omega arith), lt-leb (length field) 3 h) refl)
 
-pub told_other : (field : List ℕ) (i : ℕ) → i < length field → within 48 57 (get_or field i 0) ≡ false → ValueTold field 256
+pub told_other : (field : List ℕ) (i : ℕ) → i < length field → within 48 57 (get_or field i 0) ≡ false → None ≡ number_of field
 unfolding is_number
 told_other field i h e = told_none field (middle_false (within 1 3 (length field)) (every (within 48 57) field) (leb (value_of field) 255) (every_not (within 48 57) field (member_at field i 0 h) e))
 
-pub told_value : (field : List ℕ) (value : ℕ) → 1 ≤ length field → length field ≤ 3 → every (within 48 57) field ≡ true → value ≡ value_of field → ValueTold field value
-unfolding is_number
-told_value field value h k d e = record {
-  number = λ s. (rw (le-leb 1 (length field) h, le-leb (length field) 3 k, d, ← e, le-leb value 255 s) refl, sym e);
-  none = λ s. rw (le-leb 1 (length field) h, le-leb (length field) 3 k, d, ← e, lt-leb value 255 s) refl;
-}
+-- the value of a field of digits, where it fits a byte
+pub told_value : {E : Type 0} (field : List ℕ) (value : ℕ) (r : Result ℕ E) → 1 ≤ length field → length field ≤ 3 → Digits field (length field) value
+    → OkIff r (value < 256) value → result_ok r ≡ number_of field
+unfolding number_of is_number
+told_value field value (Ok x) h k d e =
+    let value_is : value ≡ value_of field = d.value_is ∙ ap value_of (take_all (length field) field (omega arith)) in
+    let digits : every (within 48 57) field ≡ true = ap (every (within 48 57)) (sym (take_all (length field) field (omega arith))) ∙ d.all_digits in
+    rw (le-leb 1 (length field) h, le-leb (length field) 3 k, digits, le-leb (value_of field) 255 (omega (arith, value_is, e.0))) (ap Some (e.1 ∙ value_is))
+told_value field value (Err f) h k d e =
+    let value_is : value ≡ value_of field = d.value_is ∙ ap value_of (take_all (length field) field (omega arith)) in
+    let digits : every (within 48 57) field ≡ true = ap (every (within 48 57)) (sym (take_all (length field) field (omega arith))) ∙ d.all_digits in
+    let large : 255 < value_of field = omega (arith, value_is, e) in
+    rw (le-leb 1 (length field) h, le-leb (length field) 3 k, digits, lt-leb (value_of field) 255 large) refl
 
 -- a number has a digit
-pub number_some : (field : List ℕ) → is_number field ≡ true → 1 ≤ length field
+number_some : (field : List ℕ) → is_number field ≡ true → 1 ≤ length field
 unfolding is_number
 number_some [] e = absurd (true≢false (sym e))
 number_some (x ∷ xs) e = omega arith
+
+number_is : (field : List ℕ) (n : ℕ) → number_of field ≡ Some n → (is_number field ≡ true) × (value_of field ≡ n)
+unfolding number_of
+number_is field n e = go (is_number field) refl e
+  where
+    go : (t : Bool) → is_number field ≡ t → cond t (Some (value_of field)) None ≡ Some n → (is_number field ≡ true) × (value_of field ≡ n)
+    go true f h = (f, cc)
+    go false f h = cc
+
+number_not : (field : List ℕ) → number_of field ≡ None → is_number field ≡ false
+unfolding number_of
+number_not field e = go (is_number field) refl e
+  where
+    go : (t : Bool) → is_number field ≡ t → cond t (Some (value_of field)) None ≡ None → is_number field ≡ false
+    go true f h = cc
+    go false f h = f
 
 -- a line by its fields
 pub line_none : (line word : List ℕ) → length line ≡ 0 → lines.letters (take 0 word) ≡ line_of line
@@ -153,7 +182,7 @@ unfolding line_of
 line_none [] word h = refl
 line_none (b ∷ bs) word h = absurd (omega arith)
 
-pub line_some : (line : List ℕ) → 0 < length line → length line ≤ 255 → line_of line ≡ cond (every is_number (fields_of line)) (lines.letters (map value_of (fields_of line))) lines.unread
+line_some : (line : List ℕ) → 0 < length line → length line ≤ 255 → line_of line ≡ cond (every is_number (fields_of line)) (lines.letters (map value_of (fields_of line))) lines.unread
 unfolding line_of
 line_some [] h k = absurd (omega arith)
 line_some (b ∷ bs) h k = rw (le-leb (length (b ∷ bs)) 255 k) refl
@@ -164,69 +193,87 @@ unfolding fields_of fields_from first_values is_number
 word_none [] word h = refl
 word_none (b ∷ bs) word h = absurd (omega arith)
 
--- what has been read of a line: the fields before `from` are numbers, and so many letters in the buffer, which held others before
-pub record Read (line word₀ word : List ℕ) (from letters : ℕ) : Type 0 where
-  pub numbers : every is_number (fields_of line) ≡ every is_number (fields_of (drop from line))
-  pub values : map value_of (fields_of line) ≡ take letters word ++ map value_of (fields_of (drop from line))
-  pub first : first_values (fields_of line) ≡ take letters word ++ first_values (fields_of (drop from line))
+-- what has been read of a line: its first fields are numbers, and their letters stand in the buffer, which held others before
+pub record Read (line word₀ word : List ℕ) (letters : ℕ) : Type 0 where
+  pub numbers : every is_number (fields_of line) ≡ every is_number (drop letters (fields_of line))
+  pub values : map value_of (fields_of line) ≡ take letters word ++ map value_of (drop letters (fields_of line))
+  pub first : first_values (fields_of line) ≡ take letters word ++ first_values (drop letters (fields_of line))
   pub kept : drop letters word ≡ drop letters word₀
-  pub few : 2 * letters ≤ from
   pub long : length word ≡ 128
+  pub few : 2 * letters + span (drop letters (fields_of line)) ≤ length line + 1
 
-pub read_none : (line word : List ℕ) → length word ≡ 128 → Read line word word 0 0
-read_none line word w = record { numbers = refl; values = refl; first = refl; kept = refl; few = omega arith; long = w }
+pub read_none : (line word : List ℕ) → length word ≡ 128 → Read line word word 0
+read_none line word l = record { numbers = refl; values = refl; first = refl; kept = refl; long = l; few = omega (arith, span_line line) }
+
+-- where a part stands among the fields
+pub next_field : (line field : List ℕ) (letters n : ℕ) → letters ≡ n → (n < length (parts line)) × (field ≡ get_or (parts line) n field)
+    → (letters < length (fields_of line)) × (field ≡ get_or (fields_of line) letters field)
+next_field line field letters n e h = rw (e, ← fields_parts line) h
 
 -- the buffer is these letters and what it held before
 word_is : (line word₀ word : List ℕ) (letters : ℕ) → letters ≤ length word → first_values (fields_of line) ≡ take letters word → drop letters word ≡ drop letters word₀ → word ≡ word_after line word₀
 word_is line word₀ word letters h e k =
     sym (take-append-drop letters word) ∙ rw (e, length-take-le letters word h) (ap (λ (l : List ℕ). take letters word ++ l) k)
 
-module _ (line word₀ word : List ℕ) (from letters to value : ℕ) (short : length line ≤ 255) (done : Read line word₀ word from letters) (ends : EndsField line from to) (told : ValueTold (take (to - from) (drop from line)) value) where
-  -- the letters come first
-  pub letter_room : letters < length word
-  letter_room = omega (arith, done.few, done.long, ends.in_order, ends.inside, short)
+module _ (line word₀ word : List ℕ) (letters : ℕ) (short : length line ≤ 255) (done : Read line word₀ word letters) where
+  -- all fields are numbers
+  module _ (end : letters ≡ length (fields_of line)) where
+    none : drop letters (fields_of line) ≡ []
+    none = ap (λ (n : ℕ). drop n (fields_of line)) end ∙ drop-length (fields_of line)
 
-  pub read_bad : 255 < value → every is_number (fields_of line) ≡ false
-  read_bad h = done.numbers ∙ go (dec_lt to (length line))
-    where
-      go : Dec (to < length line) → every is_number (fields_of (drop from line)) ≡ false
-      go (yes k) = rw (more_fields line from to ends k, told.none h) refl
-      go (no k) = rw (last_field line from to ends (omega (arith, ends.inside)), told.none h) refl
+    pub few_letters : letters ≤ 128
+    few_letters = omega (arith, done.few)
 
-  pub word_bad : 255 < value → word ≡ word_after line word₀
-  unfolding first_values
-  word_bad h = word_is line word₀ word letters (omega (arith, letter_room)) (done.first ∙ go (dec_lt to (length line)) ∙ append-nil (take letters word)) done.kept
-    where
-      go : Dec (to < length line) → take letters word ++ first_values (fields_of (drop from line)) ≡ take letters word ++ []
-      go (yes k) = rw (more_fields line from to ends k, told.none h) refl
-      go (no k) = rw (last_field line from to ends (omega (arith, ends.inside)), told.none h) refl
+    pub line_read : 0 < length line → lines.letters (take letters word) ≡ line_of line
+    line_read h =
+        let numbers : every is_number (fields_of line) ≡ true = done.numbers ∙ ap (every is_number) none in
+        let values : map value_of (fields_of line) ≡ take letters word = done.values ∙ ap (λ fs. take letters word ++ map value_of fs) none ∙ append-nil (take letters word) in
+        sym (line_some line h short ∙ rw (numbers, values) refl)
 
-  kept_more : drop (letters + 1) (set word letters value) ≡ drop (letters + 1) word₀
-  kept_more =
-      drop-set-lt (letters + 1) word letters value (omega arith) ∙ sym (drop-drop 1 letters word) ∙ ap (drop 1) done.kept ∙ drop-drop 1 letters word₀
+    pub word_read : word ≡ word_after line word₀
+    unfolding first_values
+    word_read = word_is line word₀ word letters (omega (arith, few_letters, done.long)) (done.first ∙ ap (λ fs. take letters word ++ first_values fs) none ∙ append-nil (take letters word)) done.kept
 
-  put : value ≤ 255 → take (letters + 1) (set word letters value) ≡ take letters word ++ (value_of (take (to - from) (drop from line)) ∷ [])
-  put h = ap (λ (n : ℕ). take n (set word letters value)) (add-one letters) ∙ take-suc-set word letters value letter_room ∙ ap (λ (v : ℕ). take letters word ++ (v ∷ [])) (sym (told.number h).1)
+  -- the next field
+  module _ (field : List ℕ) (next : (letters < length (fields_of line)) × (field ≡ get_or (fields_of line) letters field)) where
+    here : drop letters (fields_of line) ≡ field ∷ drop (letters + 1) (fields_of line)
+    here = drop-cons (fields_of line) letters field next.0 ∙ rw (← next.1, add-one letters) refl
 
-  pub read_last : to ≡ length line → value ≤ 255 → (every is_number (fields_of line) ≡ true) × (map value_of (fields_of line) ≡ take (letters + 1) (set word letters value))
-  read_last e h = (
-    done.numbers ∙ rw (last_field line from to ends e, (told.number h).0) refl,
-    done.values ∙ rw (last_field line from to ends e) (sym (put h)),
-  )
+    -- is no number
+    module _ (bad : number_of field ≡ None) where
+      pub line_unread : 0 < length line → lines.unread ≡ line_of line
+      line_unread h =
+          let none : every is_number (fields_of line) ≡ false = done.numbers ∙ ap (every is_number) here ∙ rw (number_not field bad) refl in
+          sym (line_some line h short ∙ rw none refl)
 
-  pub word_last : to ≡ length line → value ≤ 255 → set word letters value ≡ word_after line word₀
-  unfolding first_values
-  word_last e h =
-      word_is line word₀ (set word letters value) (letters + 1) (omega (arith, letter_room, length-set word letters value))
-      (done.first ∙ rw (last_field line from to ends e, (told.number h).0) (sym (put h))) kept_more
+      pub word_unread : word ≡ word_after line word₀
+      unfolding first_values span
+      word_unread =
+          word_is line word₀ word letters (omega (arith, done.few, ap span here, done.long))
+          (done.first ∙ ap (λ fs. take letters word ++ first_values fs) here ∙ rw (number_not field bad) (append-nil (take letters word))) done.kept
 
-  pub read_more : to < length line → value ≤ 255 → Read line word₀ (set word letters value) (to + 1) (letters + 1)
-  unfolding first_values
-  read_more k h = record {
-    numbers = done.numbers ∙ rw (more_fields line from to ends k, (told.number h).0) refl;
-    values = done.values ∙ rw (more_fields line from to ends k, put h) (sym (append_assoc (take letters word) (value_of (take (to - from) (drop from line)) ∷ []) (map value_of (fields_of (drop (to + 1) line)))));
-    first = done.first ∙ rw (more_fields line from to ends k, (told.number h).0, put h) (sym (append_assoc (take letters word) (value_of (take (to - from) (drop from line)) ∷ []) (first_values (fields_of (drop (to + 1) line)))));
-    kept = kept_more;
-    few = omega (arith, done.few, part_length line from to ends.in_order ends.inside, number_some (take (to - from) (drop from line)) (told.number h).0);
-    long = length-set word letters value ∙ done.long;
-  }
+    -- or one
+    module _ (value : ℕ) (good : number_of field ≡ Some value) where
+      pub letter_room : letters < length word
+      unfolding span
+      letter_room = omega (arith, done.few, done.long, ap span here, number_some field (number_is field value good).0)
+
+      put : take (letters + 1) (set word letters value) ≡ take letters word ++ (value_of field ∷ [])
+      put = ap (λ (n : ℕ). take n (set word letters value)) (add-one letters)
+          ∙ take-suc-set word letters value letter_room
+          ∙ ap (λ (v : ℕ). take letters word ++ (v ∷ [])) (sym (number_is field value good).1)
+
+      pub read_more : Read line word₀ (set word letters value) (letters + 1)
+      unfolding first_values span
+      read_more =
+          let number = (number_is field value good).0 in
+          record {
+            numbers = done.numbers ∙ ap (every is_number) here ∙ rw number refl;
+            values = done.values ∙ ap (λ fs. take letters word ++ map value_of fs) here
+                ∙ rw put (sym (append_assoc (take letters word) (value_of field ∷ []) (map value_of (drop (letters + 1) (fields_of line)))));
+            first = done.first ∙ ap (λ fs. take letters word ++ first_values fs) here
+                ∙ rw (number, put) (sym (append_assoc (take letters word) (value_of field ∷ []) (first_values (drop (letters + 1) (fields_of line)))));
+            kept = drop-set-lt (letters + 1) word letters value (omega arith) ∙ sym (drop-drop 1 letters word) ∙ ap (drop 1) done.kept ∙ drop-drop 1 letters word₀;
+            long = length-set word letters value ∙ done.long;
+            few = omega (arith, done.few, ap span here, number_some field number);
+          }

@@ -1,17 +1,18 @@
 -- What a step adds to what came in and went out before.
-use Prim.Native.Nat.{ℕ, ◌+◌, ◌*◌, ◌-◌, ◌<◌, ◌≤◌, ◌^◌}
+use Prim.Native.Nat.{ℕ, ◌+◌, ◌*◌, ◌-◌, ◌<◌, ◌≤◌}
 use native.Mathlib.Omega.{arith}
 use mathlib.Core.Path.{◌≡◌, refl, sym, ap, ap₂, ◌∙◌, subst}
 use mathlib.Core.List.{List, [], ◌++◌, append_assoc, append-nil}
 use lib.ListN.{length, take, drop, length-append, length-drop, take-append-drop}
 use lib.Seq.{take_all, drop-drop, length-take-le, drop-append-le, take-append-le}
+use Rattle.std.specs.Prelude.{Option, Some, None}
 use Rattle.model.specs.Lines.{printed}
 use Rattle.parse.specs.Fields.{Begun}
 use Rattle.moving.specs.declared.Count.{Count}
+use Rattle.moving.specs.Told.{GivenOut}
 use Rattle.steps.specs.declared.Stand.{Stand}
 use Rattle.answers.specs.Input.{begun_after, text_after, last_text}
-use Rattle.steps.specs.declared.Ending.TheVariants as ending
-use Rattle.steps.specs.Sofar.{Rooms, Within, waiting, Sofar, WentOn, Over, Ended}
+use Rattle.steps.specs.Sofar.{Within, waiting, Sofar, WentOn, Over, Finished, Ended}
 use Rattle.answers.proofs.Reading.{begun_parts, text_parts, begun_nothing, printed_is}
 
 -- a part of a list, and the part after it
@@ -78,36 +79,32 @@ over image chunk line out' s count text none last t more chunk' line' =
     ap₂ (λ (x y : List ℕ). x ++ y) h.text (last (begun_after [] h.answered) h.begun) ∙ sym (printed_is image h.answered) ∙ sym (ap (printed image) all) in
     record { prints = λ given handed h. (rw (i, ← t) (prints given handed h), omega (arith, more, h.handed_count, length-append handed text, ap length (prints given handed h))) }
 
+-- the same, where it was handed over
+pub last_given : (image line line' out : List ℕ) (s : Stand) (end : ℕ) → end ≤ length out → s.at ≡ s.n → ((l : List ℕ) → Begun line s.kept l → take end out ≡ last_text image l)
+    → (given : Option Count) → GivenOut (length (take end out)) s.handed given → (chunk chunk' : List ℕ) → Finished image chunk chunk' line line' out s given
+last_given image line line' out s end fits none last (Some count) more chunk chunk' =
+    over image chunk line out s count (take end out) none last (sym (ap (λ (n : ℕ). take n out) (length-take-le end out fits))) more chunk' line'
+last_given image line line' out s end fits none last None more chunk chunk' = tt
+
 -- nothing has come in or gone out
 pub sofar_none : (image chunk line : List ℕ) (s : Stand) → s.kept ≡ 0 → s.at ≡ s.n → s.taken.bytes ≡ 0 → s.handed.bytes ≡ 0 → Sofar image [] [] chunk line s
 sofar_none image chunk line s k a t h =
     let z : s.n - s.at ≡ 0 = omega arith in
     record { answered = []; in_order = rw z refl; begun = rw k (begun_nothing line); text = refl; taken_count = t; handed_count = h }
 
--- what is lent, before and after
-pub record SameLengths (chunk line out chunk' line' out' : List ℕ) : Type 0 where
-  pub chunk_same : length chunk' ≡ length chunk
-  pub line_same : length line' ≡ length line
-  pub out_same : length out' ≡ length out
-
--- at the head of the loop, with so many steps left
-pub record Head (image chunk line out : List ℕ) (s : Stand) (left : ℕ) : Type 0 where
-  pub chunk_long : length chunk ≡ 65536
-  pub rooms : Rooms line out
+-- at the head of the loop, after so many steps
+pub record Head (image chunk line : List ℕ) (s : Stand) (turns : ℕ) : Type 0 where
   pub in_order : s.at ≤ s.n
   pub inside : s.n ≤ 65536
   pub few : s.kept ≤ 256
-  pub taken_few : s.taken.bytes + 65536 * left ≤ 2 ^ 63
-  pub handed_few : s.handed.bytes + 65536 * left ≤ 2 ^ 63
+  pub taken_few : s.taken.bytes ≤ 65536 * turns
+  pub handed_few : s.handed.bytes ≤ 65536 * turns
   pub given : List ℕ
   pub gone : List ℕ
   pub sofar : Sofar image given gone chunk line s
 
-pub head_none : (image chunk line out : List ℕ) (s : Stand) (left : ℕ) → length chunk ≡ 65536 → Rooms line out → s.kept ≡ 0 → s.at ≡ 0 → s.n ≡ 0 → s.taken.bytes ≡ 0 → s.handed.bytes ≡ 0 → left ≤ 2 ^ 47
-    → Head image chunk line out s left
-head_none image chunk line out s left c r k a n t h l = record {
-  chunk_long = c;
-  rooms = r;
+pub head_none : (image chunk line : List ℕ) (s : Stand) → s.kept ≡ 0 → s.at ≡ 0 → s.n ≡ 0 → s.taken.bytes ≡ 0 → s.handed.bytes ≡ 0 → Head image chunk line s 0
+head_none image chunk line s k a n t h = record {
   in_order = omega arith;
   inside = omega arith;
   few = omega arith;
@@ -118,18 +115,12 @@ head_none image chunk line out s left c r k a n t h l = record {
   sofar = sofar_none image chunk line s k (a ∙ sym n) t h;
 }
 
-module _ (image chunk line out : List ℕ) (s : Stand) (left : ℕ) (head : Head image chunk line out s left) where
-  pub head_within : 0 < left → Within s
+module _ {image chunk line : List ℕ} {s : Stand} {turns : ℕ} (head : Head image chunk line s turns) where
+  pub head_within : turns < 140737488355328 → Within s
   head_within l = record { in_order = head.in_order; inside = head.inside; few = head.few; taken_small = omega (arith, head.taken_few); handed_small = omega (arith, head.handed_few) }
 
-  pub head_more : (chunk' line' out' : List ℕ) (s' : Stand) → 0 < left → WentOn image chunk chunk' line line' out' s s'
-      → SameLengths chunk line out chunk' line' out' → Head image chunk' line' out' s' (left - 1)
-  head_more chunk' line' out' s' l on same = record {
-    chunk_long = same.chunk_same ∙ head.chunk_long;
-    rooms = record {
-      line_long = same.line_same ∙ head.rooms.line_long;
-      out_long = same.out_same ∙ head.rooms.out_long;
-    };
+  pub head_more : {chunk' line' out' : List ℕ} {s' : Stand} → WentOn image chunk chunk' line line' out' s s' → Head image chunk' line' s' (turns + 1)
+  head_more on = record {
     in_order = on.in_order;
     inside = on.inside;
     few = on.few;
@@ -140,5 +131,5 @@ module _ (image chunk line out : List ℕ) (s : Stand) (left : ℕ) (head : Head
     sofar = on.sofar head.given head.gone head.sofar;
   }
 
-  pub head_over : (chunk' line' out' : List ℕ) (count : Count) → Over image chunk chunk' line line' out' s count → Ended image (ending.Whole s.taken count)
-  head_over chunk' line' out' count end = (head.given, (head.sofar.taken_count, (end.prints head.given head.gone head.sofar).1))
+  pub head_over : {chunk' line' out' : List ℕ} {count : Count} → Over image chunk chunk' line line' out' s count → Ended image (Some (record { taken = s.taken; handed = count }))
+  head_over end = (head.given, (head.sofar.taken_count, (end.prints head.given head.gone head.sofar).1))

@@ -1,21 +1,15 @@
 -- What the reads gave and what was handed to the writes, as the program goes: what holds where it stands, and what a step adds.
-use Rattle.std.specs.Prelude.{ℕ, ◌+◌, ◌-◌, ◌<◌, ◌≤◌, ◌^◌, ◌≡◌, List, [], ◌++◌, length, take, drop}
+use Rattle.std.specs.Prelude.{ℕ, ◌+◌, ◌-◌, ◌<◌, ◌≤◌, ◌^◌, ◌≡◌, List, [], ◌++◌, length, take, drop, Option, Some, None}
 use Rattle.model.specs.Lines.{printed}
 use Rattle.parse.specs.Fields.{Begun}
 use Rattle.moving.specs.declared.Count.{Count}
 use Rattle.steps.specs.declared.Stand.{Stand}
 use Rattle.steps.specs.declared.Step.{Step}
 use Rattle.steps.specs.declared.Step.TheVariants as step
-use Rattle.steps.specs.declared.Ending.{Ending}
-use Rattle.steps.specs.declared.Ending.TheVariants as ending
+use Rattle.steps.specs.declared.Whole.{Whole}
 use Rattle.answers.specs.Input.{begun_after, text_after}
 
--- the room that a run has
-pub record Rooms (line out : List ℕ) : Type 0 where
-  pub line_long : length line ≡ 256
-  pub out_long : length out ≡ 65536
-
--- places inside that room, and counts that may grow by it
+-- places inside the chunk and the buffer of the line begun, and counts that may grow by a chunk or a buffer of text
 pub record Within (s : Stand) : Type 0 where
   pub in_order : s.at ≤ s.n
   pub inside : s.n ≤ 65536
@@ -52,12 +46,21 @@ module _ (image chunk chunk' line line' out' : List ℕ) (s : Stand) where
     pub prints : (given handed : List ℕ) → Sofar image given handed chunk line s
         → (handed ++ take (count.bytes - s.handed.bytes) out' ≡ printed image given) × (count.bytes ≡ length (printed image given))
 
-  abbrev pub Stepped : Step → Type 0
-  Stepped (step.On s') = WentOn s'
-  Stepped (step.Over count) = Over count
-  Stepped step.Stopped = Unit
+  abbrev pub Answered : Option Stand → Type 0
+  Answered (Some s') = WentOn s'
+  Answered None = Unit
+
+  abbrev pub Finished : Option Count → Type 0
+  Finished (Some count) = Over count
+  Finished None = Unit
+
+  -- of a step in which a call failed nothing is said
+  abbrev pub Stepped : Option Step → Type 0
+  Stepped (Some (step.On s')) = WentOn s'
+  Stepped (Some (step.Over count)) = Over count
+  Stepped None = Unit
 
 -- of a whole input: as many bytes came in as it has, and as many went out as the model prints for it
-abbrev pub Ended : List ℕ → Ending → Type 0
-Ended image (ending.Whole taken handed) = (input : List ℕ) × ((taken.bytes ≡ length input) × (handed.bytes ≡ length (printed image input)))
-Ended image ending.Cut = Unit
+abbrev pub Ended : List ℕ → Option Whole → Type 0
+Ended image (Some whole) = (input : List ℕ) × ((whole.taken.bytes ≡ length input) × (whole.handed.bytes ≡ length (printed image input)))
+Ended image None = Unit

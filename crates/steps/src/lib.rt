@@ -2,15 +2,14 @@
 
 #![tactic(auto)]
 
-ghost use Rattle.std.specs.Prelude.{◌≡◌, List, ℕ, length};
-ghost use Rattle.image.specs.Header.{header_of};
-ghost use Rattle.grammar.specs.Answers.{verdict_of};
-ghost use Rattle.prepare.specs.Had.{Had};
-ghost use Rattle.steps.specs.Sofar.{Rooms, Within, Stepped, Ended};
+ghost use Rattle.std.specs.Prelude.{◌≡◌, List, ℕ};
+ghost use Rattle.answers.specs.Run.{IsHad};
+ghost use Rattle.steps.specs.Sofar.{Within, Answered, Finished, Stepped, Ended};
 
+use answers::input;
 use answers::input::Reached;
-use moving::{Count, Given, Taken};
-use prepare::Prepared;
+use answers::run::{Room, Run};
+use moving::{Count, Taken};
 use std::io::Read;
 
 // Where the program stands: how many bytes are kept of the line begun; the bytes of the chunk, from `at` to `n`, that are not answered yet; how many
@@ -24,159 +23,122 @@ pub struct Stand {
     pub handed: Count,
 }
 
-// After a step: go on, all is answered, or a call failed.
+// After a step in which no call failed: go on, or all is answered.
 #[derive(Clone, Copy)]
 pub enum Step {
     On(Stand),
     Over(Count),
-    Stopped,
 }
 
-// Answers bytes of the chunk that wait, as many as `out` has room for and up to a line that is long to search, and hands the answers over.
+// Answers bytes of the chunk that wait, as many as there is room for and up to a line that is long to search, and hands the answers over.
 fn answer_part<R: Print + Eprint>(
     rt: &R,
-    image: &[u8],
-    index: &[u8],
-    run: Prepared,
-    chunk: &[u8],
-    line: &mut [u8],
-    out: &mut [u8],
+    run: &Run,
+    chunk: &[u8; 65536],
+    room: &mut Room,
+    out: &mut [u8; 65536],
     s: Stand,
-) -> Step
-    requires had { Had image.now index.now (header_of run.h) (verdict_of run.verdict) }
-    requires chunk_len { (length chunk.now ≡ 65536) × Rooms line.old out.old }
+) -> Option<Stand>
+    requires had { IsHad run.now }
     requires within { Within s }
-    ensures { Stepped image.now chunk.now chunk.now line.old line.new out.new s result }
+    ensures { Answered run.now.image.now chunk.now chunk.now room.old.line room.new.line out.new s result }
 {
-    let at = s.at;
-    let n = s.n;
     let from = Reached {
         kept: s.kept,
         end: 0,
     };
-    let read = answers::input::read_chunk(image, index, run, &chunk[..n], at, line, out, from);
-    let reached = read.reached;
-    let end = reached.end;
-    let taken = s.taken;
-    let handed = s.handed;
-    let given = moving::give(rt, &out[..end], handed);
-    match given {
-        Given::Failed => Step::Stopped,
-        Given::All(count) => Step::On(Stand {
-            kept: reached.kept,
-            at: read.at,
-            n: n,
-            taken: taken,
-            handed: count,
-        }),
-    }
+    let read = input::read_chunk(run, &chunk[..s.n], s.at, room, out, from);
+    let Reached { kept, end } = read.reached;
+    let handed = moving::give(rt, &out[..end], s.handed)?;
+    Some(Stand {
+        kept,
+        at: read.at,
+        handed,
+        ..s
+    })
 }
 
 // Answers a last line without its end, where there is one.
 fn answer_last<R: Print + Eprint>(
     rt: &R,
-    image: &[u8],
-    index: &[u8],
-    run: Prepared,
-    line: &[u8],
-    out: &mut [u8],
+    run: &Run,
+    room: &mut Room,
+    out: &mut [u8; 65536],
     s: Stand,
-) -> Step
-    requires had { Had image.now index.now (header_of run.h) (verdict_of run.verdict) }
-    requires rooms { Rooms line.now out.old }
+) -> Option<Count>
+    requires had { IsHad run.now }
     requires within { Within s × (s.at ≡ s.n) }
-    ensures { (chunk chunk' : List ℕ) → Stepped image.now chunk chunk' line.now line.now out.new s result }
+    ensures { (chunk chunk' : List ℕ) → Finished run.now.image.now chunk chunk' room.old.line room.new.line out.new s result }
 {
-    let end = answers::input::read_end(image, index, run, line, out, s.kept);
-    let handed = s.handed;
-    let gone = moving::give(rt, &out[..end], handed);
-    match gone {
-        Given::Failed => Step::Stopped,
-        Given::All(count) => Step::Over(count),
-    }
+    let end = input::read_end(run, room, out, s.kept);
+    moving::give(rt, &out[..end], s.handed)
 }
 
 // Where nothing waits: a chunk more, or at the end of the input the last line.
 fn take_chunk<R: Print + Eprint, I: Read>(
     rt: &R,
     input: &mut I,
-    image: &[u8],
-    index: &[u8],
-    run: Prepared,
-    chunk: &mut [u8],
-    line: &[u8],
-    out: &mut [u8],
+    run: &Run,
+    chunk: &mut [u8; 65536],
+    room: &mut Room,
+    out: &mut [u8; 65536],
     s: Stand,
-) -> Step
-    requires had { Had image.now index.now (header_of run.h) (verdict_of run.verdict) }
-    requires chunk_len { (length chunk.old ≡ 65536) × Rooms line.now out.old }
+) -> Option<Step>
+    requires had { IsHad run.now }
     requires within { Within s × (s.at ≡ s.n) }
-    ensures { Stepped image.now chunk.old chunk.new line.now line.now out.new s result }
+    ensures { Stepped run.now.image.now chunk.old chunk.new room.old.line room.new.line out.new s result }
 {
-    let before = s.taken;
-    let came = moving::take_in(rt, input, chunk, before);
+    let came = moving::take_in(rt, input, chunk, s.taken)?;
     match came {
-        Taken::Failed => Step::Stopped,
-        Taken::Nothing => Step::On(s),
-        Taken::End => answer_last(rt, image, index, run, line, out, s),
-        Taken::Bytes(n, count) => {
-            let handed = s.handed;
-            Step::On(Stand {
-                kept: s.kept,
-                at: 0,
-                n: n,
-                taken: count,
-                handed: handed,
-            })
-        }
+        Taken::Nothing => Some(Step::On(s)),
+        Taken::End => Some(Step::Over(answer_last(rt, run, room, out, s)?)),
+        Taken::Bytes(n, taken) => Some(Step::On(Stand {
+            at: 0,
+            n,
+            taken,
+            ..s
+        })),
     }
 }
 
 fn turn<R: Print + Eprint, I: Read>(
     rt: &R,
     input: &mut I,
-    image: &[u8],
-    index: &[u8],
-    run: Prepared,
-    chunk: &mut [u8],
-    line: &mut [u8],
-    out: &mut [u8],
+    run: &Run,
+    chunk: &mut [u8; 65536],
+    room: &mut Room,
+    out: &mut [u8; 65536],
     s: Stand,
-) -> Step
-    requires had { Had image.now index.now (header_of run.h) (verdict_of run.verdict) }
-    requires chunk_len { (length chunk.old ≡ 65536) × Rooms line.old out.old }
+) -> Option<Step>
+    requires had { IsHad run.now }
     requires within { Within s }
-    ensures { Stepped image.now chunk.old chunk.new line.old line.new out.new s result }
+    ensures { Stepped run.now.image.now chunk.old chunk.new room.old.line room.new.line out.new s result }
 {
-    let at = s.at;
-    let n = s.n;
-    if at < n {
-        return answer_part(rt, image, index, run, chunk, line, out, s);
+    if s.at < s.n {
+        return Some(Step::On(answer_part(rt, run, chunk, room, out, s)?));
     }
-    take_chunk(rt, input, image, index, run, chunk, line, out, s)
+    take_chunk(rt, input, run, chunk, room, out, s)
 }
 
-// How it ended: the whole input is answered, with the counts of what came in and went out, or a call failed.
+// The whole input is answered: how many bytes came in, and how many went out.
 #[derive(Clone, Copy)]
-pub enum Ending {
-    Whole(Count, Count),
-    Cut,
+pub struct Whole {
+    pub taken: Count,
+    pub handed: Count,
 }
 
-// Step after step. Their number is bounded so that the program ends on every input, and so that no count of bytes passes 64 bits.
+// Step after step, or none where a call failed. Their number is bounded, by 2^47, so that the program ends on every input, and so that no count of bytes
+// passes 64 bits.
 pub fn answer_input<R: Print + Eprint, I: Read>(
     rt: &R,
     input: &mut I,
-    image: &[u8],
-    index: &[u8],
-    run: Prepared,
-    chunk: &mut [u8],
-    line: &mut [u8],
-    out: &mut [u8],
-) -> Ending
-    requires had { Had image.now index.now (header_of run.h) (verdict_of run.verdict) }
-    requires chunk_len { (length chunk.old ≡ 65536) × Rooms line.old out.old }
-    ensures { Ended image.now result }
+    run: &Run,
+    chunk: &mut [u8; 65536],
+    room: &mut Room,
+    out: &mut [u8; 65536],
+) -> Option<Whole>
+    requires { IsHad run.now }
+    ensures { Ended run.now.image.now result }
 {
     let mut s = Stand {
         kept: 0,
@@ -185,22 +147,19 @@ pub fn answer_input<R: Print + Eprint, I: Read>(
         taken: moving::none(),
         handed: moving::none(),
     };
-    let mut left: u64 = 140737488355328;
-    while left > 0 {
-        let step = turn(rt, input, image, index, run, chunk, line, out, s);
+    for _turns in 0..140737488355328u64 {
+        let step = turn(rt, input, run, chunk, room, out, s)?;
         match step {
             Step::On(next) => {
                 s = next;
             }
             Step::Over(handed) => {
-                let taken = s.taken;
-                return Ending::Whole(taken, handed);
-            }
-            Step::Stopped => {
-                return Ending::Cut;
+                return Some(Whole {
+                    taken: s.taken,
+                    handed,
+                });
             }
         }
-        left -= 1;
     }
-    Ending::Cut
+    None
 }

@@ -6,9 +6,9 @@ use Rattle.parse.proofs.add_byte.Goals as goal
 pub returns-then-n-lt256 : goal.returns-then-n-lt256
 returns-then-n-lt256 c =
     let a = c.args in
-    record { grows = λ l begun. begun_more a.line.now a.n a.b l begun c.if-n-lt256.true (omega (arith, c.if-n-lt256.true, c.requires.0)); few = omega (arith, c.if-n-lt256.true); bytes = line_room a.line.now a.n a.b c.if-n-lt256.true }
+    record { grows = λ l begun. begun_more a.line.now a.n a.b l begun c.if-n-lt256.true (omega arith); few = omega arith; bytes = line_room a.line.now a.n a.b c.if-n-lt256.true }
 
 pub returns : goal.returns
 returns c =
     let a = c.args in
-    record { grows = λ l begun. begun_full a.line.now a.n a.b l begun c.if-n-lt256.false; few = c.requires.1; bytes = line_full a.line.now a.n a.b c.if-n-lt256.false }
+    record { grows = λ l begun. begun_full a.line.now a.n a.b l begun c.if-n-lt256.false; few = c.requires; bytes = line_full a.line.now a.n a.b c.if-n-lt256.false }

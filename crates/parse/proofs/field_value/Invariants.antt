@@ -1,9 +1,6 @@
-use Prim.Native.Nat.{◌-◌, ◌≤◌}
 use Rattle.parse.proofs.Fields.{Digits}
 use Rattle.parse.proofs.field_value.Given as goal
 
-abbrev pub invariant-loop-at : goal.invariant-loop-at
-invariant-loop-at l = (l.at ≤ l.to) × Digits l.line l.from l.at l.value
-
-abbrev pub decreases-loop-at : goal.decreases-loop-at
-decreases-loop-at l = l.to - l.at
+-- the bytes passed are digits
+abbrev pub invariant-loop-b : goal.invariant-loop-b
+invariant-loop-b l = Digits l.field l.b-index l.value

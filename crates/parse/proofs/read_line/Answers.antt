@@ -1,69 +1,73 @@
 -- `read_line` meets its contract: field after field, each a number whose value is a letter more.
 use borrow.Author.Rules.{rules}
+use borrow.Author.Tests.{tests}
 use native.Mathlib.Omega.{arith}
-use mathlib.Core.Path.{refl, sym, ap, ◌∙◌}
+use mathlib.Core.Logic.{◌≢◌}
+use mathlib.Core.Path.{◌≡◌, refl, sym, ap, ◌∙◌}
 use Prim.Native.Nat.{◌<◌}
-use lib.ListN.{length, length-set}
-use Rattle.model.specs.Lines as lines
-use Rattle.parse.proofs.Fields.{read_none, letter_room, read_bad, word_bad, read_last, word_last, read_more, line_none, line_some, word_none}
+use lib.ListN.{length, get_or}
+use Rattle.std.proofs.lemmas.List.{length_push}
+use Rattle.std.proofs.lemmas.Iterator.Consumers.{YieldsList-turn, YieldsList-end}
+use Rattle.std.proofs.lemmas.Iterator.Splits.{YieldsList-from_slice_split}
+use Rattle.model.specs.Lines.{fields_of}
+use Rattle.parse.proofs.Fields.{fields_parts, line_none, word_none, read_none, next_field, line_read, word_read, few_letters, line_unread, word_unread, letter_room, read_more}
 use Rattle.parse.proofs.read_line.Goals as goal
+use Rattle.parse.proofs.read_line.Goals.{In-Some, In-None}
 
-pub returns-then-n-eq0 : goal.returns-then-n-eq0
-returns-then-n-eq0 c = let a = c.args in record { word = line_none a.line.now a.word.now c.if-n-eq0.true; few = omega arith; bytes = word_none a.line.now a.word.now c.if-n-eq0.true }
+pub returns-then-is_empty-clause-word : goal.returns-then-is_empty-clause-word
+returns-then-is_empty-clause-word c = let none : length c.args.line.now ≡ 0 = search (rules, tests) in line_none c.args.line.now c.args.word.now none
 
-pub loop-from-init : goal.loop-from-init
-loop-from-init c = (search rules, read_none c.args.line.now c.args.word.now c.requires.1)
+pub returns-then-is_empty-clause-bytes : goal.returns-then-is_empty-clause-bytes
+returns-then-is_empty-clause-bytes c = let none : length c.args.line.now ≡ 0 = search (rules, tests) in word_none c.args.line.now c.args.word.now none
 
-pub field_end-to-requires : goal.field_end-to-requires
-field_end-to-requires c = c.loop-from.invariant.0
+pub loop-field-init : goal.loop-field-init
+loop-field-init c = (refl, read_none c.args.line.now c.args.word.now c.told-word)
 
-pub field_value-value-requires : goal.field_value-value-requires
-field_value-value-requires c = (c.field_end-to.ensures.in_order, c.field_end-to.ensures.inside)
+-- the part of a turn is the next field
+next : (c : In-Some) → (c.loop-field.letters < length (fields_of c.args.line.now)) × (c.in-Some.field.now ≡ get_or (fields_of c.args.line.now) c.loop-field.letters c.in-Some.field.now)
+next c =
+    next_field c.args.line.now c.in-Some.field.now c.loop-field.letters (length c.loop-field.yielded) c.loop-field.invariant.0
+    (YieldsList-turn (YieldsList-from_slice_split _ _ c.args.line.now (cc) (cc) (cc) (λ x b q k. search (rules, tests)))
+    c.loop-field.yielded _ c.loop-field.yielded_by _ _ c.in-Some.field c.in-Some.is c.next.ensures.steps)
 
-pub shape_of-word-then-value-gt255 : goal.shape_of-word-then-value-gt255
-shape_of-word-then-value-gt255 c = c.loop-from.invariant.1.long ∙ sym c.requires.1
+some : (c : In-Some) → 0 < length c.args.line.now
+some c = let h : length c.args.line.now ≢ 0 = search (rules, tests) in omega arith
 
-pub returns-then-value-gt255 : goal.returns-then-value-gt255
-returns-then-value-gt255 c =
-    let line = c.args.line.now in
-    let word = c.args.word.now in
-    let ends = c.field_end-to in
-    let told = c.field_value-value in
-    let bad = read_bad line word c.loop-from.word c.loop-from.from c.loop-from.letters ends.result told.result c.requires.0 c.loop-from.invariant.1 ends.ensures told.ensures c.if-value-gt255.true in record { word = sym (line_some line (omega (arith, c.if-n-eq0.false)) c.requires.0 ∙ rw bad refl); few = omega arith; bytes = word_bad line word c.loop-from.word c.loop-from.from c.loop-from.letters ends.result told.result c.requires.0 c.loop-from.invariant.1 ends.ensures told.ensures c.if-value-gt255.true }
+pub returns-in_err-word-clause-word : goal.returns-in_err-word-clause-word
+returns-in_err-word-clause-word c =
+    let at = (goal.at.returns-in_err-word-clause-word c).In-Some in
+    rw c.from_residual.ensures (line_unread _ _ _ _ c.requires c.loop-field.invariant.1 _ (next at) (sym c.in_err-word.ensures) (some at))
 
-pub overflow_cast-word : goal.overflow_cast-word
-overflow_cast-word c = omega arith
+pub returns-in_err-word-clause-bytes : goal.returns-in_err-word-clause-bytes
+returns-in_err-word-clause-bytes c =
+    word_unread _ _ _ _ c.requires c.loop-field.invariant.1 _ (next (goal.at.returns-in_err-word-clause-bytes c).In-Some) (sym c.in_err-word.ensures)
 
 pub bounds-word-letters : goal.bounds-word-letters
 bounds-word-letters c =
-    let a = c.args in
-    letter_room a.line.now a.word.now c.loop-from.word c.loop-from.from c.loop-from.letters c.field_end-to.result c.field_value-value.result c.requires.0 c.loop-from.invariant.1 c.field_end-to.ensures c.field_value-value.ensures
+    let room = letter_room _ _ _ _ c.requires c.loop-field.invariant.1 _ (next (goal.at.bounds-word-letters c).In-Some) _ (sym c.in_ok-word.ensures) in
+    omega (arith, room, c.loop-field.invariant.1.long)
 
-pub overflow_add-letters : goal.overflow_add-letters
-overflow_add-letters c = omega (arith, c.loop-from.invariant.1.few, c.loop-from.invariant.0, c.requires.0)
+pub loop-field-preserved : goal.loop-field-preserved
+loop-field-preserved c = (
+  omega (arith, length_push c.loop-field.yielded c.in-Some.field),
+  read_more _ _ _ _ c.requires c.loop-field.invariant.1 _ (next (goal.at.loop-field-preserved c).In-Some) _ (sym c.in_ok-word.ensures),
+)
 
-pub shape_of-word-then-to-n : goal.shape_of-word-then-to-n
-shape_of-word-then-to-n c = length-set c.loop-from.word c.loop-from.letters _ ∙ c.loop-from.invariant.1.long ∙ sym c.requires.1
+-- after the last part all fields are read
+all : (c : In-None) → c.loop-field.letters ≡ length (fields_of c.args.line.now)
+all c =
+    c.loop-field.invariant.0
+    ∙ (YieldsList-end (YieldsList-from_slice_split _ _ c.args.line.now (cc) (cc) (cc) (λ x b q k. search (rules, tests)))
+    c.loop-field.yielded _ c.loop-field.yielded_by _ _ c.in-None.is c.next.ensures.steps).1
+    ∙ ap length (fields_parts c.args.line.now)
 
-pub returns-then-to-n : goal.returns-then-to-n
-returns-then-to-n c =
-    let line = c.args.line.now in
-    let word = c.args.word.now in
-    let ends = c.field_end-to in
-    let told = c.field_value-value in
-    let both = read_last line word c.loop-from.word c.loop-from.from c.loop-from.letters ends.result told.result c.requires.0 c.loop-from.invariant.1 ends.ensures told.ensures c.if-to-n.true (omega arith) in record { word = sym (line_some line (omega (arith, c.if-n-eq0.false)) c.requires.0 ∙ rw both.0 (ap lines.Line.letters both.1)); few = omega (arith, c.loop-from.invariant.1.few, c.loop-from.invariant.0, c.requires.0); bytes = word_last line word c.loop-from.word c.loop-from.from c.loop-from.letters ends.result told.result c.requires.0 c.loop-from.invariant.1 ends.ensures told.ensures c.if-to-n.true (omega arith) }
+pub returns-clause-word : goal.returns-clause-word
+returns-clause-word c =
+    let h : length c.args.line.now ≢ 0 = search (rules, tests) in
+    line_read _ _ _ _ c.requires c.loop-field.invariant.1 (all c) (omega arith)
 
-pub loop-from-smaller : goal.loop-from-smaller
-loop-from-smaller c = omega (arith, c.loop-from-test.true, c.field_end-to.ensures.in_order)
+pub returns-clause-few : goal.returns-clause-few
+returns-clause-few c = few_letters _ _ _ _ c.requires c.loop-field.invariant.1 (all c)
 
-pub loop-from-preserved : goal.loop-from-preserved
-loop-from-preserved c =
-    let a = c.args in
-    let to : c.field_end-to.result < length a.line.now = omega (arith, c.if-to-n.false, c.field_end-to.ensures.inside) in
-    (omega (arith, to), read_more a.line.now a.word.now c.loop-from.word c.loop-from.from c.loop-from.letters c.field_end-to.result c.field_value-value.result c.requires.0 c.loop-from.invariant.1 c.field_end-to.ensures c.field_value-value.ensures to (omega arith))
-
-pub shape_of-word : goal.shape_of-word
-shape_of-word c = c.loop-from.invariant.1.long ∙ sym c.requires.1
-
-pub returns : goal.returns
-returns c = absurd (omega (arith, c.loop-from-test.false, c.loop-from.invariant.0))
+pub returns-clause-bytes : goal.returns-clause-bytes
+returns-clause-bytes c = word_read _ _ _ _ c.requires c.loop-field.invariant.1 (all c)

@@ -1,9 +1,7 @@
-use Prim.Native.Nat.{◌+◌, ◌-◌, ◌≤◌}
+use Rattle.std.proofs.Common.{◌≡◌, length}
 use Rattle.parse.proofs.Fields.{Read}
 use Rattle.parse.proofs.read_line.Given as goal
 
-abbrev pub invariant-loop-from : goal.invariant-loop-from
-invariant-loop-from l = (l.from ≤ l.n) × Read l.line l.initial.word l.word l.from l.letters
-
-abbrev pub decreases-loop-from : goal.decreases-loop-from
-decreases-loop-from l = l.n + 1 - l.from
+-- each field passed is a letter more
+abbrev pub invariant-loop-field : goal.invariant-loop-field
+invariant-loop-field l = (l.letters ≡ length l.yielded) × Read l.line l.initial.word l.word l.letters

@@ -1,22 +1,28 @@
 -- `answer_input` meets its contract: step after step, from nothing read and nothing handed over.
-use native.Mathlib.Omega.{arith}
-use mathlib.Core.Path.{refl}
-use Rattle.steps.proofs.Sofar.{head_none, head_more, head_over}
+use mathlib.Core.Path.{refl, subst}
+use Rattle.std.specs.Prelude.{Some}
+use Rattle.steps.specs.Sofar.{Stepped}
+use Rattle.steps.proofs.Sofar.{head_none, head_within, head_more, head_over}
 use Rattle.steps.proofs.answer_input.Goals as goal
 
-pub loop-left-init : goal.loop-left-init
-loop-left-init g c =
-    let a = c.args in
-    head_none a.image.now a.chunk.now a.line.now a.out.now _ _ c.requires.chunk_len.0 c.requires.chunk_len.1 refl refl refl c.none.ensures c.none-2.ensures (omega arith)
+pub loop-turns-init : goal.loop-turns-init
+loop-turns-init g c = head_none c.args.run.now.image.now c.args.chunk.now c.args.room.now.line _ refl refl refl c.none.ensures c.none-2.ensures
+
+pub turn-requires-clause-within : goal.turn-requires-clause-within
+turn-requires-clause-within g c = head_within c.loop-turns.invariant c.loop-turns-test.true
 
 -- all is answered
 pub returns-in-Over : goal.returns-in-Over
 returns-in-Over g c =
-    head_over c.args.image.now c.loop-left.chunk c.loop-left.line c.loop-left.out c.loop-left.s c.loop-left.left c.loop-left.invariant _ _ _ _ c.in-Over.ensures
+    let before = c.loop-turns in
+    let after = c.turn.new in
+    let stepped = subst (λ step. Stepped c.args.run.now.image.now before.chunk after.chunk before.room.line after.room.line after.out before.s (Some step)) c.in-Over.is c.in_ok-step.ensures in
+    head_over before.invariant stepped
 
 -- one step more
-pub loop-left-preserved : goal.loop-left-preserved
-loop-left-preserved g c =
-    let kept = c.turn-step.auto in
-    head_more c.args.image.now c.loop-left.chunk c.loop-left.line c.loop-left.out c.loop-left.s c.loop-left.left c.loop-left.invariant _ _ _ _ c.loop-left-test.true
-    c.in-On.ensures (record { chunk_same = kept.chunk; line_same = kept.line; out_same = kept.out })
+pub loop-turns-preserved : goal.loop-turns-preserved
+loop-turns-preserved g c =
+    let before = c.loop-turns in
+    let after = c.turn.new in
+    let stepped = subst (λ step. Stepped c.args.run.now.image.now before.chunk after.chunk before.room.line after.room.line after.out before.s (Some step)) c.in-On.is c.in_ok-step.ensures in
+    head_more before.invariant stepped

@@ -1,9 +1,6 @@
--- `answer_input` meets its contract: step after step, from nothing read and nothing handed over.
+-- After each step all that came in is answered but what waits.
 use Rattle.steps.proofs.Sofar.{Head}
 use Rattle.steps.proofs.answer_input.Given as goal
 
-abbrev pub invariant-loop-left : goal.invariant-loop-left
-invariant-loop-left g l = Head l.image l.chunk l.line l.out l.s l.left
-
-abbrev pub decreases-loop-left : goal.decreases-loop-left
-decreases-loop-left g l = l.left
+abbrev pub invariant-loop-turns : goal.invariant-loop-turns
+invariant-loop-turns g l = Head l.run.image.now l.chunk l.room.line l.s l._turns

@@ -9,28 +9,31 @@ use Rattle.steps.specs.Sofar.{waiting}
 use Rattle.steps.proofs.Sofar.{parts_join, went_on}
 use Rattle.steps.proofs.answer_part.Goals as goal
 
-pub returns-in-All : goal.returns-in-All
-returns-in-All g c =
+pub returns : goal.returns
+returns g c =
     let stand = c.args.s in
     let chunk = c.args.chunk.now in
     let read = c.read_chunk-read in
     let out = read.new.out in
     let end = read.result.reached.end in
-    let fits : end ≤ length out = omega (arith, read.ensures.text.1, read.auto.out) in
+    let fits : end ≤ length out = omega (arith, read.ensures.text.1) in
     let long = length-take-le end out fits in
-    let part = length-take-le stand.n chunk (omega (arith, c.requires.chunk_len.0, c.requires.within.inside)) in
+    let inside : stand.n ≤ length chunk = omega (arith, c.requires.within.inside) in
+    let part = length-take-le stand.n chunk inside in
     let stop : read.result.at ≤ stand.n = omega (arith, read.ensures.onward.1.0, part) in
-    went_on c.args.image.now chunk chunk c.args.line.now read.new.line stand _ (take (read.result.at - stand.at) (drop stand.at (take stand.n chunk))) [] (take end out)
-    (append-nil (waiting chunk stand) ∙ sym (parts_join chunk stand.at read.result.at stand.n read.ensures.onward.0 stop (omega (arith, c.requires.chunk_len.0, c.requires.within.inside))))
+    let answered = take (read.result.at - stand.at) (drop stand.at (take stand.n chunk)) in
+    let order = append-nil (waiting chunk stand) ∙ sym (parts_join chunk stand.at read.result.at stand.n read.ensures.onward.0 stop inside) in
+    went_on c.args.run.now.image.now chunk chunk c.args.room.now.line read.new.room.line stand _ answered [] (take end out)
+    order
     (λ l h. (read.ensures.line.0 l h).begun)
     (λ l h. (read.ensures.text.0 l h).written)
     (omega arith)
-    c.in-All.ensures
+    c.in_ok-handed.ensures
     out
     refl
     (sym (ap (λ n. take n out) long))
     (omega arith)
-    (omega (arith, long, read.ensures.text.1, c.requires.chunk_len.1.out_long))
+    (omega (arith, long, read.ensures.text.1))
     stop
     c.requires.within.inside
     read.ensures.line.1
