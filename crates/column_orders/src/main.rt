@@ -29,28 +29,19 @@ fn turned(image: [u8; 3072], c: usize) -> [u8; 3072]
     exchanged(row2, 1561 + c, 1)
 }
 
-fn print_side<R: Print>(rt: &R, side: u8) -> io::Result<()> {
-    print!(rt; " {side}")
-}
-
 // The columns as they stand, lexical side and surface side.
 fn print_columns<R: Print>(rt: &R, image: [u8; 3072]) -> io::Result<()> {
     print!(rt; "columns")?;
-    print_side(rt, image[1542])?;
-    print_side(rt, image[1543])?;
-    print_side(rt, image[1544])?;
-    print_side(rt, image[1545])?;
-    print_side(rt, image[1546])?;
-    print_side(rt, image[1547])?;
-    print_side(rt, image[1548])?;
-    print_side(rt, image[1549])?;
+    for side in &image[1542..1550] {
+        print!(rt; " {side}")?;
+    }
     println!(rt;)
 }
 
 // The judgements on t:c i:i, t:t i:i, t:c alone and t:t alone, once the image is sealed.
 fn print_answers<R: Print>(rt: &R, image: [u8; 3072]) -> io::Result<()> {
     let mut sealed = image;
-    image::seal::seal(&mut sealed);
+    let _ = image::seal::seal(&mut sealed);
     let ti = [0u8, 0u8];
     let t = [1u8, 0u8];
     let tc_i = [0u8, 2u8];

@@ -5,15 +5,15 @@
 
 ghost use Rattle.std.specs.Prelude.{◌<◌};
 
-use converter::Conversion;
+use refusal::Refusal;
 use std::fs::File;
 use std::io;
 use std::io::Read;
 
-fn print_conversion<R: Print>(rt: &R, c: Conversion) -> io::Result<()> {
+fn print_conversion<R: Print>(rt: &R, c: Result<(), Refusal>) -> io::Result<()> {
     match c {
-        Conversion::Converted => println!(rt; "converted"),
-        Conversion::Refused(k) => println!(rt; "refused {k}"),
+        Ok(()) => println!(rt; "converted"),
+        Err(refusal) => println!(rt; "{refusal}"),
     }
 }
 
@@ -38,18 +38,16 @@ fn main(rt: HostRuntime) -> io::Result<()> {
     File::open(&rt, "luz.img")?.read_exact(&mut image)?;
     let mut target = [255u8; 3072];
     print_conversion(&rt, converter::convert(&image, &mut target))?;
-    print_number(&rt, target, 510)?;
-    print_number(&rt, target, 1022)?;
-    print_number(&rt, target, 1534)?;
-    print_number(&rt, target, 2046)?;
-    print_number(&rt, target, 2558)?;
-    print_number(&rt, target, 3070)?;
+    // each block's check
+    for block in 0..6 {
+        print_number(&rt, target, 512 * block + 510)?;
+    }
     let mut back = [255u8; 3072];
     print_conversion(&rt, converter::convert(&target, &mut back))?;
     print_same(&rt, image, back)?;
     let mut short = [255u8; 2560];
     print_conversion(&rt, converter::convert(&image, &mut short))?;
     target[2577] = 1;
-    image::seal::seal(&mut target);
+    let _ = image::seal::seal(&mut target);
     print_conversion(&rt, converter::convert(&target, &mut back))
 }

@@ -28,7 +28,7 @@ fn print_short<R: Print>(rt: &R, image: &[u8]) -> io::Result<()> {
 // The verdict on the image once it is sealed again.
 fn print_sealed<R: Print>(rt: &R, image: [u8; 3072]) -> io::Result<()> {
     let mut other = image;
-    image::seal::seal(&mut other);
+    let _ = image::seal::seal(&mut other);
     show::print_verdict(rt, grammar::check(&other))
 }
 

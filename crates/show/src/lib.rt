@@ -2,25 +2,20 @@
 
 #![tactic(auto)]
 
-use grammar::Verdict;
-use judge::Judgement;
+use refusal::Refusal;
 use std::io;
 
-fn print_refused<R: Print>(rt: &R, k: u8) -> io::Result<()> {
-    println!(rt; "refused {k}")
-}
-
-pub fn print_verdict<R: Print>(rt: &R, v: Verdict) -> io::Result<()> {
+pub fn print_verdict<R: Print>(rt: &R, v: Result<(), Refusal>) -> io::Result<()> {
     match v {
-        Verdict::Accepted => println!(rt; "accepted"),
-        Verdict::Refused(k) => print_refused(rt, k),
+        Ok(()) => println!(rt; "accepted"),
+        Err(refusal) => println!(rt; "{refusal}"),
     }
 }
 
-pub fn print_judgement<R: Print>(rt: &R, j: Judgement) -> io::Result<()> {
+pub fn print_judgement<R: Print>(rt: &R, j: Result<bool, Refusal>) -> io::Result<()> {
     match j {
-        Judgement::Holds => println!(rt; "holds"),
-        Judgement::Fails => println!(rt; "fails"),
-        Judgement::Refused(k) => print_refused(rt, k),
+        Ok(true) => println!(rt; "holds"),
+        Ok(false) => println!(rt; "fails"),
+        Err(refusal) => println!(rt; "{refusal}"),
     }
 }
