@@ -141,7 +141,9 @@ module _ (image : List ℕ) where
       ∙ ap (λ (s : ℕ). (grammar_of image).next r s p) (counted states r h)
 
   -- a rule that comes to 0
-  pub step_fails : (states : List ℕ) (p r s : ℕ) → r < (header image).rules → s ≡ (grammar_of image).next r (get_or states r 0) p → s ≡ 0 → alive_of (grammar_of image) (step_of (grammar_of image) states p) ≡ false
+  pub step_fails : (states : List ℕ) (p r s : ℕ) → r < (header image).rules
+      → s ≡ (grammar_of image).next r (get_or states r 0) p → s ≡ 0
+      → alive_of (grammar_of image) (step_of (grammar_of image) states p) ≡ false
   unfolding alive
   step_fails states p r s h e z =
       every_fails (λ r. not (is_zero (get_or (step_of (grammar_of image) states p) r 0))) (grammar_of image).rules r
@@ -169,11 +171,17 @@ ones n h =
 
 module _ {image : List ℕ} (ok : Accepted image (header image)) where
   -- no rule comes to 0
-  pub step_lives : (states : List ℕ) (p : ℕ) (after : List ℕ) → length states ≡ 32 → p ≤ (header image).pairs → Live image states → RulesTook image states p (header image).rules after → Held image (step_of (grammar_of image) states p) after
+  pub step_lives : (states : List ℕ) (p : ℕ) (after : List ℕ) → length states ≡ 32 → p ≤ (header image).pairs
+      → Live image states → RulesTook image states p (header image).rules after
+      → Held image (step_of (grammar_of image) states p) after
   unfolding alive step_all
   step_lives states p after size pair live q =
+      let rules = below (grammar_of image).rules in
+      let lives : ℕ → Bool = λ r. not (is_zero (get_or (step_of (grammar_of image) states p) r 0)) in
+      let each : (r : ℕ) → r < (header image).rules → T (lives r) = λ r h.
+      rw (stepped_at image states p r h, ← q.new r h, ne_eqb (get_or after r 0) 0 (λ z. omega (arith, q.lives r h))) tt in
       record {
-        alive_is = true_of (every (λ r. not (is_zero (get_or (step_of (grammar_of image) states p) r 0))) (below (grammar_of image).rules)) (every_in (λ r. not (is_zero (get_or (step_of (grammar_of image) states p) r 0))) (below (grammar_of image).rules) (λ r m. let h : r < (header image).rules = omega (arith, grammar_rules image, below_from (grammar_of image).rules r m) in rw (stepped_at image states p r h, ← q.new r h, ne_eqb (get_or after r 0) 0 (λ z. omega (arith, q.lives r h))) tt));
+        alive_is = true_of (every lives rules) (every_in lives rules (λ r m. each r (omega (arith, grammar_rules image, below_from (grammar_of image).rules r m))));
         states_are =
             ext_get_or 0 (take (grammar_of image).rules after) (step_of (grammar_of image) states p) sizes
             (λ r l. let h : r < (header image).rules = omega (arith, grammar_rules image, length-take (grammar_of image).rules after) in counted image after r h ∙ q.new r h ∙ sym (stepped_at image states p r h));

@@ -40,7 +40,15 @@ module _ (image : List ℕ) (q : Query) {lives : Bool} (front : alive_of (gramma
 pub dead_found : (image : List ℕ) (q : Query) → alive_of (grammar_of image) (begun_of (grammar_of image)) ≡ false → readings (grammar_of image) q ≡ []
 dead_found image q front = front_readings image q front
 
-module _ {image index : List ℕ} {h : Header} {states : List ℕ} {trail : Trail} (ok : Accepted image h) (indexed : index ≡ index_of image) (front : Held image (begun_of (grammar_of image)) states) (holds : Holds trail (record { path = []; pairing = [] }) 0 0) where
+module _
+    {image index : List ℕ}
+    {h : Header}
+    {states : List ℕ}
+    {trail : Trail}
+    (ok : Accepted image h)
+    (indexed : index ≡ index_of image)
+    (front : Held image (begun_of (grammar_of image)) states)
+    (holds : Holds trail (record { path = []; pairing = [] }) 0 0) where
   here : Accepted image (header image)
   here = subst (Accepted image) ok.laid.header_is ok
 

@@ -19,7 +19,8 @@ module _ (image asked : List ℕ) where
   record_long h = (λ rows. rw (lt-leb (byte asked 0) 32 h) refl, λ share. rw (lt-leb (byte asked 0) 32 h) refl)
 
   pub record_listed : byte asked 0 ≤ 32
-      → ((rows : ℕ) → listing_reply image (analysis (word_of asked)) rows ≡ record_reply image asked rows) × ((share : List ℕ) → after_listing image (analysis (word_of asked)) share ≡ after_record image asked share)
+      → ((rows : ℕ) → listing_reply image (analysis (word_of asked)) rows ≡ record_reply image asked rows)
+      × ((share : List ℕ) → after_listing image (analysis (word_of asked)) share ≡ after_record image asked share)
   unfolding record_reply after_record
   record_listed h = (λ rows. rw (le-leb (byte asked 0) 32 h) refl, λ share. rw (le-leb (byte asked 0) 32 h) refl)
 

@@ -36,7 +36,9 @@ returns-then-not-right_columns c =
 
 pub check_lexicon-requires : goal.check_lexicon-requires
 check_lexicon-requires c =
-    record { laid = read_laid (goal.at.check_lexicon-requires c).After-read_header-h; t = of_true _ (early_passed (image (goal.at.check_lexicon-requires c).After-read_header-h) (passed (goal.at.check_lexicon-requires c).In_ok-check_tables)).1 }
+    let read = (goal.at.check_lexicon-requires c).After-read_header-h in
+    let tables = passed (goal.at.check_lexicon-requires c).In_ok-check_tables in
+    record { laid = read_laid read; t = of_true _ (early_passed (image read) tables).1 }
 
 pub returns-in_err-check_tables : goal.returns-in_err-check_tables
 returns-in_err-check_tables c =

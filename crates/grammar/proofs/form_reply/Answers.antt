@@ -27,7 +27,9 @@ returns-then-h-e c =
 
 pub form_length-requires : goal.form_length-requires
 form_length-requires c =
-    record { laid = subst (Laid c.args.image.now) (sym c.read_header-h.ensures) (accepted_image c.args.image.now (judged (goal.at.form_length-requires c).In_ok-check)).laid; e_lt_entries = c.if-h-e.false }
+    let image = c.args.image.now in
+    let accepted = accepted_image image (judged (goal.at.form_length-requires c).In_ok-check) in
+    record { laid = subst (Laid image) (sym c.read_header-h.ensures) accepted.laid; e_lt_entries = c.if-h-e.false }
 
 pub returns-in_err-check : goal.returns-in_err-check
 returns-in_err-check c =
@@ -35,4 +37,6 @@ returns-in_err-check c =
 
 pub returns : goal.returns
 returns c =
-    ap beside.FormReply.letters c.form_length.ensures.0 ∙ form_there c.args.image.now c.args.e (judged (goal.at.returns c).In_ok-check) (omega (arith, entries_are (goal.at.returns c).After-read_header-h, c.if-h-e.false))
+    let a = c.args in
+    ap beside.FormReply.letters c.form_length.ensures.0
+    ∙ form_there a.image.now a.e (judged (goal.at.returns c).In_ok-check) (omega (arith, entries_are (goal.at.returns c).After-read_header-h, c.if-h-e.false))

@@ -32,7 +32,11 @@ pub returns-then-out-n : goal.returns-then-out-n
 returns-then-out-n c =
     let a = c.args in
     let n = c.in-Ok.n in
-    record { reply = sym (ap (form_number (length a.out.now)) (replied (goal.at.returns-then-out-n c).In-Ok) ∙ rw (lt-leb n (length a.out.now) c.if-out-n.true) refl); bytes = form_short a.image.now a.entry a.out.now n (replied (goal.at.returns-then-out-n c).In-Ok) c.if-out-n.true }
+    let said = replied (goal.at.returns-then-out-n c).In-Ok in
+    record {
+      reply = sym (ap (form_number (length a.out.now)) said ∙ rw (lt-leb n (length a.out.now) c.if-out-n.true) refl);
+      bytes = form_short a.image.now a.entry a.out.now n said c.if-out-n.true;
+    }
 
 pub form_part-requires : goal.form_part-requires
 form_part-requires c = replied (goal.at.form_part-requires c).In-Ok

@@ -13,4 +13,5 @@ judge_tabled-requires c = sym c.check_tables.ensures ∙ ap verdict_of c.in_ok-c
 pub returns-in_err-check_tables : goal.returns-in_err-check_tables
 returns-in_err-check_tables c =
     let a = c.args in
-    ap judgement_of (same_refusal c.from_residual.result _ c.from_residual.ensures.1) ∙ image_refused a.image.now a.path.now a.pairing.now _ (sym (refused_early a.image.now _ (sym c.in_err-check_tables.ensures)))
+    ap judgement_of (same_refusal c.from_residual.result _ c.from_residual.ensures.1)
+    ∙ image_refused a.image.now a.path.now a.pairing.now _ (sym (refused_early a.image.now _ (sym c.in_err-check_tables.ensures)))

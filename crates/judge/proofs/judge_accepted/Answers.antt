@@ -51,4 +51,8 @@ is_reading-requires c =
 pub returns : goal.returns
 returns c =
     let a = c.args in
-    told c.is_reading.result ∙ decided a.image.now a.path.now a.pairing.now (length_right (goal.at.returns c).Else-not-path_length_right) (path_right (goal.at.returns c).Else-not-path_linked) (pairing_right (goal.at.returns c).Else-not-pairing_right) c.is_reading.result (sym c.is_reading.ensures)
+    let short = length_right (goal.at.returns c).Else-not-path_length_right in
+    let linked = path_right (goal.at.returns c).Else-not-path_linked in
+    let feasible = pairing_right (goal.at.returns c).Else-not-pairing_right in
+    told c.is_reading.result
+    ∙ decided a.image.now a.path.now a.pairing.now short linked feasible c.is_reading.result (sym c.is_reading.ensures)

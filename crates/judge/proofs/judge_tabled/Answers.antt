@@ -23,7 +23,11 @@ read_header-h-requires c =
 pub judge_accepted-requires : goal.judge_accepted-requires
 judge_accepted-requires c =
     let image = c.args.image.now in
-    record { accepted = subst (Accepted image) (sym c.read_header-h.ensures) (accepted_image image (passed (goal.at.judge_accepted-requires c).In_ok-check_columns)); index_value = c.check_columns.ensures.rows (ap verdict_of c.in_ok-check_columns.was) }
+    let accepted = accepted_image image (passed (goal.at.judge_accepted-requires c).In_ok-check_columns) in
+    record {
+      accepted = subst (Accepted image) (sym c.read_header-h.ensures) accepted;
+      index_value = c.check_columns.ensures.rows (ap verdict_of c.in_ok-check_columns.was);
+    }
 
 pub returns-in_err-check_columns : goal.returns-in_err-check_columns
 returns-in_err-check_columns c =

@@ -19,10 +19,16 @@ pub read_header-h-requires : goal.read_header-h-requires
 read_header-h-requires c = let image = c.args.image.now in laid_some image (header image) (accepted_image image (passed c)).laid
 
 pub judge_accepted-requires : goal.judge_accepted-requires
-judge_accepted-requires c = let image = c.args.image.now in subst (λ (h : Header). Accepted image h) (sym c.read_header-h.ensures) (accepted_image image (passed (goal.at.judge_accepted-requires c).In_ok-check))
+judge_accepted-requires c =
+    let image = c.args.image.now in
+    let accepted = accepted_image image (passed (goal.at.judge_accepted-requires c).In_ok-check) in
+    subst (λ (h : Header). Accepted image h) (sym c.read_header-h.ensures) accepted
 
 pub returns-in_err-check : goal.returns-in_err-check
-returns-in_err-check c = let a = c.args in ap judgement_of (same_refusal c.from_residual.result _ c.from_residual.ensures.1) ∙ image_refused a.image.now a.pairing.now a.text.now _ (sym c.in_err-check.ensures)
+returns-in_err-check c =
+    let a = c.args in
+    ap judgement_of (same_refusal c.from_residual.result _ c.from_residual.ensures.1)
+    ∙ image_refused a.image.now a.pairing.now a.text.now _ (sym c.in_err-check.ensures)
 
 pub returns : goal.returns
 returns c = let a = c.args in c.judge_accepted.ensures ∙ image_accepted a.image.now a.pairing.now a.text.now (passed (goal.at.returns c).In_ok-check)

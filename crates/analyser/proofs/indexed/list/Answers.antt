@@ -31,7 +31,12 @@ slice_bounds-search_for-start c = c.requires.indexed.long
 pub search_for-found-requires : goal.search_for-found-requires
 search_for-found-requires c =
     let a = c.args in
-    record { accepted = accepted_by a.image.now (header_of a.h) c.requires.image_value c.requires.h_value; index_value = c.requires.indexed.index_is; may_be = rest_forms c.requires.indexed; asked_value = passed (goal.at.search_for-found-requires c).In_ok-own_verdict }
+    record {
+      accepted = accepted_by a.image.now (header_of a.h) c.requires.image_value c.requires.h_value;
+      index_value = c.requires.indexed.index_is;
+      may_be = rest_forms c.requires.indexed;
+      asked_value = passed (goal.at.search_for-found-requires c).In_ok-own_verdict;
+    }
 
 pub returns-in_err-own_verdict : goal.returns-in_err-own_verdict
 returns-in_err-own_verdict c =

@@ -30,7 +30,12 @@ slice_bounds-try_word-start c = c.requires.indexed.long
 pub try_word-found-requires : goal.try_word-found-requires
 try_word-found-requires c =
     let a = c.args in
-    record { accepted = accepted_by a.image.now (header_of a.h) c.requires.image_value c.requires.h_value; index_value = c.requires.indexed.index_is; may_be = rest_forms c.requires.indexed; word_value = passed (goal.at.try_word-found-requires c).In-Ok }
+    record {
+      accepted = accepted_by a.image.now (header_of a.h) c.requires.image_value c.requires.h_value;
+      index_value = c.requires.indexed.index_is;
+      may_be = rest_forms c.requires.indexed;
+      word_value = passed (goal.at.try_word-found-requires c).In-Ok;
+    }
 
 pub returns-then-found-capacity : goal.returns-then-found-capacity
 returns-then-found-capacity c =
