@@ -12,9 +12,8 @@ use borrow.Author.Tests.{lt-leb, eq-eqb, ne_eqb}
 use Rattle.std.specs.Prelude.{Option, Some, None}
 use Rattle.std.specs.Option.{unwrap_or}
 use Rattle.model.specs.Lists.{flat_map}
-use Rattle.model.specs.Blocks.{Header}
 use Rattle.model.specs.Query.{analysis}
-use Rattle.model.specs.Refusals.{Verdict, accepted, refused, image_tests, image_verdict, own_tests, request_tests}
+use Rattle.model.specs.Refusals.{refused, image_tests, image_verdict, own_tests, request_tests}
 use Rattle.model.specs.Rows.{Reply}
 use Rattle.model.specs.Calls.{request_verdict, listing_reply, listing_rows}
 use Rattle.model.specs.Lines as lines
@@ -156,15 +155,16 @@ module _ (image : List ℕ) where
 pub record Progress (image chunk line₀ out₀ : List ℕ) (at kept₀ end₀ : ℕ) (line out : List ℕ) (i kept end : ℕ) : Type 0 where
   pub in_order : at ≤ i
   pub kept_few : kept ≤ 256
-  pub end_in : end ≤ 65536
+  pub out_same : length out ≡ length out₀
+  pub end_in : end ≤ length out₀
   pub grown : (l : List ℕ) → Begun line₀ kept₀ l → Grown line₀ line kept l (take (i - at) (drop at chunk))
   pub text : (l : List ℕ) → Begun line₀ kept₀ l → Put out₀ out end₀ end (text_after image l (take (i - at) (drop at chunk)))
   pub start : i ≡ at → end ≡ end₀
 
-pub progress_none : (image chunk line₀ out₀ : List ℕ) (at kept₀ end₀ : ℕ) → kept₀ ≤ 256 → end₀ ≤ 65536 → Progress image chunk line₀ out₀ at kept₀ end₀ line₀ out₀ at kept₀ end₀
+pub progress_none : (image chunk line₀ out₀ : List ℕ) (at kept₀ end₀ : ℕ) → kept₀ ≤ 256 → end₀ ≤ length out₀ → Progress image chunk line₀ out₀ at kept₀ end₀ line₀ out₀ at kept₀ end₀
 progress_none image chunk line₀ out₀ at kept₀ end₀ k e =
     let z : at - at ≡ 0 = omega arith in
-    record { in_order = omega arith; kept_few = k; end_in = e; grown = λ l b. rw z (record { begun = b; same = refl }); text = λ l b. rw z (put_none out₀ end₀); start = λ f. refl }
+    record { in_order = omega arith; kept_few = k; out_same = refl; end_in = e; grown = λ l b. rw z (record { begun = b; same = refl }); text = λ l b. rw z (put_none out₀ end₀); start = λ f. refl }
 
 module _ (image chunk line₀ out₀ : List ℕ) (at kept₀ end₀ : ℕ) (line out : List ℕ) (i kept end : ℕ) (done : Progress image chunk line₀ out₀ at kept₀ end₀ line out i kept end) where
   more_bytes : i < length chunk → take (i + 1 - at) (drop at chunk) ≡ take (i - at) (drop at chunk) ++ (get_or chunk i 0 ∷ [])
@@ -177,12 +177,13 @@ module _ (image chunk line₀ out₀ : List ℕ) (at kept₀ end₀ : ℕ) (line
       ∙ ap (λ (x : ℕ). take (i - at) (drop at chunk) ++ (x ∷ [])) (get_or-drop at chunk (i - at) 0 ∙ ap (λ (n : ℕ). get_or chunk n 0) v)
 
   -- a byte more
-  pub progress_more : {line' out' : List ℕ} {to from : Reached} → i < length chunk → from.kept ≡ kept → from.end ≡ end → end ≤ 43504 → Passed image line line' out out' from (get_or chunk i 0) to
+  pub progress_more : {line' out' : List ℕ} {to from : Reached} → i < length chunk → from.kept ≡ kept → from.end ≡ end → end + 22032 ≤ length out₀ → length out' ≡ length out → Passed image line line' out out' from (get_or chunk i 0) to
       → Progress image chunk line₀ out₀ at kept₀ end₀ line' out' (i + 1) to.kept to.end
-  progress_more {line'} {out'} {to} {from} inside e f room read =
+  progress_more {line'} {out'} {to} {from} inside e f room same read =
       record {
         in_order = omega (arith, done.in_order);
         kept_few = read.kept_few;
+        out_same = same ∙ done.out_same;
         end_in = omega (arith, read.end_near);
         grown = λ l b. grown_more l b;
         text = λ l b. put_same (sym (ap (text_after image l) (more_bytes inside) ∙ text_parts image l xs (get_or chunk i 0 ∷ []))) (put_then (done.text l b) (text_now l b));

@@ -6,7 +6,8 @@ ghost use Rattle.answers.specs.Run.{IsHad};
 ghost use Rattle.answers.specs.Input.{Grown, ByteRead, text_after, last_text};
 
 use crate::line;
-use crate::run::{Room, Run};
+use crate::room::Room;
+use crate::run::Run;
 
 // How far the input is read: bytes of the line begun that are kept, and where the text ends.
 #[derive(Clone, Copy)]
@@ -19,28 +20,28 @@ pub struct Reached {
 fn read_byte(
     run: &Run,
     b: u8,
+    line: &mut [u8; 256],
     room: &mut Room,
-    out: &mut [u8; 65536],
+    out: &mut [u8],
     from: Reached,
 ) -> Option<Reached>
     requires had { IsHad run.now }
     requires kept_few { from.kept ≤ 256 }
-    requires end_in_bounds { from.end + 22032 ≤ 65536 }
-    ensures { ByteRead run.now.image.now room.old.line room.new.line out.old out.new from b result }
+    requires end_in_bounds { from.end + 22032 ≤ length out.old }
+    ensures { ByteRead run.now.image.now line.old line.new out.old out.new from b result }
 {
     let Reached { kept, end } = from;
     if b != b'\n' {
         return Some(Reached {
-            kept: parse::add_byte(&mut room.line, kept, b),
+            kept: parse::add_byte(line, kept, b),
             end,
         });
     }
-    let line = &room.line[..kept];
-    let answered = line::answer(run, line, &mut room.word, &mut room.rows, out, end);
-    Some(Reached {
-        kept: 0,
-        end: answered?,
-    })
+    let whole = &line[..kept];
+    match line::answer(run, whole, &mut room.word, &mut room.rows, out, end) {
+        None => None,
+        Some(end) => Some(Reached { kept: 0, end }),
+    }
 }
 
 // The same after some bytes of a chunk.
@@ -50,30 +51,32 @@ pub struct Read {
     pub reached: Reached,
 }
 
-// The bytes of a chunk from `at` on: all of them, or as many as leave no room for one more answer, or those before the end of a line that waits.
+// The bytes of a chunk from `at` on: all of them, or as many as leave no room in `out` for one more answer, or those before the end of a line that waits.
 pub fn read_chunk(
     run: &Run,
     chunk: &[u8],
     at: usize,
-    room: &mut Room,
-    out: &mut [u8; 65536],
+    line: &mut [u8; 256],
+    out: &mut [u8],
     from: Reached,
 ) -> Read
     requires had { IsHad run.now }
     requires at_in_bounds { at ≤ length chunk.now }
     requires kept_few { from.kept ≤ 256 }
-    requires end_in_bounds { from.end ≤ 65536 }
-    ensures line { ((l : List ℕ) → Begun room.old.line from.kept l → Grown room.old.line room.new.line result.reached.kept l (take (result.at - at) (drop at chunk.now))) × (result.reached.kept ≤ 256) }
-    ensures text { ((l : List ℕ) → Begun room.old.line from.kept l → Put out.old out.new from.end result.reached.end (text_after run.now.image.now l (take (result.at - at) (drop at chunk.now)))) × (result.reached.end ≤ 65536) }
+    requires in_bounds { (22032 ≤ length out.old) × (from.end ≤ length out.old) }
+    ensures line { ((l : List ℕ) → Begun line.old from.kept l → Grown line.old line.new result.reached.kept l (take (result.at - at) (drop at chunk.now))) × (result.reached.kept ≤ 256) }
+    ensures text { ((l : List ℕ) → Begun line.old from.kept l → Put out.old out.new from.end result.reached.end (text_after run.now.image.now l (take (result.at - at) (drop at chunk.now)))) × (result.reached.end ≤ length out.old) }
     ensures onward { (at ≤ result.at) × ((result.at ≤ length chunk.now) × (from.end ≡ 0 → at < length chunk.now → at < result.at)) }
 {
+    // An answer takes at most 22032 bytes.
+    let most = out.len() - 22032;
+    let mut room = Room::new();
     let mut reached = from;
-    // An answer takes at most 22032 bytes of the 65536.
     for i in at..chunk.len() {
-        if reached.end > 43504 {
+        if reached.end > most {
             return Read { at: i, reached };
         }
-        let Some(next) = read_byte(run, chunk[i], room, out, reached) else {
+        let Some(next) = read_byte(run, chunk[i], line, &mut room, out, reached) else {
             return Read { at: i, reached };
         };
         reached = next;
@@ -85,16 +88,16 @@ pub fn read_chunk(
 }
 
 // The last line, where it lacks its line end: put first into `out`, so that it never waits.
-pub fn read_end(run: &Run, room: &mut Room, out: &mut [u8; 65536], kept: usize) -> usize
+pub fn read_end(run: &Run, line: &[u8; 256], out: &mut [u8], kept: usize) -> usize
     requires had { IsHad run.now }
     requires kept_few { kept ≤ 256 }
-    ensures text { ((l : List ℕ) → Begun room.old.line kept l → Put out.old out.new 0 result (last_text run.now.image.now l)) × (result ≤ 22032) }
-    ensures line { room.new.line ≡ room.old.line }
+    requires in_bounds { 22032 ≤ length out.old }
+    ensures { ((l : List ℕ) → Begun line.now kept l → Put out.old out.new 0 result (last_text run.now.image.now l)) × (result ≤ 22032) }
 {
     if kept == 0 {
         return 0;
     }
-    let line = &room.line[..kept];
-    let answered = line::answer(run, line, &mut room.word, &mut room.rows, out, 0);
+    let mut room = Room::new();
+    let answered = line::answer(run, &line[..kept], &mut room.word, &mut room.rows, out, 0);
     answered.unwrap_or(0)
 }

@@ -4,4 +4,5 @@
 
 pub mod input;
 mod line;
+mod room;
 pub mod run;

@@ -50,11 +50,11 @@ fn answer_word(
     h: Header,
     word: &[u8],
     rows: &mut [u8; 7424],
-    out: &mut [u8; 65536],
+    out: &mut [u8],
     at: usize,
 ) -> Option<usize>
     requires prepared { Prepared run.now.image.now run.now.index.now h }
-    requires at_in_bounds { at + 22032 ≤ 65536 }
+    requires at_in_bounds { at + 22032 ≤ length out.old }
     ensures { WordAnswered run.now.image.now out.old out.new at word.now result }
 {
     let reply = list_word(run, h, word, rows, at)?;
@@ -70,11 +70,11 @@ pub fn answer(
     line: &[u8],
     word: &mut [u8; 128],
     rows: &mut [u8; 7424],
-    out: &mut [u8; 65536],
+    out: &mut [u8],
     at: usize,
 ) -> Option<usize>
     requires had { IsHad run.now }
-    requires at_in_bounds { at + 22032 ≤ 65536 }
+    requires at_in_bounds { at + 22032 ≤ length out.old }
     ensures { LineAnswered run.now.image.now out.old out.new at line.now result }
 {
     if line.len() > 255 {

@@ -2,7 +2,7 @@
 
 #![tactic(auto)]
 
-use answers::run::{Room, Run};
+use answers::run::Run;
 
 fn main(rt: HostRuntime) {
     let mut image = [0u8; 65537];
@@ -15,8 +15,8 @@ fn main(rt: HostRuntime) {
         prepared,
     };
     let mut chunk = [0u8; 65536];
-    let mut room = Room::new();
+    let mut line = [0u8; 256];
     let mut out = [0u8; 65536];
     let mut input = rt.stdin();
-    steps::answer_input(&rt, &mut input, &run, &mut chunk, &mut room, &mut out);
+    steps::answer_input(&rt, &mut input, &run, &mut chunk, &mut line, &mut out);
 }

@@ -1,10 +1,11 @@
 -- A line by its parts: what it is read as, once cut at its first space, and what stands after its own pair at the underscore.
-use Prim.Native.Nat.{ℕ}
+use Prim.Native.Nat.{ℕ, ◌+◌, ◌<◌}
+use native.Mathlib.Omega.{arith}
 use mathlib.Core.Bool.{Bool, true, false, ◌&&◌}
 use mathlib.Core.Path.{◌≡◌, refl, sym, ap, ap₂, ◌∙◌}
-use mathlib.Core.List.{List}
-use lib.ListN.{drop}
-use lib.Seq.{drop-drop}
+use mathlib.Core.List.{List, ◌∷◌, ◌++◌}
+use lib.ListN.{length, drop, length-drop, length-append}
+use lib.Seq.{drop-drop, drop-append-add}
 use lib.Dec.{T}
 use Rattle.model.proofs.Booleans.{and_out, of_true}
 use Rattle.contexts.specs.Reader.{Read, failed, starts_with, read_pair, read_context, is_right}
@@ -15,6 +16,7 @@ use Rattle.rule_texts.specs.Text.{is_rule}
 use Rattle.rule_texts.specs.Parts.{IsCut, divided_rule}
 use Rattle.rule_texts.specs.declared.line.Parts.{Parts}
 use Rattle.rule_texts.proofs.Found.{uncut}
+use Rattle.rule_texts.proofs.Split.{whole_again}
 
 no_pair : (s : Sign) (x : Read) → x ≡ failed → after_sign s x ≡ no_rule
 no_pair no_operator x e = refl
@@ -59,6 +61,20 @@ module _ (line sign rest : List ℕ) (cut : IsCut 32 line sign rest) where
       pub divided : (left right : List ℕ) → IsCut 95 (drop 4 rest) left right
           → rule (record { operator = o; own = n; left = read_context left; right = read_context right }) ≡ read_rule line
       divided left right h = sym (spaced ∙ rw (h.0, h.1, h.2) refl)
+
+-- a text cut at its first byte b is what stands before it, the byte, and what stands after it
+cut_whole : (b : ℕ) (t u v : List ℕ) → IsCut b t u v → t ≡ u ++ (b ∷ v)
+cut_whole b t u v h = sym (whole_again b t (of_true (has b t) h.0)) ∙ sym (ap₂ (λ (x y : List ℕ). x ++ (b ∷ y)) h.1 h.2)
+
+-- where the contexts begin: after the sign, a space, the own pair and a space
+module _ (line sign rest left right : List ℕ) (first : IsCut 32 line sign rest) (then : IsCut 95 (drop 4 rest) left right) where
+  from_left : drop (length sign + 5) line ≡ left ++ (95 ∷ right)
+  from_left = ap (drop (length sign + 5)) (cut_whole 32 line sign rest first) ∙ drop-append-add sign (32 ∷ rest) 5 ∙ cut_whole 95 (drop 4 rest) left right then
+
+  pub parts_of : (from : ℕ) × ((from < length line) × (drop from line ≡ left ++ (95 ∷ right)))
+  parts_of =
+      let long : length (drop (length sign + 5) line) ≡ length left + length (95 ∷ right) = ap length from_left ∙ length-append left (95 ∷ right) in
+      (length sign + 5, (omega (arith, long, length-drop (length sign + 5) line), from_left))
 
 -- both contexts of a rule's line are of the grammar
 module _ (line : List ℕ) (p : Parts) (d : rule (divided_rule p) ≡ read_rule line) where

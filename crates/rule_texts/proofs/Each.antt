@@ -1,12 +1,12 @@
 -- A loop over the lines of a text: its first line and those after it, and a text by what its lines are.
-use Prim.Native.Nat.{ℕ, ◌≤◌, ◌<◌}
+use Prim.Native.Nat.{ℕ, ◌+◌, ◌≤◌, ◌<◌}
 use native.Mathlib.Omega.{arith}
 use mathlib.Core.Bool.{Bool, true, false, ◌&&◌}
 use mathlib.Core.Path.{◌≡◌, refl, sym, ap, ap₂, ◌∙◌}
 use mathlib.Core.List.{List, [], ◌∷◌}
 use lib.ListN.{length}
-use lib.Dec.{leb}
-use borrow.Author.Tests.{le-leb, lt-leb}
+use lib.Dec.{leb, eqb}
+use borrow.Author.Tests.{le-leb, lt-leb, ne_eqb}
 use Rattle.model.specs.Lists.{every}
 use Rattle.model.specs.Lines.{lines_of}
 use Rattle.model.proofs.Booleans.{left_true, left_false, right_false, and_out, of_true, true_of}
@@ -83,3 +83,8 @@ module _ (t : List ℕ) where
 -- a text of no line
 pub none_there : (u : List ℕ) → u ≡ [] → length (lines_of u) ≡ 0
 none_there u e = ap (λ (v : List ℕ). length (lines_of v)) e ∙ ap length lines_none
+
+-- a text of as many lines as there may be, each a rule's, and of those of u
+pub asked_most : (t u : List ℕ) → Asked rule_line t u → 32 + length (lines_of u) ≡ length (lines_of t) → is_text t ≡ eqb (length u) 0
+asked_most t [] a e = right_text t (omega (arith, e, none_there [] refl)) (asked_all rule_line t [] a refl)
+asked_most t (x ∷ u) a e = too_many t (omega (arith, e, ap length (lines_on x u))) ∙ sym (ne_eqb (length (x ∷ u)) 0 (λ z. omega arith))

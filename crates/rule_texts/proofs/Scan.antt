@@ -1,4 +1,4 @@
--- The pair numbers of a context are those that stand in its text.
+-- The pair numbers of a context, or of a line's two, are those that stand in its text.
 use Prim.Native.Nat.{ℕ, ◌+◌, ◌-◌}
 use mathlib.Core.Bool.{false, ◌&&◌}
 use mathlib.Core.Path.{◌≡◌, refl, sym, ap, ◌∙◌}
@@ -50,13 +50,20 @@ numbers whole (either c d) t r =
     let u = and_out (canonical side c) (canonical whole d) t in
     joined (pairs_in c) (pairs_in d) (written c) (124 ∷ written d) (numbers side c u.0) (λ q. passed 124 (written d ++ q) refl ∙ numbers whole d u.1 q) r
 
--- so of a text that is read as a context
-pub scanned : (t : List ℕ) → T (is_right (read_context t)) → numbers_in t ≡ pairs_of (read_context t)
-scanned t h = go (read_context t) refl h
+-- so of a text that is read as a context, whatever stands after it
+scanned_then : (t : List ℕ) → T (is_right (read_context t)) → (r : List ℕ) → numbers_in (t ++ r) ≡ pairs_of (read_context t) ++ numbers_in r
+scanned_then t h r = go (read_context t) refl h
   where
-    go : (w : Written) → read_context t ≡ w → T (is_right w) → numbers_in t ≡ pairs_of w
-    go everywhere e k = ap numbers_in ((empty_iff t).0 e)
+    go : (w : Written) → read_context t ≡ w → T (is_right w) → numbers_in (t ++ r) ≡ pairs_of w ++ numbers_in r
+    go everywhere e k = ap (λ (l : List ℕ). numbers_in (l ++ r)) ((empty_iff t).0 e)
     go (where_it_runs c) e k =
         let i = (read_iff t c).0 e in
-        ap numbers_in (sym i.stood ∙ sym (append-nil (written c))) ∙ numbers whole c i.shaped [] ∙ append-nil (pairs_in c)
+        ap (λ (l : List ℕ). numbers_in (l ++ r)) (sym i.stood) ∙ numbers whole c i.shaped r
     go wrong e k = absurd k
+
+pub scanned : (t : List ℕ) → T (is_right (read_context t)) → numbers_in t ≡ pairs_of (read_context t)
+scanned t h = ap numbers_in (sym (append-nil t)) ∙ scanned_then t h [] ∙ append-nil (pairs_of (read_context t))
+
+-- a line after its own pair: two contexts, an underscore between them
+pub scanned_line : (u v : List ℕ) → T (is_right (read_context u)) → T (is_right (read_context v)) → numbers_in (u ++ (95 ∷ v)) ≡ pairs_of (read_context u) ++ pairs_of (read_context v)
+scanned_line u v h k = scanned_then u h (95 ∷ v) ∙ ap (λ (l : List ℕ). pairs_of (read_context u) ++ l) (passed 95 v refl ∙ scanned v k)

@@ -1,5 +1,5 @@
 -- A text cut at a byte or after its first line, and a line divided into its parts, as the code has them.
-use Rattle.std.specs.Prelude.{ℕ, ◌<◌, true, ◌≡◌, List, ◌∷◌, length, Option, Some, None}
+use Rattle.std.specs.Prelude.{ℕ, ◌<◌, true, ◌≡◌, List, ◌∷◌, ◌++◌, length, drop, Option, Some, None}
 use Rattle.model.specs.Lines.{lines_of}
 use Rattle.contexts.specs.Reader.{read_context}
 use Rattle.contexts.specs.Operators as operators
@@ -34,3 +34,7 @@ divided_rule p = record { operator = operator_of p.operator; own = p.own; left =
 abbrev pub line_of : Option Parts → Line
 line_of None = no_rule
 line_of (Some p) = rule (divided_rule p)
+
+-- its two contexts are all that stands from the left one on, with an underscore between them
+abbrev pub PartsOf : List ℕ → Parts → Type 0
+PartsOf line p = (from : ℕ) × ((from < length line) × (drop from line ≡ p.left.now ++ (95 ∷ p.right.now)))

@@ -1,10 +1,10 @@
 // A rule's line: operator, space, own pair, space, left context, underscore, right context.
-ghost use Rattle.std.specs.Prelude.{true, ◌≡◌};
+ghost use Rattle.std.specs.Prelude.{true, ◌≡◌, IfSome};
 ghost use Rattle.model.specs.Lists.{every};
 ghost use Rattle.rule_texts.specs.Line.{read_sign, read_rule};
 ghost use Rattle.rule_texts.specs.Text.{is_rule, is_known, knows_pairs};
 ghost use Rattle.rule_texts.specs.Scan.{numbers_in};
-ghost use Rattle.rule_texts.specs.Parts.{sign_of, line_of};
+ghost use Rattle.rule_texts.specs.Parts.{sign_of, line_of, PartsOf};
 
 use matching::context;
 
@@ -41,7 +41,8 @@ pub struct Parts<'a> {
 
 // The parts of a rule's line, if it is one.
 pub fn divide(line: &[u8]) -> Option<Parts<'_>>
-    ensures { line_of result ≡ read_rule line.now }
+    ensures rule { line_of result ≡ read_rule line.now }
+    ensures parts { IfSome result (PartsOf line.now) }
 {
     let (sign, rest) = super::split_once(line, b' ')?;
     let operator = read_sign(sign)?;

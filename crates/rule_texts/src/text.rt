@@ -20,23 +20,21 @@ pub fn first_line(text: &[u8]) -> Option<(&[u8], &[u8])>
     }
 }
 
-// Test 19: no more lines than there may be rules, each a rule's.
+// Test 19: no more lines than there may be rules, each a rule's. What stands after so many lines is not looked at.
 pub fn is_text(text: &[u8]) -> bool
     ensures { result ≡ is_text text.now }
 {
     let mut rest = text;
-    let mut count = 0;
-    while let Some((line, after)) = first_line(rest) {
-        if count == MOST_RULES {
-            return false;
-        }
+    for _lines in 0..MOST_RULES {
+        let Some((line, after)) = first_line(rest) else {
+            return true;
+        };
         if !line::is_rule(line) {
             return false;
         }
-        count += 1;
         rest = after;
     }
-    true
+    rest.is_empty()
 }
 
 // Test 20, of a text that passed 19.

@@ -8,7 +8,7 @@ ghost use Rattle.steps.specs.Sofar.{Within, Answered, Finished, Stepped, Ended};
 
 use answers::input;
 use answers::input::Reached;
-use answers::run::{Room, Run};
+use answers::run::Run;
 use moving::{Count, Taken};
 use std::io::Read;
 
@@ -35,19 +35,19 @@ fn answer_part<R: Print + Eprint>(
     rt: &R,
     run: &Run,
     chunk: &[u8; 65536],
-    room: &mut Room,
+    line: &mut [u8; 256],
     out: &mut [u8; 65536],
     s: Stand,
 ) -> Option<Stand>
     requires had { IsHad run.now }
     requires within { Within s }
-    ensures { Answered run.now.image.now chunk.now chunk.now room.old.line room.new.line out.new s result }
+    ensures { Answered run.now.image.now chunk.now chunk.now line.old line.new out.new s result }
 {
     let from = Reached {
         kept: s.kept,
         end: 0,
     };
-    let read = input::read_chunk(run, &chunk[..s.n], s.at, room, out, from);
+    let read = input::read_chunk(run, &chunk[..s.n], s.at, line, out, from);
     let Reached { kept, end } = read.reached;
     let handed = moving::give(rt, &out[..end], s.handed)?;
     Some(Stand {
@@ -62,15 +62,15 @@ fn answer_part<R: Print + Eprint>(
 fn answer_last<R: Print + Eprint>(
     rt: &R,
     run: &Run,
-    room: &mut Room,
+    line: &[u8; 256],
     out: &mut [u8; 65536],
     s: Stand,
 ) -> Option<Count>
     requires had { IsHad run.now }
     requires within { Within s × (s.at ≡ s.n) }
-    ensures { (chunk chunk' : List ℕ) → Finished run.now.image.now chunk chunk' room.old.line room.new.line out.new s result }
+    ensures { (chunk chunk' : List ℕ) → Finished run.now.image.now chunk chunk' line.now line.now out.new s result }
 {
-    let end = input::read_end(run, room, out, s.kept);
+    let end = input::read_end(run, line, out, s.kept);
     moving::give(rt, &out[..end], s.handed)
 }
 
@@ -80,18 +80,18 @@ fn take_chunk<R: Print + Eprint, I: Read>(
     input: &mut I,
     run: &Run,
     chunk: &mut [u8; 65536],
-    room: &mut Room,
+    line: &[u8; 256],
     out: &mut [u8; 65536],
     s: Stand,
 ) -> Option<Step>
     requires had { IsHad run.now }
     requires within { Within s × (s.at ≡ s.n) }
-    ensures { Stepped run.now.image.now chunk.old chunk.new room.old.line room.new.line out.new s result }
+    ensures { Stepped run.now.image.now chunk.old chunk.new line.now line.now out.new s result }
 {
     let came = moving::take_in(rt, input, chunk, s.taken)?;
     match came {
         Taken::Nothing => Some(Step::On(s)),
-        Taken::End => Some(Step::Over(answer_last(rt, run, room, out, s)?)),
+        Taken::End => Some(Step::Over(answer_last(rt, run, line, out, s)?)),
         Taken::Bytes(n, taken) => Some(Step::On(Stand {
             at: 0,
             n,
@@ -106,18 +106,18 @@ fn turn<R: Print + Eprint, I: Read>(
     input: &mut I,
     run: &Run,
     chunk: &mut [u8; 65536],
-    room: &mut Room,
+    line: &mut [u8; 256],
     out: &mut [u8; 65536],
     s: Stand,
 ) -> Option<Step>
     requires had { IsHad run.now }
     requires within { Within s }
-    ensures { Stepped run.now.image.now chunk.old chunk.new room.old.line room.new.line out.new s result }
+    ensures { Stepped run.now.image.now chunk.old chunk.new line.old line.new out.new s result }
 {
     if s.at < s.n {
-        return Some(Step::On(answer_part(rt, run, chunk, room, out, s)?));
+        return Some(Step::On(answer_part(rt, run, chunk, line, out, s)?));
     }
-    take_chunk(rt, input, run, chunk, room, out, s)
+    take_chunk(rt, input, run, chunk, line, out, s)
 }
 
 // The whole input is answered: how many bytes came in, and how many went out.
@@ -134,7 +134,7 @@ pub fn answer_input<R: Print + Eprint, I: Read>(
     input: &mut I,
     run: &Run,
     chunk: &mut [u8; 65536],
-    room: &mut Room,
+    line: &mut [u8; 256],
     out: &mut [u8; 65536],
 ) -> Option<Whole>
     requires { IsHad run.now }
@@ -148,7 +148,7 @@ pub fn answer_input<R: Print + Eprint, I: Read>(
         handed: moving::none(),
     };
     for _turns in 0..140737488355328u64 {
-        let step = turn(rt, input, run, chunk, room, out, s)?;
+        let step = turn(rt, input, run, chunk, line, out, s)?;
         match step {
             Step::On(next) => {
                 s = next;

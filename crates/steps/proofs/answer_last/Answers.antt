@@ -8,7 +8,7 @@ pub returns : goal.returns
 returns g c =
     let read = c.read_end-end in
     let out = read.new.out in
-    let fits : read.result ≤ length out = omega (arith, read.ensures.text.1) in
+    let fits : read.result ≤ length out = omega (arith, read.ensures.1) in
     let a = c.args in
-    last_given a.run.now.image.now a.room.now.line read.new.room.line out a.s read.result fits c.requires.within.1 (λ l h. (read.ensures.text.0 l h).written)
+    last_given a.run.now.image.now a.line.now a.line.now out a.s read.result fits c.requires.within.1 (λ l h. (read.ensures.0 l h).written)
     c.give.result c.give.ensures

@@ -23,7 +23,7 @@ returns g c =
     let stop : read.result.at ≤ stand.n = omega (arith, read.ensures.onward.1.0, part) in
     let answered = take (read.result.at - stand.at) (drop stand.at (take stand.n chunk)) in
     let order = append-nil (waiting chunk stand) ∙ sym (parts_join chunk stand.at read.result.at stand.n read.ensures.onward.0 stop inside) in
-    went_on c.args.run.now.image.now chunk chunk c.args.room.now.line read.new.room.line stand _ answered [] (take end out)
+    went_on c.args.run.now.image.now chunk chunk c.args.line.now read.new.line stand _ answered [] (take end out)
     order
     (λ l h. (read.ensures.line.0 l h).begun)
     (λ l h. (read.ensures.text.0 l h).written)

@@ -13,7 +13,7 @@ pub returns-in-Nothing : goal.returns-in-Nothing
 returns-in-Nothing g c =
     let stand = c.args.s in
     let within = c.requires.within.0 in
-    let line = c.args.room.now.line in
+    let line = c.args.line.now in
     let none : stand.n - stand.at ≡ 0 = omega (arith, c.requires.within.1) in
     went_on c.args.run.now.image.now c.args.chunk.now c.take_in.new.chunk line line stand stand [] [] []
     (rw none refl) (λ l h. h) (λ l h. refl) (omega arith) (omega arith) c.args.out.now refl refl (omega arith) (omega arith) within.in_order within.inside within.few
@@ -24,7 +24,7 @@ returns-in-Bytes g c =
     let within = c.requires.within.0 in
     let n = c.in-Bytes.n in
     let chunk = c.take_in.new.chunk in
-    let line = c.args.room.now.line in
+    let line = c.args.line.now in
     let told = subst (λ came. TakenIn (length c.args.chunk.now) stand.taken (Some came)) c.in-Bytes.is c.in_ok-came.ensures in
     let none : stand.n - stand.at ≡ 0 = omega (arith, c.requires.within.1) in
     let all : n - 0 ≡ n = omega arith in

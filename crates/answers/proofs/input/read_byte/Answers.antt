@@ -5,12 +5,12 @@ use Rattle.answers.proofs.Reading.{end_grown, end_text}
 use Rattle.answers.proofs.input.read_byte.Goals as goal
 
 -- its answer is put
-pub returns : goal.returns
-returns c =
+pub returns-in-Some : goal.returns-in-Some
+returns-in-Some c =
     let a = c.args in
-    let answer = c.in_ok-answered.ensures in
+    let answer = c.in-Some.ensures in
     record {
-      grown = λ l begun. end_grown a.run.now.image.now l a.b a.room.now.line c.if-b-ne10.false;
+      grown = λ l begun. end_grown a.run.now.image.now l a.b a.line.now c.if-b-ne10.false;
       kept_few = omega arith;
       text = λ l begun. put_same (end_text a.run.now.image.now l a.b c.if-b-ne10.false) (answer.0 l begun.bytes);
       end_near = answer.1;

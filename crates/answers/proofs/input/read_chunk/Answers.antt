@@ -1,4 +1,5 @@
 -- `read_chunk` meets its contract: what it reads is what `read_byte` makes of each byte.
+use Prim.Native.Nat.{◌+◌, ◌≤◌}
 use native.Mathlib.Omega.{arith}
 use mathlib.Core.Path.{◌≡◌, refl}
 use lib.ListN.{length}
@@ -7,11 +8,11 @@ use Rattle.answers.proofs.input.read_chunk.Goals as goal
 use Rattle.answers.proofs.input.read_chunk.Goals.{In_default, After-loop-i}
 
 pub loop-i-init : goal.loop-i-init
-loop-i-init c = let a = c.args in progress_none a.run.now.image.now a.chunk.now a.room.now.line a.out.now a.at a.from.kept a.from.end c.requires.kept_few c.requires.end_in_bounds
+loop-i-init c = let a = c.args in progress_none a.run.now.image.now a.chunk.now a.line.now a.out.now a.at a.from.kept a.from.end c.requires.kept_few c.requires.in_bounds.1
 
 -- where there is no room for one more answer
-pub returns-then-reached-gt43504 : goal.returns-then-reached-gt43504
-returns-then-reached-gt43504 c =
+pub returns-then-reached-most : goal.returns-then-reached-most
+returns-then-reached-most c =
     let p = c.loop-i.invariant in
     record {
       line = (p.grown, p.kept_few);
@@ -35,13 +36,16 @@ returns-in_default c =
 
 -- a byte more
 pub loop-i-preserved : goal.loop-i-preserved
-loop-i-preserved c = progress_more _ _ _ _ _ _ _ _ _ _ _ _ c.loop-i.invariant c.loop-i-test.true refl refl c.if-reached-gt43504.false c.in-Some.ensures
+loop-i-preserved c =
+    let p = c.loop-i.invariant in
+    let room : c.loop-i.reached.end + 22032 ≤ length c.args.out.now = omega (arith, c.if-reached-most.false, c.requires.in_bounds.0) in
+    progress_more _ _ _ _ _ _ _ _ _ _ _ _ p c.loop-i-test.true refl refl room c.read_byte.auto.out c.in-Some.ensures
 
 -- where the chunk ends
 whole : (c : After-loop-i)
     → let a = c.args in
     let now = c.loop-i in
-    Progress a.run.now.image.now a.chunk.now a.room.now.line a.out.now a.at a.from.kept a.from.end now.room.line now.out (length a.chunk.now) now.reached.kept now.reached.end
+    Progress a.run.now.image.now a.chunk.now a.line.now a.out.now a.at a.from.kept a.from.end now.line now.out (length a.chunk.now) now.reached.kept now.reached.end
 whole c =
     let end : c.loop-i.i ≡ length c.args.chunk.now = omega (arith, c.requires.at_in_bounds) in
     rw end at c.loop-i.invariant

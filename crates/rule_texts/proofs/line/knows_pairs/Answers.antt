@@ -32,7 +32,7 @@ pub returns-then-numbers_known : goal.returns-then-numbers_known
 returns-then-numbers_known c =
     let a = c.args in
     let p = c.in-Some.parts in
-    let all = by_parts a.line.now a.pairs p c.in-Some.ensures c.requires in
+    let all = by_parts a.line.now a.pairs p c.in-Some.ensures.rule c.requires in
     elim c.if-parts-pairs.branch [
       | then-parts-pairs w ↦ let left = sym w.numbers_known.ensures ∙ sym w.value-is ∙ c.if-numbers_known.true in
           c.numbers_known-then-numbers_known.ensures ∙ sym (all ∙ rw (lt-ltb p.own a.pairs w.if-parts-pairs.true, left) refl)
@@ -43,7 +43,7 @@ pub returns-else-numbers_known : goal.returns-else-numbers_known
 returns-else-numbers_known c =
     let a = c.args in
     let p = c.in-Some.parts in
-    let all = by_parts a.line.now a.pairs p c.in-Some.ensures c.requires in
+    let all = by_parts a.line.now a.pairs p c.in-Some.ensures.rule c.requires in
     c.if-numbers_known.false
     ∙ elim c.if-parts-pairs.branch [
       | then-parts-pairs w ↦ sym (all ∙ rw (lt-ltb p.own a.pairs w.if-parts-pairs.true, sym w.numbers_known.ensures ∙ sym w.value-is ∙ c.if-numbers_known.false) refl)
