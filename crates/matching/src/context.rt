@@ -34,13 +34,16 @@ fn all_places(n: usize) -> u64
     out
 }
 
-// The places before which a run ends. Of the right texts the empty one alone has no run, and holds everywhere.
+// The places before which a run ends. Of the right texts the empty one alone has no run, and holds everywhere: it is told without being matched.
 pub fn left_places(text: &[u8], s: &[u8]) -> u64
     requires text_value { is_right (read_context text.now) ≡ true }
     requires s_len_bound { length s.now < 63 }
     ensures { (i : ℕ) → i ≤ length s.now → holds result i ≡ left (read_context text.now) s.now i }
 {
     let every = all_places(s.len());
+    if text.is_empty() {
+        return every;
+    }
     match super::match_whole(text, 0, 8, s) {
         Some(step) => tables::reached(every, &step.rows, s.len()),
         None => every,
@@ -53,6 +56,9 @@ pub fn right_places(text: &[u8], s: &[u8]) -> u64
     requires s_len_bound { length s.now < 63 }
     ensures { (i : ℕ) → i < length s.now → holds result i ≡ right (read_context text.now) s.now i }
 {
+    if text.is_empty() {
+        return all_places(s.len());
+    }
     match super::match_whole(text, 0, 8, s) {
         Some(step) => tables::beginning(&step.rows, s.len()),
         None => all_places(s.len()),

@@ -1,9 +1,15 @@
 -- A run ends where the context's rows reach from any place; without a run the context is empty.
-use borrow.Author.Tests.{le-leb}
+use borrow.Author.Tests.{le-leb, eqb-true}
 use mathlib.Core.Path.{sym, ◌∙◌}
 use lib.ListN.{length}
-use Rattle.matching.proofs.Reading.{right_read, right_empty, left_everywhere, left_by}
+use Rattle.matching.proofs.Reading.{empty_context, right_read, right_empty, left_everywhere, left_by}
 use Rattle.matching.proofs.context.left_places.Goals as goal
+
+pub returns-then-is_empty : goal.returns-then-is_empty
+returns-then-is_empty c =
+    let a = c.args in
+    let e = empty_context a.text.now (eqb-true (length a.text.now) 0 (sym c.is_empty.ensures ∙ c.if-is_empty.true)) in
+    λ i h. c.all_places-every.ensures i ∙ le-leb i (length a.s.now) h ∙ sym (left_everywhere a.text.now a.s.now i e)
 
 pub returns-in-Some : goal.returns-in-Some
 returns-in-Some c =
