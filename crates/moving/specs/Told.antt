@@ -32,7 +32,12 @@ onward_of done (Ok (Some (suc n))) = Ok (Some (done + suc n))
 onward_of done (Ok None) = Ok (Some done)
 onward_of done (Err e) = Err e
 
--- "one that can't be read has length 0"
+-- "one that can't be read has length 0": of what was read before a call failed, no byte counts
+abbrev pub length_after : ℕ → Result (Option ℕ) Error → ℕ
+length_after done (Ok (Some n)) = 0
+length_after done (Ok None) = done
+length_after done (Err e) = 0
+
 abbrev pub length_read : Result ℕ Error → ℕ
 length_read (Ok n) = n
 length_read (Err e) = 0

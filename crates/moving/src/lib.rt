@@ -3,7 +3,7 @@
 #![tactic(auto)]
 
 ghost use Rattle.std.specs.Prelude.{◌≡◌, ◌+◌, ◌<◌, ◌≤◌, ◌^◌, length, IfOk};
-ghost use Rattle.moving.specs.Told.{ToldBy, bytes_told, onward_of, length_read, TakenBy, TakenIn, GivenOut, IsPrefixLen};
+ghost use Rattle.moving.specs.Told.{ToldBy, bytes_told, onward_of, length_read, length_after, TakenBy, TakenIn, GivenOut, IsPrefixLen};
 
 use std::io::{Cursor, ErrorKind, Read, Write};
 use std::rt::Files;
@@ -48,6 +48,17 @@ fn after(done: usize, told: io::Result<Option<usize>>) -> io::Result<Option<usiz
     }
 }
 
+// How much of a file was read once nothing more comes of it, or why it can't be read: no part of it counts then.
+fn all_read(done: usize, next: io::Result<Option<usize>>) -> io::Result<usize>
+    ensures { length_read result ≡ length_after done next }
+{
+    match next {
+        Ok(Some(_)) => Ok(0),
+        Ok(None) => Ok(done),
+        Err(failure) => Err(failure),
+    }
+}
+
 // Reads a file into the buffer until it ends or the buffer is full.
 fn read_image<I: Read>(file: &mut I, image: &mut [u8]) -> io::Result<usize>
     ensures { IsPrefixLen (length_read result) image.new }
@@ -58,10 +69,11 @@ fn read_image<I: Read>(file: &mut I, image: &mut [u8]) -> io::Result<usize>
             return Ok(done);
         }
         let told = read_some(file, &mut image[done..]);
-        let Some(next) = after(done, told)? else {
-            return Ok(done);
+        let next = after(done, told);
+        let Ok(Some(more)) = next else {
+            return all_read(done, next);
         };
-        done = next;
+        done = more;
     }
     Ok(0)
 }
