@@ -14,4 +14,4 @@ returns-in-Some c =
     let lexical = (grammar_of a.image.now).lexical in
     let letter = c.from.ensures ∙ lexical_is a.image.now refl c.lexical_side-letter.ensures in
     λ ps l. obeyed_so lexical ps a.pairing.pairs.now a.pairing.letters.now l (divided_rule c.in-Some.parts) c.from.result letter c.obeys_rule.result c.obeys_rule.ensures
-    ∙ ap (λ (x : Line). obeys_line lexical x ps) c.in-Some.ensures
+    ∙ ap (λ (x : Line). obeys_line lexical x ps) c.in-Some.ensures.rule
