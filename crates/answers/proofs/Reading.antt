@@ -177,7 +177,8 @@ module _ (image chunk line₀ out₀ : List ℕ) (at kept₀ end₀ : ℕ) (line
       ∙ ap (λ (x : ℕ). take (i - at) (drop at chunk) ++ (x ∷ [])) (get_or-drop at chunk (i - at) 0 ∙ ap (λ (n : ℕ). get_or chunk n 0) v)
 
   -- a byte more
-  pub progress_more : {line' out' : List ℕ} {to from : Reached} → i < length chunk → from.kept ≡ kept → from.end ≡ end → end + 22032 ≤ length out₀ → length out' ≡ length out → Passed image line line' out out' from (get_or chunk i 0) to
+  pub progress_more : {line' out' : List ℕ} {to from : Reached} → i < length chunk → from.kept ≡ kept → from.end ≡ end → end + 22032 ≤ length out₀ → length out' ≡ length out
+      → Passed image line line' out out' from (get_or chunk i 0) to
       → Progress image chunk line₀ out₀ at kept₀ end₀ line' out' (i + 1) to.kept to.end
   progress_more {line'} {out'} {to} {from} inside e f room same read =
       record {

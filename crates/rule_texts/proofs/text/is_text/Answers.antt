@@ -1,6 +1,6 @@
 -- Each line is asked, as many as there may be; after so many, none may be left.
 use native.Mathlib.Omega.{arith}
-use mathlib.Core.Path.{sym, ◌∙◌}
+use mathlib.Core.Path.{◌≡◌, sym, ◌∙◌}
 use Rattle.rule_texts.proofs.Each.{asked_all, asked_fails, rule_line, wrong_line, right_text, none_there, asked_most}
 use Rattle.rule_texts.proofs.text.is_text.Goals as goal
 
@@ -18,4 +18,7 @@ returns-then-not-is_rule c =
     sym (wrong_line t (asked_fails rule_line t c.loop-lines.rest.now c.loop-lines.invariant.right c.in-Some.line.now c.in-Some.after.now c.in-Some.ensures off))
 
 pub returns : goal.returns
-returns c = c.is_empty.ensures ∙ sym (asked_most c.args.text.now c.loop-lines.rest.now c.loop-lines.invariant.right (omega (arith, c.loop-lines.invariant.counted, c.loop-lines-test.false, c.loop-lines.auto._lines-end)))
+returns c =
+    let l = c.loop-lines in
+    let all : l._lines ≡ 32 = omega (arith, c.loop-lines-test.false, l.auto._lines-end) in
+    c.is_empty.ensures ∙ sym (asked_most c.args.text.now l.rest.now l.invariant.right (omega (arith, all, l.invariant.counted)))
