@@ -161,10 +161,19 @@ pub record Progress (image chunk line₀ out₀ : List ℕ) (at kept₀ end₀ :
   pub text : (l : List ℕ) → Begun line₀ kept₀ l → Put out₀ out end₀ end (text_after image l (take (i - at) (drop at chunk)))
   pub start : i ≡ at → end ≡ end₀
 
-pub progress_none : (image chunk line₀ out₀ : List ℕ) (at kept₀ end₀ : ℕ) → kept₀ ≤ 256 → end₀ ≤ length out₀ → Progress image chunk line₀ out₀ at kept₀ end₀ line₀ out₀ at kept₀ end₀
+pub progress_none : (image chunk line₀ out₀ : List ℕ) (at kept₀ end₀ : ℕ) → kept₀ ≤ 256 → end₀ ≤ length out₀
+    → Progress image chunk line₀ out₀ at kept₀ end₀ line₀ out₀ at kept₀ end₀
 progress_none image chunk line₀ out₀ at kept₀ end₀ k e =
     let z : at - at ≡ 0 = omega arith in
-    record { in_order = omega arith; kept_few = k; out_same = refl; end_in = e; grown = λ l b. rw z (record { begun = b; same = refl }); text = λ l b. rw z (put_none out₀ end₀); start = λ f. refl }
+    record {
+      in_order = omega arith;
+      kept_few = k;
+      out_same = refl;
+      end_in = e;
+      grown = λ l b. rw z (record { begun = b; same = refl });
+      text = λ l b. rw z (put_none out₀ end₀);
+      start = λ f. refl;
+    }
 
 module _ (image chunk line₀ out₀ : List ℕ) (at kept₀ end₀ : ℕ) (line out : List ℕ) (i kept end : ℕ) (done : Progress image chunk line₀ out₀ at kept₀ end₀ line out i kept end) where
   more_bytes : i < length chunk → take (i + 1 - at) (drop at chunk) ≡ take (i - at) (drop at chunk) ++ (get_or chunk i 0 ∷ [])
